@@ -1,0 +1,108 @@
+//! Why bytes are no module's.
+
+ghost use Rattle.std.specs.Prelude.{◌≡◌};
+ghost use Rattle.model.specs.declared.format.ReadError.TheVariants.{Memory};
+
+use std::alloc::{AllocError, AllocFailed};
+use thiserror::Error;
+
+/// A rule of the module format that bytes break.
+#[derive(Clone, Copy, Debug, PartialEq, Eq, Error)]
+pub enum FormatRule {
+    /// The first bytes aren't a module's.
+    #[error("F1")]
+    BadMagic,
+    /// Another version of the format.
+    #[error("F2")]
+    BadVersion,
+    /// A field isn't whole.
+    #[error("F3")]
+    Truncated,
+    /// Bytes after the last field.
+    #[error("F4")]
+    TrailingBytes,
+    /// A count over its limit, or entries out of order or equal.
+    #[error("F5")]
+    BadTable,
+    /// An instruction, primitive or keyword that isn't known, or an instruction that isn't whole.
+    #[error("F6")]
+    UnknownInstruction,
+    /// A growth of memory was refused.
+    #[error("F7")]
+    Memory,
+}
+
+/// A broken rule of the format, and the offset at which it is told.
+#[derive(Clone, Copy, Debug, PartialEq, Eq, Error)]
+#[error("offset {offset} {rule}")]
+pub struct FormatFault {
+    pub offset: usize,
+    pub rule: FormatRule,
+}
+
+/// A broken rule of the format, and how many bytes are left where it is told.
+#[derive(Clone, Copy)]
+pub struct Miss {
+    pub left: usize,
+    pub rule: FormatRule,
+}
+
+/// Why a field was not read.
+#[derive(Drop)]
+pub enum ReadError {
+    Memory,
+    Fault(Miss),
+}
+
+impl From<AllocError> for ReadError {
+    ghost from_gives = { λ _ e. e ≡ Memory };
+
+    fn from(_e: AllocError) -> ReadError {
+        ReadError::Memory
+    }
+}
+
+impl<T: Drop> From<AllocFailed<T>> for ReadError {
+    ghost from_gives = { λ _ e. e ≡ Memory };
+
+    fn from(_e: AllocFailed<T>) -> ReadError {
+        ReadError::Memory
+    }
+}
+
+/// A condition of well-formed modules that an image breaks.
+#[derive(Clone, Copy, Debug, PartialEq, Eq, Error)]
+pub enum ModuleRule {
+    /// An index, name or number that isn't there or isn't allowed.
+    #[error("W1")]
+    BadIndex,
+    /// An offset that no instruction of the needed kind begins at.
+    #[error("W2")]
+    BadTarget,
+    /// An instruction that lacks its operands, or is reached in two ways that differ.
+    #[error("W3")]
+    BadFlow,
+    /// A jump out of its pattern.
+    #[error("W4")]
+    BadJump,
+    /// A last statement that isn't END.
+    #[error("W5")]
+    NoEnd,
+}
+
+/// A broken condition of well-formed modules, and the offset at which it is told.
+#[derive(Clone, Copy, Debug, PartialEq, Eq, Error)]
+#[error("offset {offset} {rule}")]
+pub struct ModuleFault {
+    pub offset: usize,
+    pub rule: ModuleRule,
+}
+
+/// Why a module is refused.
+#[derive(Clone, Copy, Debug, PartialEq, Eq, Error)]
+pub enum LoadFault {
+    #[error("{0}")]
+    Format(FormatFault),
+    #[error("{0}")]
+    Module(ModuleFault),
+}

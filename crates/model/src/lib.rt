@@ -1,0 +1,26 @@
+//! The plain types that every layer speaks of, and the definitions (`specs/`) that contracts cite.
+#![tactic(auto)]
+
+mod cards;
+mod causes;
+mod format;
+mod image;
+mod instr;
+mod keys;
+mod primitives;
+mod run;
+mod seq;
+mod tokens;
+mod trees;
+
+pub use cards::{CardFault, CardRule, Deck, Statement};
+pub use causes::{Cause, DeckFault, StmtFault};
+pub use format::{FormatFault, FormatRule, LoadFault, Miss, ModuleFault, ModuleRule, ReadError};
+pub use image::{Image, Label, PatInstr};
+pub use instr::{ArithOp, Instr, ReturnKind, SignOp};
+pub use keys::KeyId;
+pub use primitives::PrimId;
+pub use run::{Ending, ErrorCode, UnitFault};
+pub use seq::{Bytes, Seq};
+pub use tokens::{Mark, Token, TokenKind};
+pub use trees::{Argument, Binary, Body, Expr, Goto, Place, Program, Stmt, Unary};

@@ -1,0 +1,124 @@
+//! Statements and expressions as trees.
+
+/// A unary operator.
+#[derive(Clone, Copy, Debug, PartialEq, Eq)]
+pub enum Unary {
+    /// `.`, the name of a variable
+    NameOf,
+    /// `$`, the variable that a value names
+    Indirect,
+    /// `*`, the expression itself, unevaluated
+    Unevaluated,
+    /// `@`, the cursor of a match
+    Cursor,
+    /// `+`
+    Plus,
+    /// `-`
+    Minus,
+    /// `?`, null where the operand succeeds
+    Interrogate,
+    /// `~`, null where the operand fails
+    Negate,
+}
+
+/// A binary operator.
+#[derive(Clone, Copy, Debug, PartialEq, Eq)]
+pub enum Binary {
+    /// `.`, an assignment after the match
+    Conditional,
+    /// `$`, an assignment within the match
+    Immediate,
+    /// `**`
+    Power,
+    /// `*`
+    Multiply,
+    /// `/`
+    Divide,
+    /// `+`
+    Add,
+    /// `-`
+    Subtract,
+    /// blanks
+    Concatenate,
+    /// `|`
+    Alternate,
+}
+
+/// An expression. Round brackets leave no trace in it.
+#[cycle(trees)]
+#[derive(Drop)]
+pub enum Expr {
+    Name(Vec<u8>),
+    Integer(i64),
+    /// The bytes between the quotes.
+    Literal(Vec<u8>),
+    /// `&` and the keyword's name.
+    Keyword(Vec<u8>),
+    /// `F(..)`, of a primitive or a function of the program's own.
+    Call(Vec<u8>, Vec<Argument>),
+    /// `A<..>`; no subscript is absent.
+    Reference(Vec<u8>, Vec<Argument>),
+    Unary(Unary, Box<Expr>),
+    Binary(Binary, Box<Expr>, Box<Expr>),
+}
+
+/// An argument, which may be absent.
+#[cycle(trees)]
+#[derive(Drop)]
+pub enum Argument {
+    Absent,
+    Given(Expr),
+}
+
+/// Where a goto leads.
+#[derive(Drop)]
+pub enum Place {
+    /// To a label.
+    Label(Vec<u8>),
+    /// `$` and an element, whose value is the label.
+    Computed(Expr),
+}
+
+/// The goto part of a statement.
+#[derive(Drop)]
+pub enum Goto {
+    Next,
+    Always(Place),
+    OnSuccess(Place),
+    OnFailure(Place),
+    /// The place after success, then that after failure.
+    Both(Place, Place),
+}
+
+/// What a statement does. An absent object is `None`.
+#[derive(Drop)]
+pub enum Body {
+    Nothing,
+    Evaluate(Expr),
+    /// Subject and pattern.
+    Match(Expr, Expr),
+    /// Subject and object.
+    Assign(Expr, Option<Expr>),
+    /// Subject, pattern and object.
+    Replace(Expr, Expr, Option<Expr>),
+}
+
+/// A statement.
+#[derive(Drop)]
+pub enum Stmt {
+    Plain {
+        label: Option<Vec<u8>>,
+        body: Body,
+        goto: Goto,
+    },
+    /// END, with the label where execution begins.
+    End {
+        entry: Option<Vec<u8>>,
+    },
+}
+
+/// A deck's statements in order, END's last.
+#[derive(Drop)]
+pub struct Program {
+    pub statements: Vec<Stmt>,
+}
