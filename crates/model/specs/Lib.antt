@@ -1,3 +1,5 @@
+pub mod Digits
 pub mod Names
+pub mod Tokens
 pub mod Trees
 pub mod TreeViews
