@@ -1,5 +1,10 @@
+pub mod Cards
+pub mod CardRows
+pub mod Cut
+pub mod CutRows
 pub mod Digits
 pub mod Names
+pub mod Pieces
 pub mod Tokens
 pub mod Trees
 pub mod TreeViews
