@@ -9,5 +9,6 @@ pub mod Basic
 pub mod Ends
 pub mod Search
 pub mod Steps
+pub mod PatternCode
 pub mod Stands
 pub mod PatternLaws
