@@ -4,3 +4,12 @@ pub mod Names
 pub mod Tokens
 pub mod Trees
 pub mod TreeViews
+pub mod Target
+pub mod Pattern
+pub mod Basic
+pub mod Ends
+pub mod Search
+pub mod Steps
+pub mod PatternCode
+pub mod Stands
+pub mod PatternLaws

@@ -8,6 +8,7 @@ mod image;
 mod instr;
 mod keys;
 mod laws_names;
+mod laws_patterns;
 mod primitives;
 mod run;
 mod seq;
@@ -21,6 +22,10 @@ pub use image::{Image, Label, PatInstr};
 pub use instr::{ArithOp, Instr, ReturnKind, SignOp};
 pub use keys::KeyId;
 pub use laws_names::{key_names, prim_names};
+pub use laws_patterns::{
+    answers_come_later, answers_stay, code_means_its_pattern, ends_are_permitted,
+    first_end_is_found, steps_stay_within,
+};
 pub use primitives::PrimId;
 pub use run::{Ending, ErrorCode, UnitFault};
 pub use seq::{Bytes, Seq};
