@@ -3,3 +3,8 @@ pub mod Names
 pub mod Tokens
 pub mod Trees
 pub mod TreeViews
+pub mod Codes
+pub mod Spelling
+pub mod Reading
+pub mod OneSpelling
+pub mod SpellingRows

@@ -7,6 +7,7 @@ mod format;
 mod image;
 mod instr;
 mod keys;
+mod laws_bytes;
 mod primitives;
 mod run;
 mod seq;
@@ -19,6 +20,7 @@ pub use format::{FormatFault, FormatRule, LoadFault, Miss, ModuleFault, ModuleRu
 pub use image::{Image, Label, PatInstr};
 pub use instr::{ArithOp, Instr, ReturnKind, SignOp};
 pub use keys::KeyId;
+pub use laws_bytes::{read_is_spelt, spelling_rows, spelt_is_read};
 pub use primitives::PrimId;
 pub use run::{Ending, ErrorCode, UnitFault};
 pub use seq::{Bytes, Seq};
