@@ -13,3 +13,8 @@ pub mod Steps
 pub mod PatternCode
 pub mod Stands
 pub mod PatternLaws
+pub mod Codes
+pub mod Spelling
+pub mod Reading
+pub mod OneSpelling
+pub mod SpellingRows

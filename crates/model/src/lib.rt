@@ -9,6 +9,7 @@ mod instr;
 mod keys;
 mod laws_names;
 mod laws_patterns;
+mod laws_bytes;
 mod primitives;
 mod run;
 mod seq;
@@ -26,6 +27,7 @@ pub use laws_patterns::{
     answers_come_later, answers_stay, code_means_its_pattern, ends_are_permitted,
     first_end_is_found, steps_stay_within,
 };
+pub use laws_bytes::{read_is_spelt, spelling_rows, spelt_is_read};
 pub use primitives::PrimId;
 pub use run::{Ending, ErrorCode, UnitFault};
 pub use seq::{Bytes, Seq};
