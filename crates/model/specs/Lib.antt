@@ -1,4 +1,5 @@
 pub mod Digits
+pub mod Io
 pub mod Names
 pub mod Tokens
 pub mod Trees
