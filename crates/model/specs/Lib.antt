@@ -5,3 +5,11 @@ pub mod Strings
 pub mod Tokens
 pub mod Trees
 pub mod TreeViews
+pub mod Target
+pub mod Pattern
+pub mod Basic
+pub mod Ends
+pub mod Search
+pub mod Steps
+pub mod Stands
+pub mod PatternLaws
