@@ -13,3 +13,4 @@ pub mod Search
 pub mod Steps
 pub mod Stands
 pub mod PatternLaws
+pub mod Keywords
