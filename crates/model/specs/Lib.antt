@@ -1,6 +1,8 @@
 pub mod Digits
 pub mod NameLaws
+pub mod Io
 pub mod Names
+pub mod Strings
 pub mod Tokens
 pub mod Trees
 pub mod TreeViews
@@ -18,3 +20,4 @@ pub mod Spelling
 pub mod Reading
 pub mod OneSpelling
 pub mod SpellingRows
+pub mod Keywords
