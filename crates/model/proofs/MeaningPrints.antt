@@ -19,7 +19,7 @@ use Rattle.model.specs.Calls.{Kept, return_of, kept_of, enter_call}
 use Rattle.model.specs.Primitives.{Outcome, Returns, Calls}
 use Rattle.model.specs.Pattern.{Answer, IsSaid, IsFailed, Running, Failed, Asks, Matched, AskFor, SayThat}
 use Rattle.model.specs.Search.{Script, scan}
-use Rattle.model.specs.Meaning.{Val, W, Query, QVal, QName, QArgs, QBody, QExec, QCall, QMatch, Rule, Ret, Fail, Stop, Ask, Seek, Event, doing, told_at, again, answering, match_rule, two_values, value_and_name, key_rule, finish_value, finish_name, function_op, object_rule, set_key_rule, key_target, assign_rule, onward_of, other_of, over_limit, to_known, to_return, to_text_label, go_on, exec_rule, entered, call_rule, rule}
+use Rattle.model.specs.Meaning.{Val, W, Given', Query, QVal, QName, QArgs, QBody, QExec, QMatch, Rule, Ret, Fail, Stop, Ask, Seek, Event, doing, told_at, again, answering, match_rule, two_values, value_and_name, key_rule, function_op, object_rule, set_key_rule, key_target, assign_rule, onward_of, other_of, over_limit, to_known, to_return, to_text_label, go_on, exec_rule, entered, call_rule, finish, function_rule, rule}
 use Rattle.model.proofs.PatternLaws.{scan_stays}
 use Rattle.model.proofs.MeaningGrows.{Before, before_refl, before_trans, Goes_on}
 use Rattle.model.proofs.OperationsPrint.{OpOn, gon, ron, fon, same_printed, op_later, arith_on, sign_on, cat_on, alt_on, cond_on, imm_on, indir_on, fetch_on, assign_on, assign_all_on, splice_on, keyset_on, match_on, element_on, prim_on, enter_on, leave_on, as_value_on, as_name_on, construct_on, select_on}
@@ -62,14 +62,6 @@ with_name_on x y w op h = (first w, (λ a v i. (first v, (λ n z j. last (h a n 
 key_on : (o : Option KeyId) (w : W) → Goes_on w (key_rule o w)
 key_on None w = first w
 key_on (Some k) w = first w
-
-finish_value_on : (r : Outcome Pattern Expr) (w : W) → Goes_on w (finish_value r w)
-finish_value_on (Returns g) w = last (as_value_on g w)
-finish_value_on (Calls f vs) w = (first w, (λ g v i. last (as_value_on g v)), (λ v i. first v))
-
-finish_name_on : (r : Outcome Pattern Expr) (w : W) → Goes_on w (finish_name r w)
-finish_name_on (Returns g) w = last (as_name_on g w)
-finish_name_on (Calls f vs) w = (first w, (λ g v i. last (as_name_on g v)), (λ v i. first v))
 
 function_on : (o : Option PrimId) (f : Bytes) (vs : List Val) (w : W) → OpOn w (function_op o f vs w)
 function_on None f vs w = gon (first w)
@@ -145,16 +137,23 @@ module _ (prog : Program) where
       go true = first w
       go false = (same_printed w _ refl, (λ _ x h. go_on_on k (onward_of g) x), (λ x h. goes_trans x (count_failure x) (go_on prog k (other_of g) (count_failure x)) (same_printed x _ refl) (go_on_on k (other_of g) (count_failure x))))
 
-  entered_on : (c : Kept Pattern Expr) (r : Option ReturnKind) (o : Option ℕ) (w : W) → Goes_on w (entered prog c r o w)
-  entered_on c (Some r) o w = last (leave_on r c w)
-  entered_on c None None w = first w
-  entered_on c None (Some n) w = (first w, (λ r x i. last (leave_on r c x)), (λ x i. first x))
+  entered_on : {A : Type 0} (c : Kept Pattern Expr) (r : Option ReturnKind) (o : Option ℕ) (w : W) (k : Given' → W → Rule A) → ((g : Given') (x : W) → Goes_on x (k g x)) → Goes_on w (entered prog c r o w k)
+  entered_on c (Some r) o w k h = then_from k (leave_on r c w) h
+  entered_on c None None w k h = first w
+  entered_on c None (Some n) w k h = (first w, (λ r x i. then_from k (leave_on r c x) h), (λ x i. first x))
 
-  call_on : (f : Bytes) (vs : List Val) (o : Option Function) (w : W) → Goes_on w (call_rule prog f vs o w)
-  call_on f vs None w = first w
-  call_on f vs (Some (Defined entry xs ys)) w = goes_trans w (enter_call f xs ys vs w) _ (enter_on f xs ys vs w) (entered_on (kept_of f xs ys w) (return_of entry) (prog.label entry) (enter_call f xs ys vs w))
-  call_on f vs (Some (Constructor fields)) w = last (construct_on f fields vs w)
-  call_on f vs (Some Field) w = last (select_on f vs w)
+  call_on : {A : Type 0} (f : Bytes) (vs : List Val) (o : Option Function) (w : W) (k : Given' → W → Rule A) → ((g : Given') (x : W) → Goes_on x (k g x)) → Goes_on w (call_rule prog f vs o w k)
+  call_on f vs None w k h = first w
+  call_on f vs (Some (Defined entry xs ys)) w k h = goes_trans w (enter_call f xs ys vs w) _ (enter_on f xs ys vs w) (entered_on (kept_of f xs ys w) (return_of entry) (prog.label entry) (enter_call f xs ys vs w) k h)
+  call_on f vs (Some (Constructor fields)) w k h = then_from k (construct_on f fields vs w) h
+  call_on f vs (Some Field) w k h = then_from k (select_on f vs w) h
+
+  finish_on : {A : Type 0} (r : Outcome Pattern Expr) (w : W) (k : Given' → W → Rule A) → ((g : Given') (x : W) → Goes_on x (k g x)) → Goes_on w (finish prog r w k)
+  finish_on (Returns g) w k h = h g w
+  finish_on (Calls f vs) w k h = call_on f vs (w.plain.functions f) w k h
+
+  function_rule_on : {A : Type 0} (f : Bytes) (args : Args) (w : W) (k : Given' → W → Rule A) → ((g : Given') (x : W) → Goes_on x (k g x)) → Goes_on w (function_rule prog f args w k)
+  function_rule_on f args w k h = (first w, (λ vs x i. then_from _ (function_on (prim_named f) f vs x) (λ r z. finish_on r z k h)), (λ x i. first x))
 
   -- ---- all rules
 
@@ -163,7 +162,7 @@ module _ (prog : Program) where
   on (QVal (Integer z)) w = first w
   on (QVal (Literal s)) w = first w
   on (QVal (Keyword s)) w = key_on (key_named s) w
-  on (QVal (Call f args)) w = (first w, (λ vs x i. then_from finish_value (function_on (prim_named f) f vs x) (λ r z. finish_value_on r z)), (λ x i. first x))
+  on (QVal (Call f args)) w = function_rule_on f args w _ (λ g x. last (as_value_on g x))
   on (QVal (Reference s args)) w =
       then_from _ (fetch_on (target.Variable s) w) (λ a x. (first x, (λ vs y i. then_from _ (element_on a vs y) (λ n z. last (fetch_on n z))), (λ y i. first y)))
   on (QVal (Apply u.NameOf e)) w = (first w, (λ n x i. first x), (λ x i. first x))
@@ -186,7 +185,7 @@ module _ (prog : Program) where
   on (QName (Name x)) w = first w
   on (QName (Apply u.Indirect e)) w = (first w, (λ v x i. last (indir_on v x)), (λ x i. first x))
   on (QName (Reference s args)) w = then_from _ (fetch_on (target.Variable s) w) (λ a x. (first x, (λ vs y i. last (element_on a vs y)), (λ y i. first y)))
-  on (QName (Call f args)) w = (first w, (λ vs x i. then_from finish_name (function_on (prim_named f) f vs x) (λ r z. finish_name_on r z)), (λ x i. first x))
+  on (QName (Call f args)) w = function_rule_on f args w _ (λ g x. last (as_name_on g x))
   on (QName _) w = first w
   on (QArgs Nil) w = first w
   on (QArgs (More Absent args)) w = (first w, (λ vs x i. first x), (λ x i. first x))
@@ -199,5 +198,4 @@ module _ (prog : Program) where
   on (QBody (Replace s p o)) w =
       (first w, (λ n x h. then_from _ (fetch_on n x) (λ c x1. (first x1, (λ d v i. then_goes _ (match_on trees c d v) (λ g z j. (j, (λ r q k. object_on o q _ (λ t y. last (splice_on n g.subject r.start r.end t y))), (λ q k. first q)))), (λ v i. first v)))), (λ x h. first x))
   on (QExec k) w = exec_on k (prog.at k) w
-  on (QCall f vs) w = call_on f vs (w.plain.functions f) w
   on (QMatch s p left t) w = (first w, match_stays s p left t, (λ e. match_rule_on s p left t w e))
