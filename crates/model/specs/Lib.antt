@@ -28,3 +28,4 @@ pub mod Modules
 pub mod Placed
 pub mod Alike
 pub mod Agreement
+pub mod MatchLaws
