@@ -1,5 +1,5 @@
 -- A module does what its program does, wherever the code of each statement stands.
-use Rattle.std.proofs.Common.{◌≡◌, ℕ, zero, suc, pred, ◌+◌, ◌-◌, ◌≤◌, List, [], ◌∷◌, Option, Some, None, Bool, true, false, bytes_eq, if◌then◌else◌, codes, ◌⊎◌, inl, inr, refl, sym, ap, ◌∙◌, subst, arith, append-nil, le_refl}
+use Rattle.std.proofs.Common.{◌≡◌, ℕ, zero, suc, pred, ◌+◌, ◌-◌, ◌≤◌, List, [], ◌∷◌, ◌++◌, Option, Some, None, Bool, true, false, bytes_eq, if◌then◌else◌, codes, ◌⊎◌, inl, inr, refl, sym, ap, ◌∙◌, subst, arith, append-nil, le_refl}
 use Rattle.model.specs.declared.run.ErrorCode.TheVariants as error
 use Rattle.model.specs.declared.run.Ending.{Ending}
 use Rattle.model.specs.declared.run.Ending.TheVariants as ending
@@ -133,3 +133,111 @@ module _ (prog : Program) (img : Module) (trees_at : ℕ → Option Expr) (place
       let e : k + (j - k) ≡ j = omega arith in
       never (subst (λ s. Still prog img trees_at s v) (ap (λ n. machine_at img n m) (sym e) ∙ on_from k (j - k) ∙ ap (steps img (j - k)) h ∙ st) x)
 
+  -- ---- what is seen of both
+
+  not_ended : {A : Type 0} {e : Ending} → None ≡ Some e → A
+  not_ended h = absurd (subst IsNone h tt)
+    where
+      IsNone : Option Ending → Type 0
+      IsNone None = Unit {0}
+      IsNone (Some e) = ⊥
+
+  seen_printed : (s : State) → (seen_at s).printed ≡ printed_of (world_of s)
+  seen_printed (Run p o h f m) = refl
+  seen_printed (InMatch g st f m) = refl
+  seen_printed (Over e m) = refl
+  seen_printed (Stuck m) = refl
+
+  before_is : {u v : MW} → Before u v → IsBeginning (printed_of u) (printed_of v)
+  before_is b = (b.new, b.is)
+
+  begins : (a b c d : Records) → a ≡ b → IsBeginning b c → c ≡ d → IsBeginning a d
+  begins a b c d h i e = (i.0, sym e ∙ i.1 ∙ ap (λ l. l ++ i.0) (sym h))
+
+  same_is : (a b : Records) → b ≡ a → IsBeginning a b
+  same_is a b e = ([], e ∙ sym (append-nil a))
+
+  -- one ending on both sides
+  both : (n j : ℕ) (f : Ending) (v : W) (m2 : MW) → run prog n w ≡ Ends f v → machine_at img j m ≡ Over f m2 → printed_of m2 ≡ printed_of v → seen_at (machine_at img j m) ≡ seen_of (run prog n w)
+  both n j f v m2 me ov pr = ap seen_at ov ∙ ap (λ l. record { ending = Some f; printed = l }) pr ∙ sym (ap seen_of me)
+
+  ends : (n : ℕ) (e : Ending) → (seen_of (run prog n w)).ending ≡ Some e → (k : ℕ) × (seen_at (machine_at img k m) ≡ seen_of (run prog n w))
+  ends n e h = go (known_fits prog img trees_at placed w m wr n)
+    where
+      go : Known prog img trees_at placed w m wr 0 n → (k : ℕ) × (seen_at (machine_at img k m) ≡ seen_of (run prog n w))
+      go (both_end f v j m2 me ov pr) = (j, both n j f v m2 me ov pr)
+      go (both_go v j le me st) = not_ended (sym (ap (λ r. (seen_of r).ending) me) ∙ h)
+
+  ends_only : (k : ℕ) (e : Ending) → (seen_at (machine_at img k m)).ending ≡ Some e → (n : ℕ) × (seen_of (run prog n w) ≡ seen_at (machine_at img k m))
+  ends_only k e h = state (machine_at img k m) refl
+    where
+      known_end : (e' : Ending) (m' : MW) → machine_at img k m ≡ Over e' m' → (n : ℕ) × Known prog img trees_at placed w m wr k n → (n : ℕ) × (seen_of (run prog n w) ≡ seen_at (machine_at img k m))
+      known_end e' m' at (n, both_end f v j m2 me ov pr) = (n, sym (both n j f v m2 me ov pr) ∙ ap seen_at (ov ∙ sym (two_overs k j e' f m' m2 at ov) ∙ sym at))
+      known_end e' m' at (n, both_go v j le me st) = absurd (not_still k j (Over e' m') v le at (over_stays img (j - k) e' m') (λ x. x) st)
+
+      state : (s : State) → machine_at img k m ≡ s → (n : ℕ) × (seen_of (run prog n w) ≡ seen_at (machine_at img k m))
+      state (Run p o i f x) q = not_ended (ap (λ s. (seen_at s).ending) (sym q) ∙ h)
+      state (InMatch g st f x) q = not_ended (ap (λ s. (seen_at s).ending) (sym q) ∙ h)
+      state (Over e' m') q = known_end e' m' q (known prog img trees_at placed w m wr k)
+      state (Stuck x) q = not_ended (ap (λ s. (seen_at s).ending) (sym q) ∙ h)
+
+  prints : (n : ℕ) → (k : ℕ) × IsBeginning (seen_of (run prog n w)).printed (seen_at (machine_at img k m)).printed
+  prints n = go (known_fits prog img trees_at placed w m wr n)
+    where
+      go : Known prog img trees_at placed w m wr 0 n → (k : ℕ) × IsBeginning (seen_of (run prog n w)).printed (seen_at (machine_at img k m)).printed
+      go (both_end f v j m2 me ov pr) = (j, same_is _ _ (ap (λ s. s.printed) (both n j f v m2 me ov pr)))
+      go (both_go v j le me st) = (j, same_is _ _ (seen_printed (machine_at img j m) ∙ still_prints (machine_at img j m) v st ∙ sym (ap (λ r. (seen_of r).printed) me)))
+
+  prints_only : (k : ℕ) → (n : ℕ) × IsBeginning (seen_at (machine_at img k m)).printed (seen_of (run prog n w)).printed
+  prints_only k = go (known prog img trees_at placed w m wr k)
+    where
+      go : (n : ℕ) × Known prog img trees_at placed w m wr k n → (n : ℕ) × IsBeginning (seen_at (machine_at img k m)).printed (seen_of (run prog n w)).printed
+      go (n, both_end f v j m2 me ov pr) =
+          let swap : j + k ≡ k + j = omega arith in (
+            n,
+            begins _ _ _ _ (seen_printed (machine_at img k m)) (before_is (steps_on img j (machine_at img k m)))
+                (ap (λ s. printed_of (world_of s)) (sym (on_from k j) ∙ ap (λ n. machine_at img n m) (sym swap) ∙ over_on j k f m2 ov) ∙ pr ∙ sym (ap (λ r. (seen_of r).printed) me)),
+          )
+      go (n, both_go v j le me st) =
+          let e : k + (j - k) ≡ j = omega arith in (
+            n,
+            begins _ _ _ _ (seen_printed (machine_at img k m)) (before_is (steps_on img (j - k) (machine_at img k m)))
+                (ap (λ s. printed_of (world_of s)) (sym (on_from k (j - k)) ∙ ap (λ n. machine_at img n m) e) ∙ still_prints (machine_at img j m) v st ∙ sym (ap (λ r. (seen_of r).printed) me)),
+          )
+
+  -- no step lacks what it needs
+  pub never_stuck : (k : ℕ) (m' : MW) → machine_at img k m ≡ Stuck m' → ⊥
+  never_stuck k m' h = go (known prog img trees_at placed w m wr k)
+    where
+      go : (n : ℕ) × Known prog img trees_at placed w m wr k n → ⊥
+      go (n, both_end f v j m2 me ov pr) =
+          let swap : j + k ≡ k + j = omega arith in
+          subst is_over (sym (over_on j k f m2 ov) ∙ ap (λ n. machine_at img n m) swap ∙ stuck_on k j m' h) tt
+      go (n, both_go v j le me st) = not_still k j (Stuck m') v le h (stuck_stays img (j - k) m') (λ x. x) st
+
+-- ---- the first worlds
+
+if_vr : (at : ℕ → Option Expr) (b : Bool) {v u : Value p.Pat Expr} {m n : Value (List p.Instr) ℕ} → VR at v m → VR at u n → VR at (if b then v else u) (if b then m else n)
+if_vr at true h k = h
+if_vr at false h k = k
+
+first_value_same : (at : ℕ → Option Expr) (x : Bytes) → VR at (first_value trees x) (first_value codes_of x)
+first_value_same at x =
+    if_vr at (bytes_eq x (codes "ARB")) (rpat refl)
+    (if_vr at (bytes_eq x (codes "BAL")) (rpat refl)
+    (if_vr at (bytes_eq x (codes "REM")) (rpat refl)
+    (if_vr at (bytes_eq x (codes "FAIL")) (rpat refl)
+    (if_vr at (bytes_eq x (codes "SUCCEED")) (rpat refl)
+    (if_vr at (bytes_eq x (codes "ABORT")) (rpat refl)
+    (if_vr at (bytes_eq x (codes "FENCE")) (rpat refl) (rstr [])))))))
+
+pub first_same : (at : ℕ → Option Expr) (inputs : Inputs) → WR at (first_w inputs) (first_m inputs)
+first_same at inputs = record { vars = first_value_same at; objects = onil; plain = refl; io = refl }
+
+pub agrees_where_placed : AgreesWherePlaced
+agrees_where_placed deck image at placed = record {
+  ends = λ inputs n e h. ends (program deck) (module_of image) at placed (first_w inputs) (first_m inputs) (first_same at inputs) n e h;
+  ends_only = λ inputs k e h. ends_only (program deck) (module_of image) at placed (first_w inputs) (first_m inputs) (first_same at inputs) k e h;
+  prints = λ inputs n. prints (program deck) (module_of image) at placed (first_w inputs) (first_m inputs) (first_same at inputs) n;
+  prints_only = λ inputs k. prints_only (program deck) (module_of image) at placed (first_w inputs) (first_m inputs) (first_same at inputs) k;
+}
