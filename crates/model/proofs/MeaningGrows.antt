@@ -84,7 +84,7 @@ sought_grows : {A : Type 0} (v : W) (o o' : Option Event) (k l : Event → Res A
 sought_grows v None o' k l st hk hl = open_to (sought_later v o' l hl)
 sought_grows v (Some e) o' k l st hk hl = subst (λ o. Grows (k e) (sought o v l)) (sym (st e refl)) (hk e)
 
-follow_grows : {A : Type 0} (i : ℕ) (m n : Meaning) → ((q : Query) (w : W) → Grows (m q w) (n q w)) → ((q : Query) (w : W) → Later w (n q w)) → (v : W) (p : Rule A) → Goes_on v p → Grows (follow i m p) (follow (suc i) n p)
+pub follow_grows : {A : Type 0} (i : ℕ) (m n : Meaning) → ((q : Query) (w : W) → Grows (m q w) (n q w)) → ((q : Query) (w : W) → Later w (n q w)) → (v : W) (p : Rule A) → Goes_on v p → Grows (follow i m p) (follow (suc i) n p)
 follow_grows i m n h l v (Ret a w) g = same
 follow_grows i m n h l v (Fail w) g = same
 follow_grows i m n h l v (Stop e w) g = same
@@ -99,10 +99,10 @@ follow_grows i m n h l v (Seek s w k) g =
 abbrev pub at_depth : {A : Type 0} → Program → ℕ → Rule A → Res A
 at_depth prog n p = follow (suc n) (λ r u. meaning prog n r u) p
 
-zero_and : (n : ℕ) → zero + n ≡ n
+pub zero_and : (n : ℕ) → zero + n ≡ n
 zero_and n = omega arith
 
-suc_and : (d n : ℕ) → suc d + n ≡ suc (d + n)
+pub suc_and : (d n : ℕ) → suc d + n ≡ suc (d + n)
 suc_and d n = omega arith
 
 module _ (prog : Program) (on : (q : Query) (w : W) → Goes_on w (rule prog q w)) where

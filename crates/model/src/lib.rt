@@ -21,7 +21,7 @@ pub use format::{FormatFault, FormatRule, LoadFault, Miss, ModuleFault, ModuleRu
 pub use image::{Image, Label, PatInstr};
 pub use instr::{ArithOp, Instr, ReturnKind, SignOp};
 pub use keys::KeyId;
-pub use laws_agreement::{agreement, matches_step};
+pub use laws_agreement::{agreement, matches_step, meaning_stays};
 pub use laws_patterns::{
     answers_come_later, answers_stay, code_means_its_pattern, ends_are_permitted,
     first_end_is_found, steps_stay_within,
