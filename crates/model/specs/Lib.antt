@@ -1,7 +1,12 @@
+pub mod Cards
+pub mod CardRows
+pub mod Cut
+pub mod CutRows
 pub mod Digits
 pub mod NameLaws
 pub mod Io
 pub mod Names
+pub mod Pieces
 pub mod Strings
 pub mod Tokens
 pub mod Trees
