@@ -1,5 +1,10 @@
 pub mod Digits
+pub mod Grammar
 pub mod Names
+pub mod Parse
+pub mod ParseStatements
+pub mod Statements
 pub mod Tokens
 pub mod Trees
+pub mod TreeLaws
 pub mod TreeViews
