@@ -1,9 +1,14 @@
+pub mod Cards
+pub mod CardRows
+pub mod Cut
+pub mod CutRows
 pub mod Digits
 pub mod Grammar
 pub mod Names
 pub mod Parse
 pub mod ParseStatements
 pub mod Statements
+pub mod Pieces
 pub mod Tokens
 pub mod Trees
 pub mod TreeLaws

@@ -8,6 +8,8 @@ mod image;
 mod instr;
 mod keys;
 mod laws_trees;
+mod laws_cards;
+mod laws_tokens;
 mod primitives;
 mod run;
 mod seq;
@@ -20,6 +22,8 @@ pub use format::{FormatFault, FormatRule, LoadFault, Miss, ModuleFault, ModuleRu
 pub use image::{Image, Label, PatInstr};
 pub use instr::{ArithOp, Instr, ReturnKind, SignOp};
 pub use keys::KeyId;
+pub use laws_cards::worked_decks;
+pub use laws_tokens::{each_text_has_one_cut, worked_texts};
 pub use primitives::PrimId;
 pub use run::{Ending, ErrorCode, UnitFault};
 pub use seq::{Bytes, Seq};
