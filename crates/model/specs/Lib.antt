@@ -5,11 +5,16 @@ pub mod CutRows
 pub mod Digits
 pub mod NameLaws
 pub mod Io
+pub mod Grammar
 pub mod Names
+pub mod Parse
+pub mod ParseStatements
+pub mod Statements
 pub mod Pieces
 pub mod Strings
 pub mod Tokens
 pub mod Trees
+pub mod TreeLaws
 pub mod TreeViews
 pub mod Target
 pub mod Pattern

@@ -7,6 +7,7 @@ mod format;
 mod image;
 mod instr;
 mod keys;
+mod laws_trees;
 mod laws_cards;
 mod laws_tokens;
 mod laws_bytes;
