@@ -12,3 +12,4 @@ pub mod Steps
 pub mod PatternCode
 pub mod Stands
 pub mod PatternLaws
+pub mod PatternCases
