@@ -1,5 +1,8 @@
 pub mod Digits
+pub mod NameLaws
+pub mod Io
 pub mod Names
+pub mod Strings
 pub mod Tokens
 pub mod Trees
 pub mod TreeViews
@@ -13,3 +16,9 @@ pub mod PatternCode
 pub mod Stands
 pub mod PatternLaws
 pub mod PatternCases
+pub mod Codes
+pub mod Spelling
+pub mod Reading
+pub mod OneSpelling
+pub mod SpellingRows
+pub mod Keywords

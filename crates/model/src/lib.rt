@@ -7,6 +7,8 @@ mod format;
 mod image;
 mod instr;
 mod keys;
+mod laws_bytes;
+mod laws_names;
 mod laws_patterns;
 mod primitives;
 mod run;
@@ -20,6 +22,8 @@ pub use format::{FormatFault, FormatRule, LoadFault, Miss, ModuleFault, ModuleRu
 pub use image::{Image, Label, PatInstr};
 pub use instr::{ArithOp, Instr, ReturnKind, SignOp};
 pub use keys::KeyId;
+pub use laws_bytes::{read_is_spelt, spelling_rows, spelt_is_read};
+pub use laws_names::{key_names, prim_names};
 pub use laws_patterns::{
     answers_come_later, answers_stay, code_means_its_pattern, ends_are_permitted,
     first_end_is_found, steps_stay_within,
