@@ -25,6 +25,7 @@ pub mod Steps
 pub mod PatternCode
 pub mod Stands
 pub mod PatternLaws
+pub mod PatternCases
 pub mod Codes
 pub mod Spelling
 pub mod Reading
