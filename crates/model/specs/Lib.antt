@@ -1,5 +1,6 @@
 pub mod Digits
 pub mod Io
+pub mod Units
 pub mod Names
 pub mod Strings
 pub mod Tokens
