@@ -6,6 +6,7 @@ pub mod Digits
 pub mod NameLaws
 pub mod Io
 pub mod Grammar
+pub mod Units
 pub mod Names
 pub mod Parse
 pub mod ParseStatements
