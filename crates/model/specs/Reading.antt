@@ -251,6 +251,12 @@ image_of bytes = do
 
 -- ---- what a reader in the code answers
 
+-- one that takes no memory
+abbrev pub Reads : {X Y : Type 0} → (X → Y) → Result X Miss → Result Y Miss → Type 0
+Reads view (Ok x) read = read ≡ Ok (view x)
+Reads view (Err miss) read = read ≡ Err miss
+
+-- one that takes memory, of which nothing is said where it was refused
 abbrev pub Fails : {Y : Type 0} → ReadError → Result Y Miss → Type 0
 Fails errors.Memory read = Unit {0}
 Fails (errors.Fault f) read = read ≡ Err f

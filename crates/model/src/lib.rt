@@ -7,6 +7,9 @@ mod format;
 mod image;
 mod instr;
 mod keys;
+mod laws_trees;
+mod laws_cards;
+mod laws_tokens;
 mod laws_bytes;
 mod laws_names;
 mod laws_patterns;
@@ -22,6 +25,8 @@ pub use format::{FormatFault, FormatRule, LoadFault, Miss, ModuleFault, ModuleRu
 pub use image::{Image, Label, PatInstr};
 pub use instr::{ArithOp, Instr, ReturnKind, SignOp};
 pub use keys::KeyId;
+pub use laws_cards::worked_decks;
+pub use laws_tokens::{each_text_has_one_cut, worked_texts};
 pub use laws_bytes::{read_is_spelt, spelling_rows, spelt_is_read};
 pub use laws_names::{key_names, prim_names};
 pub use laws_patterns::{
