@@ -34,7 +34,7 @@ pub use laws_patterns::{
     first_end_is_found, steps_stay_within,
 };
 pub use primitives::PrimId;
-pub use run::{Ending, ErrorCode, UnitFault};
+pub use run::{Ending, ErrorCode, Status, Stop, UnitFault};
 pub use seq::{Bytes, Seq};
 pub use tokens::{Mark, Token, TokenKind};
 pub use trees::{Argument, Binary, Body, Expr, Goto, Place, Program, Stmt, Unary};
