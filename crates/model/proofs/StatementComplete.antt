@@ -77,7 +77,7 @@ module _ (d : ℕ) where
   place_full (computed e ts s) fits h rest =
       let stops = close_stops h rest in
       bind_is (element d (ts ++ (gap h ++ Sign mark.Close ∷ rest))) (λ x end. Some (Computed x, end)) (e, gap h ++ Sign mark.Close ∷ rest)
-        (element_full d e ts (omega arith) s (gap h ++ Sign mark.Close ∷ rest) stops.0 stops.1)
+      (element_full d e ts (omega arith) s (gap h ++ Sign mark.Close ∷ rest) stops.0 stops.1)
 
   place_skip : {p : Place} {ts : List Tok} → IsPlace p ts → (g : Bool) (rest : List Tok) → skip (gap g ++ (ts ++ rest)) ≡ ts ++ rest
   place_skip (label l) g rest = skip_head g (Word l) rest refl
@@ -93,8 +93,8 @@ module _ (d : ℕ) where
       let regroup : (gap g ++ (ts ++ (gap h ++ Sign mark.Close ∷ []))) ++ rest ≡ gap g ++ (ts ++ (gap h ++ Sign mark.Close ∷ rest)) = simp append_assoc in
       let short : length ts ≤ d = omega (arith, length-append (gap g) (ts ++ (gap h ++ Sign mark.Close ∷ [])), length-append ts (gap h ++ Sign mark.Close ∷ [])) in
       rw (regroup, place_skip s g (gap h ++ Sign mark.Close ∷ rest))
-        (bind_is (spec.place d (ts ++ (gap h ++ Sign mark.Close ∷ rest))) (λ x end. expect mark.Close x (skip end)) (p, gap h ++ Sign mark.Close ∷ rest) (place_full s short h rest)
-        ∙ rw (skip_mark h mark.Close rest) (expect_close p rest))
+      (bind_is (spec.place d (ts ++ (gap h ++ Sign mark.Close ∷ rest))) (λ x end. expect mark.Close x (skip end)) (p, gap h ++ Sign mark.Close ∷ rest) (place_full s short h rest)
+      ∙ rw (skip_mark h mark.Close rest) (expect_close p rest))
 
   -- no word comes next
   gap_no_word : (w : Bytes) (h : Bool) → sees_word w (skip (gap h)) ≡ false
@@ -112,7 +112,7 @@ module _ (d : ℕ) where
   a_second word both one {q} {us} s fits g rest same =
       let regroup : (gap g ++ Word word ∷ us) ++ rest ≡ gap g ++ (Word word ∷ (us ++ rest)) = append_assoc (gap g) (Word word ∷ us) rest in
       rw (regroup, skip_head g (Word word) (us ++ rest) refl, same)
-        (bind_is (spec.in_brackets d (us ++ rest)) (λ x end. Some (both x, end)) (q, rest) (in_brackets_full s fits rest))
+      (bind_is (spec.in_brackets d (us ++ rest)) (λ x end. Some (both x, end)) (q, rest) (in_brackets_full s fits rest))
 
   in_brackets_no_word : (w : Bytes) {p : Place} {ts : List Tok} → InBrackets p ts → (rest : List Tok) → sees_word w (ts ++ rest) ≡ false
   unfolding sees_word
@@ -122,7 +122,7 @@ module _ (d : ℕ) where
   unfolding spec.exits sees_word
   exits_full (always p ts s) fits h =
       rw (in_brackets_no_word on_success s (gap h), in_brackets_no_word on_failure s (gap h))
-        (bind_is (spec.in_brackets d (ts ++ gap h)) (λ x rest. Some (Always x, rest)) (p, gap h) (in_brackets_full s fits (gap h)))
+      (bind_is (spec.in_brackets d (ts ++ gap h)) (λ x rest. Some (Always x, rest)) (p, gap h) (in_brackets_full s fits (gap h)))
   exits_full (success p ts s) fits h =
       bind_is (spec.in_brackets d (ts ++ gap h)) (λ x rest. spec.second d on_failure (λ q. Both x q) (OnSuccess x) rest) (p, gap h) (in_brackets_full s (omega arith) (gap h))
       ∙ no_second on_failure (λ q. Both p q) (OnSuccess p) h
@@ -133,14 +133,14 @@ module _ (d : ℕ) where
       let other : List Tok = gap g ++ Word on_failure ∷ us in
       let regroup : (ts ++ other) ++ gap h ≡ ts ++ (other ++ gap h) = append_assoc ts other (gap h) in
       rw regroup (bind_is (spec.in_brackets d (ts ++ (other ++ gap h))) (λ x rest. spec.second d on_failure (λ y. Both x y) (OnSuccess x) rest) (p, other ++ gap h)
-          (in_brackets_full s (omega (arith, length-append ts other)) (other ++ gap h))
-        ∙ a_second on_failure (λ y. Both p y) (OnSuccess p) t (omega (arith, length-append ts other, length-append (gap g) (Word on_failure ∷ us))) g (gap h) refl)
+      (in_brackets_full s (omega (arith, length-append ts other)) (other ++ gap h))
+      ∙ a_second on_failure (λ y. Both p y) (OnSuccess p) t (omega (arith, length-append ts other, length-append (gap g) (Word on_failure ∷ us))) g (gap h) refl)
   exits_full (failure_first p q ts us g s t) fits h =
       let other : List Tok = gap g ++ Word on_success ∷ ts in
       let regroup : (us ++ other) ++ gap h ≡ us ++ (other ++ gap h) = append_assoc us other (gap h) in
       rw regroup (bind_is (spec.in_brackets d (us ++ (other ++ gap h))) (λ x rest. spec.second d on_success (λ y. Both y x) (OnFailure x) rest) (q, other ++ gap h)
-          (in_brackets_full t (omega (arith, length-append us other)) (other ++ gap h))
-        ∙ a_second on_success (λ y. Both y q) (OnFailure q) s (omega (arith, length-append us other, length-append (gap g) (Word on_success ∷ ts))) g (gap h) refl)
+      (in_brackets_full t (omega (arith, length-append us other)) (other ++ gap h))
+      ∙ a_second on_success (λ y. Both y q) (OnFailure q) s (omega (arith, length-append us other, length-append (gap g) (Word on_success ∷ ts))) g (gap h) refl)
 
   exits_skip : {x : Goto} {ts : List Tok} → IsExits x ts → (g : Bool) (rest : List Tok) → skip (gap g ++ (ts ++ rest)) ≡ ts ++ rest
   exits_skip (always p _ (brackets _ ts i j s)) g rest = skip_head g (Sign mark.Open) _ refl
@@ -166,7 +166,7 @@ module _ (d : ℕ) where
   object_full absent fits rest over = rw over.element_no refl
   object_full (present e ts s) fits rest over =
       rw (begins_spaced (ts ++ rest) (begins_append ts rest (expr_begins e ts s)))
-        (bind_is (whole d (ts ++ rest)) (λ x end. Some (Some x, end)) (e, rest) (whole_full d e ts (omega arith) s rest (over_stops rest over)))
+      (bind_is (whole d (ts ++ rest)) (λ x end. Some (Some x, end)) (e, rest) (whole_full d e ts (omega arith) s rest (over_stops rest over)))
 
   -- the tokens after a body
   record After (rest : List Tok) : Type 0 where
@@ -182,14 +182,14 @@ module _ (d : ℕ) where
   unfolding spec.body
   subject_full x ts s fits rest no_open no_less =
       rw (begins_spaced (ts ++ rest) (begins_append ts rest (element_begins x ts s)))
-        (bind_is (element d (ts ++ rest)) (spec.after_subject d) (x, rest) (element_full d x ts fits s rest no_open no_less))
+      (bind_is (element d (ts ++ rest)) (spec.after_subject d) (x, rest) (element_full d x ts fits s rest no_open no_less))
 
   pattern_full : (x p : Expr) (us : List Tok) → IsExpr p us → length us ≤ d → (rest : List Tok) → Over rest → spec.after_subject d x (Blank ∷ (us ++ rest)) ≡ spec.after_pattern d x p rest
   unfolding spec.after_subject
   pattern_full x p us s fits rest over =
       let begins = begins_append us rest (expr_begins p us s) in
       rw (begins_equal_no (us ++ rest) begins, begins_spaced (us ++ rest) begins)
-        (bind_is (whole d (us ++ rest)) (spec.after_pattern d x) (p, rest) (whole_full d p us fits s rest (over_stops rest over)))
+      (bind_is (whole d (us ++ rest)) (spec.after_pattern d x) (p, rest) (whole_full d p us fits s rest (over_stops rest over)))
 
   blank_no : (ts : List Tok) → (sees mark.Open (Blank ∷ ts) ≡ false) × (sees mark.Less (Blank ∷ ts) ≡ false)
   unfolding sees
@@ -203,19 +203,19 @@ module _ (d : ℕ) where
   body_full (match x p ts us s t) fits rest after =
       let none = blank_no (us ++ rest) in
       rw (append_assoc ts (Blank ∷ us) rest) (subject_full x ts s (omega (arith, length-append ts (Blank ∷ us))) (Blank ∷ (us ++ rest)) none.0 none.1
-        ∙ pattern_full x p us t (omega (arith, length-append ts (Blank ∷ us))) rest after.over ∙ rw after.no_equal refl)
+      ∙ pattern_full x p us t (omega (arith, length-append ts (Blank ∷ us))) rest after.over ∙ rw after.no_equal refl)
   body_full (assign x o ts us s t) fits rest after =
       let none = blank_no (Sign mark.Equal ∷ (us ++ rest)) in
       rw (append_assoc ts (Blank ∷ Sign mark.Equal ∷ us) rest) (subject_full x ts s (omega (arith, length-append ts (Blank ∷ Sign mark.Equal ∷ us))) (Blank ∷ Sign mark.Equal ∷ (us ++ rest)) none.0 none.1
-        ∙ rw (equal_seen (us ++ rest)) (bind_is (spec.object d (us ++ rest)) (λ y end. Some (Assign x y, end)) (o, rest) (object_full t (omega (arith, length-append ts (Blank ∷ Sign mark.Equal ∷ us))) rest after.over)))
+      ∙ rw (equal_seen (us ++ rest)) (bind_is (spec.object d (us ++ rest)) (λ y end. Some (Assign x y, end)) (o, rest) (object_full t (omega (arith, length-append ts (Blank ∷ Sign mark.Equal ∷ us))) rest after.over)))
   body_full (replace x p o ts us vs s t u) fits rest after =
       let tail_of : List Tok = us ++ (Blank ∷ Sign mark.Equal ∷ vs) in
       let none = blank_no (us ++ (Blank ∷ Sign mark.Equal ∷ (vs ++ rest))) in
       let regroup : (ts ++ (Blank ∷ tail_of)) ++ rest ≡ ts ++ (Blank ∷ (us ++ (Blank ∷ Sign mark.Equal ∷ (vs ++ rest)))) = simp append_assoc in
       let long : length ts + suc (length us + suc (suc (length vs))) ≤ d = omega (arith, length-append ts (Blank ∷ tail_of), length-append us (Blank ∷ Sign mark.Equal ∷ vs)) in
       rw regroup (subject_full x ts s (omega arith) (Blank ∷ (us ++ (Blank ∷ Sign mark.Equal ∷ (vs ++ rest)))) none.0 none.1
-        ∙ pattern_full x p us t (omega arith) (Blank ∷ Sign mark.Equal ∷ (vs ++ rest)) (over_equal (vs ++ rest))
-        ∙ rw (equal_seen (vs ++ rest)) (bind_is (spec.object d (vs ++ rest)) (λ y end. Some (Replace x p y, end)) (o, rest) (object_full u (omega arith) rest after.over)))
+      ∙ pattern_full x p us t (omega arith) (Blank ∷ Sign mark.Equal ∷ (vs ++ rest)) (over_equal (vs ++ rest))
+      ∙ rw (equal_seen (vs ++ rest)) (bind_is (spec.object d (vs ++ rest)) (λ y end. Some (Replace x p y, end)) (o, rest) (object_full u (omega arith) rest after.over)))
 
   -- ---- statements
   no_label : {b : Body} {us : List Tok} → IsBody b us → {g : Goto} {vs : List Tok} → IsGoto g vs → (h : Bool)
@@ -239,7 +239,7 @@ module _ (d : ℕ) where
   unfolding spec.plain_after
   plain_full l {b} {us} s {g} {vs} t h body_fits goto_fits =
       bind_is (spec.body d (us ++ (vs ++ gap h))) (λ x rest. bind (spec.goto d rest) (λ y end. Some (Plain l x y, skip end))) (b, vs ++ gap h)
-        (body_full s body_fits (vs ++ gap h) (record { over = over_goto t h; no_equal = equal_no t h }))
+      (body_full s body_fits (vs ++ gap h) (record { over = over_goto t h; no_equal = equal_no t h }))
       ∙ bind_is (spec.goto d (vs ++ gap h)) (λ y end. Some (Plain l b y, skip end)) (g, gap h) (goto_full t goto_fits h)
       ∙ ap (λ rest. Some (Plain l b g, rest)) (skip_nothing h)
 

@@ -13,3 +13,6 @@ pub mod Tokens
 pub mod Trees
 pub mod TreeLaws
 pub mod TreeViews
+pub mod Faults
+pub mod FaultRows
+pub mod TreeRows
