@@ -16,3 +16,4 @@ pub mod TreeViews
 pub mod Faults
 pub mod FaultRows
 pub mod TreeRows
+pub mod Lexed
