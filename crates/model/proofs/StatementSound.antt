@@ -11,8 +11,8 @@ use Rattle.model.specs.Grammar.{gap, IsElement, IsExpr}
 use Rattle.model.specs.Statements.{on_success, on_failure, end_word, IsPlace, label, computed, InBrackets, brackets, IsExits, always, success, failure, success_first, failure_first, IsGoto, next, leaves, IsObject, absent, present, IsBody, nothing, evaluate, match, assign, replace, IsLabel, unlabelled, labelled, IsEntry, first, entry, Tree, plain, end}
 use Rattle.model.specs.Parse.{Parser, bind, skip, starts, same, sees, tail, expect, element, whole}
 use Rattle.model.specs.ParseStatements as spec
-use Rattle.model.specs.ParseStatements.{word_is, sees_word, is_blank, sees_spaced, starts_spaced, stmt}
-use Rattle.model.proofs.ParseSteps.{bind_some, some_same, if_is, Wanted, opening, close, at_equal, at_colon, at_dollar, same_is, sees_is, skip_gap, finish_is}
+use Rattle.model.specs.ParseStatements.{sees_word, is_blank, sees_spaced, starts_spaced, starts_word, word_spaced, from_success, from_failure, stmt}
+use Rattle.model.proofs.ParseSteps.{bind_some, some_same, if_is, Wanted, opening, close, at_equal, at_colon, at_dollar, bind_is, sees_is, skip_gap, All, finish_is}
 use Rattle.model.proofs.ParseSound.{Front, conclude_as, join2, join3, closed, elements_sound, whole_sound}
 
 -- ---- what comes next
@@ -45,26 +45,35 @@ sees_word_is w (Digits n ∷ ts) h = absurd (cc)
 sees_word_is w (Quoted s ∷ ts) h = absurd (cc)
 sees_word_is w (Sign m ∷ ts) h = absurd (cc)
 
+word_is_next : (ts : List Tok) → starts_word ts ≡ true → (l : Bytes) × (ts ≡ Word l ∷ tail ts)
+unfolding starts_word
+word_is_next [] h = absurd (cc)
+word_is_next (Word l ∷ ts) h = (l, refl)
+word_is_next (_ ∷ ts) h = absurd (cc)
+
+word_spaced_is : (ts : List Tok) → word_spaced ts ≡ true → (l : Bytes) × (ts ≡ Blank ∷ Word l ∷ tail (tail ts))
+unfolding word_spaced
+word_spaced_is [] h = absurd (cc)
+word_spaced_is (t ∷ ts) h =
+    let b = and_true (is_blank t) (starts_word ts) h in
+    let w = word_is_next ts b.1 in
+    (w.0, ap (λ x. x ∷ ts) (blank_is t b.0) ∙ ap (λ x. Blank ∷ x) w.1)
+
 module _ (d : ℕ) where
   -- ---- gotos
+  named_sound : (ts : List Tok) (p : Place × List Tok) → spec.place_named d ts ≡ Some p → Front (IsPlace p.0) ts p.1
+  named_sound (Word l ∷ ts) p h = conclude_as IsPlace (Word l ∷ ts) (Label l, ts) p h (record { text = Word l ∷ []; spelled = label l; is = refl })
+  named_sound _ p h = absurd (cc)
+
   place_sound : (ts : List Tok) (p : Place × List Tok) → spec.place d ts ≡ Some p → Front (IsPlace p.0) ts p.1
   unfolding spec.place
-  place_sound [] p h = absurd (cc)
-  place_sound (Blank ∷ ts) p h = absurd (cc)
-  place_sound (Word l ∷ ts) p h = conclude_as IsPlace (Word l ∷ ts) (Label l, ts) p h (record { text = Word l ∷ []; spelled = label l; is = refl })
-  place_sound (Digits n ∷ ts) p h = absurd (cc)
-  place_sound (Quoted s ∷ ts) p h = absurd (cc)
-  place_sound (Sign m ∷ ts) p h = elim (if_is (same mark.Dollar m) (bind (element d ts) (λ e rest. Some (Computed e, rest))) None (Some p) h) [
-    | inl c ↦
-        let b = bind_some (element d ts) (λ e rest. Some (Computed e, rest)) p c.1 in
-        let r = elements_sound d ts b.0 b.1 in
-        conclude_as IsPlace (Sign m ∷ ts) (Computed b.0.0, b.0.1) p b.2 (record {
-          text = Sign mark.Dollar ∷ r.text;
-          spelled = computed b.0.0 r.text r.spelled;
-          is = ap (λ x. Sign x ∷ ts) (sym (same_is mark.Dollar at_dollar m c.0)) ∙ ap (λ y. Sign mark.Dollar ∷ y) r.is;
-        })
-    | inr c ↦ absurd (cc)
-  ]
+  place_sound ts p h = elim (if_is (sees mark.Dollar ts) (bind (element d (tail ts)) (λ e rest. Some (Computed e, rest))) (spec.place_named d ts) (Some p) h) [
+      inl c ↦
+        let b = bind_some (element d (tail ts)) (λ e rest. Some (Computed e, rest)) p c.1 in
+        let r = elements_sound d (tail ts) b.0 b.1 in
+        conclude_as IsPlace ts (Computed b.0.0, b.0.1) p b.2 (record { text = Sign mark.Dollar ∷ r.text; spelled = computed b.0.0 r.text r.spelled;
+          is = sees_is mark.Dollar at_dollar ts c.0 ∙ ap (λ y. Sign mark.Dollar ∷ y) r.is })
+    | inr c ↦ named_sound ts p c.1 ]
 
   in_brackets_sound : (ts : List Tok) (p : Place × List Tok) → spec.in_brackets d ts ≡ Some p → Front (InBrackets p.0) ts p.1
   unfolding spec.in_brackets
@@ -86,65 +95,54 @@ module _ (d : ℕ) where
   ]
 
   -- a second place, or none
-  pub data Second (word : Bytes) (both : Place → Goto) (one : Goto) : Goto → List Tok → Type 0 where
-    alone : Second word both one one []
-    other : (q : Place) (us : List Tok) (g : Bool) → InBrackets q us → Second word both one (both q) (gap g ++ Word word ∷ us)
+  pub data Second (word : Bytes) : Option Place → List Tok → Type 0 where
+    alone : Second word None []
+    other : (q : Place) (us : List Tok) (g : Bool) → InBrackets q us → Second word (Some q) (gap g ++ Word word ∷ us)
 
-  second_sound : (word : Bytes) (both : Place → Goto) (one : Goto) (ts : List Tok) (p : Goto × List Tok) → spec.second d word both one ts ≡ Some p
-      → Front (Second word both one p.0) ts p.1
+  second_sound : (word : Bytes) (ts : List Tok) (p : Option Place × List Tok) → spec.second d word ts ≡ Some p → Front (Second word p.0) ts p.1
   unfolding spec.second
-  second_sound word both one ts p h = elim (if_is (sees_word word (skip ts)) (bind (spec.in_brackets d (tail (skip ts))) (λ q rest. Some (both q, rest))) (Some (one, ts)) (Some p) h) [
-    | inl c ↦
-        let b = bind_some (spec.in_brackets d (tail (skip ts))) (λ q rest. Some (both q, rest)) p c.1 in
+  second_sound word ts p h = elim (if_is (sees_word word (skip ts)) (bind (spec.in_brackets d (tail (skip ts))) (λ q rest. Some (Some q, rest))) (Some (None, ts)) (Some p) h) [
+      inl c ↦
+        let b = bind_some (spec.in_brackets d (tail (skip ts))) (λ q rest. Some (Some q, rest)) p c.1 in
         let r = in_brackets_sound (tail (skip ts)) b.0 b.1 in
         let g = skip_gap ts in
-        conclude_as (Second word both one) ts (both b.0.0, b.0.1) p b.2 (record {
-          text = gap g.0 ++ Word word ∷ r.text;
-          spelled = other b.0.0 r.text g.0 r.spelled;
-          is = join2 ts (gap g.0) (Word word ∷ r.text) (skip ts) b.0.1 g.1 (sees_word_is word (skip ts) c.0 ∙ ap (λ y. Word word ∷ y) r.is);
-        })
-    | inr c ↦ conclude_as (Second word both one) ts (one, ts) p c.1 (record { text = []; spelled = alone; is = refl })
-  ]
+        conclude_as (Second word) ts (Some b.0.0, b.0.1) p b.2 (record { text = gap g.0 ++ Word word ∷ r.text; spelled = other b.0.0 r.text g.0 r.spelled;
+          is = join2 ts (gap g.0) (Word word ∷ r.text) (skip ts) b.0.1 g.1 (sees_word_is word (skip ts) c.0 ∙ ap (λ y. Word word ∷ y) r.is) })
+    | inr c ↦ conclude_as (Second word) ts (None, ts) p c.1 (record { text = []; spelled = alone; is = refl }) ]
 
-  with_success : (p : Place) (ts : List Tok) → InBrackets p ts → {g : Goto} {us : List Tok} → Second on_failure (λ q. Both p q) (OnSuccess p) g us → IsExits g (Word on_success ∷ (ts ++ us))
-  with_success p ts i alone = subst (λ x. IsExits (OnSuccess p) (Word on_success ∷ x)) (sym (append-nil ts)) (success p ts i)
-  with_success p ts i (other q us g j) = success_first p q ts us g i j
+  with_success : (p : Place) (ts : List Tok) → InBrackets p ts → (q : Option Place) (us : List Tok) → Second on_failure q us → IsExits (from_success p q) (Word on_success ∷ (ts ++ us))
+  with_success p ts i _ _ alone = subst (λ x. IsExits (OnSuccess p) (Word on_success ∷ x)) (sym (append-nil ts)) (success p ts i)
+  with_success p ts i _ _ (other q us g j) = success_first p q ts us g i j
 
-  with_failure : (q : Place) (us : List Tok) → InBrackets q us → {g : Goto} {ts : List Tok} → Second on_success (λ p. Both p q) (OnFailure q) g ts → IsExits g (Word on_failure ∷ (us ++ ts))
-  with_failure q us i alone = subst (λ x. IsExits (OnFailure q) (Word on_failure ∷ x)) (sym (append-nil us)) (failure q us i)
-  with_failure q us i (other p ts g j) = failure_first p q ts us g j i
+  with_failure : (q : Place) (us : List Tok) → InBrackets q us → (p : Option Place) (ts : List Tok) → Second on_success p ts → IsExits (from_failure q p) (Word on_failure ∷ (us ++ ts))
+  with_failure q us i _ _ alone = subst (λ x. IsExits (OnFailure q) (Word on_failure ∷ x)) (sym (append-nil us)) (failure q us i)
+  with_failure q us i _ _ (other p ts g j) = failure_first p q ts us g j i
 
-  abbrev after_word : List Tok → (Place → Parser Goto) → Option (Goto × List Tok)
-  after_word ts f = bind (spec.in_brackets d (tail ts)) f
+  -- the places after a word and after another
+  module _ (word other_word : Bytes) (joined : Place → Option Place → Goto)
+      (spelled : (p : Place) (ts : List Tok) → InBrackets p ts → (q : Option Place) (us : List Tok) → Second other_word q us → IsExits (joined p q) (Word word ∷ (ts ++ us))) where
+    abbrev after_first : Place → Parser Goto
+    after_first p rest = bind (spec.second d other_word rest) (λ q end. Some (joined p q, end))
+
+    places_sound : (ts : List Tok) (p : Goto × List Tok) → sees_word word ts ≡ true → bind (spec.in_brackets d (tail ts)) after_first ≡ Some p → Front (IsExits p.0) ts p.1
+    places_sound ts p w h =
+        let b = bind_some (spec.in_brackets d (tail ts)) after_first p h in
+        let r = in_brackets_sound (tail ts) b.0 b.1 in
+        let c = bind_some (spec.second d other_word b.0.1) (λ q end. Some (joined b.0.0 q, end)) p b.2 in
+        let s = second_sound other_word b.0.1 c.0 c.1 in
+        conclude_as IsExits ts (joined b.0.0 c.0.0, c.0.1) p c.2 (record { text = Word word ∷ (r.text ++ s.text); spelled = spelled b.0.0 r.text r.spelled c.0.0 s.text s.spelled;
+          is = sees_word_is word ts w ∙ ap (λ y. Word word ∷ y) (join2 (tail ts) r.text s.text b.0.1 c.0.1 r.is s.is) })
 
   exits_sound : (ts : List Tok) (p : Goto × List Tok) → spec.exits d ts ≡ Some p → Front (IsExits p.0) ts p.1
   unfolding spec.exits
-  exits_sound ts p h = elim (if_is (sees_word on_success ts) (after_word ts (λ x rest. spec.second d on_failure (λ q. Both x q) (OnSuccess x) rest)) _ (Some p) h) [
-    | inl c ↦
-        let b = bind_some (spec.in_brackets d (tail ts)) (λ x rest. spec.second d on_failure (λ q. Both x q) (OnSuccess x) rest) p c.1 in
-        let r = in_brackets_sound (tail ts) b.0 b.1 in
-        let s = second_sound on_failure (λ q. Both b.0.0 q) (OnSuccess b.0.0) b.0.1 p b.2 in
-        (record {
-          text = Word on_success ∷ (r.text ++ s.text);
-          spelled = with_success b.0.0 r.text r.spelled s.spelled;
-          is = sees_word_is on_success ts c.0 ∙ ap (λ y. Word on_success ∷ y) (join2 (tail ts) r.text s.text b.0.1 p.1 r.is s.is);
-        })
-    | inr c ↦ elim (if_is (sees_word on_failure ts) (after_word ts (λ x rest. spec.second d on_success (λ q. Both q x) (OnFailure x) rest)) (bind (spec.in_brackets d ts) (λ x rest. Some (Always x, rest))) (Some p) c.1) [
-      | inl e ↦
-          let b = bind_some (spec.in_brackets d (tail ts)) (λ x rest. spec.second d on_success (λ q. Both q x) (OnFailure x) rest) p e.1 in
-          let r = in_brackets_sound (tail ts) b.0 b.1 in
-          let s = second_sound on_success (λ q. Both q b.0.0) (OnFailure b.0.0) b.0.1 p b.2 in
-          (record {
-            text = Word on_failure ∷ (r.text ++ s.text);
-            spelled = with_failure b.0.0 r.text r.spelled s.spelled;
-            is = sees_word_is on_failure ts e.0 ∙ ap (λ y. Word on_failure ∷ y) (join2 (tail ts) r.text s.text b.0.1 p.1 r.is s.is);
-          })
+  exits_sound ts p h = elim (if_is (sees_word on_success ts) _ _ (Some p) h) [
+      inl c ↦ places_sound on_success on_failure from_success with_success ts p c.0 c.1
+    | inr c ↦ elim (if_is (sees_word on_failure ts) _ _ (Some p) c.1) [
+        inl e ↦ places_sound on_failure on_success from_failure with_failure ts p e.0 e.1
       | inr e ↦
           let b = bind_some (spec.in_brackets d ts) (λ x rest. Some (Always x, rest)) p e.1 in
           let r = in_brackets_sound ts b.0 b.1 in
-          conclude_as IsExits ts (Always b.0.0, b.0.1) p b.2 (record { text = r.text; spelled = always b.0.0 r.text r.spelled; is = r.is })
-    ]
-  ]
+          conclude_as IsExits ts (Always b.0.0, b.0.1) p b.2 (record { text = r.text; spelled = always b.0.0 r.text r.spelled; is = r.is }) ] ]
 
   goto_sound : (ts : List Tok) (p : Goto × List Tok) → spec.goto d ts ≡ Some p → Front (IsGoto p.0) ts p.1
   unfolding spec.goto
@@ -231,8 +229,8 @@ module _ (d : ℕ) where
   to_gap : (rest : List Tok) → skip rest ≡ [] → (h : Bool) × (rest ≡ gap h)
   to_gap rest e = let g = skip_gap rest in (g.0, g.1 ∙ ap (λ y. gap g.0 ++ y) e ∙ append-nil (gap g.0))
 
-  plain_sound : (l : Option Bytes) (ls ts : List Tok) (s : Stmt) → IsLabel l ls → spec.plain_after d l ts ≡ Some (s, []) → Tree s (ls ++ ts)
-  unfolding spec.plain_after
+  plain_sound : (l : Option Bytes) (ls ts : List Tok) (s : Stmt) → IsLabel l ls → spec.after_label d l ts ≡ Some (s, []) → Tree s (ls ++ ts)
+  unfolding spec.after_label
   plain_sound l ls ts s i h =
       let b = bind_some (spec.body d ts) (λ b rest. bind (spec.goto d rest) (λ g end. Some (Plain l b g, skip end))) (s, []) h in
       let rb = body_sound ts b.0 b.1 in
@@ -244,32 +242,41 @@ module _ (d : ℕ) where
       subst (λ y. Tree y (ls ++ ts)) (ap (λ p. p.0) last)
       (subst (λ y. Tree (Plain l b.0.0 g.0.0) (ls ++ y)) {x = rb.text ++ (rg.text ++ gap end.0)} text (plain l b.0.0 g.0.0 ls rb.text rg.text end.0 i rb.spelled rg.spelled))
 
-  entry_sound : (ts : List Tok) (p : Option Bytes × List Tok) → spec.entry d ts ≡ Some p → Front (IsEntry p.0) ts p.1
-  entry_sound (Blank ∷ Word l ∷ ts) p h = conclude_as IsEntry (Blank ∷ Word l ∷ ts) (Some l, ts) p h (record { text = Blank ∷ Word l ∷ []; spelled = entry l; is = refl })
-  entry_sound ts p h = conclude_as IsEntry ts (None, ts) p h (record { text = []; spelled = first; is = refl })
+  abbrev to_end : Option Bytes → Parser Stmt
+  to_end l rest = Some (End l, skip rest)
 
-  end_sound : (ts : List Tok) (s : Stmt) → spec.end_after d ts ≡ Some (s, []) → Tree s (Word end_word ∷ ts)
-  unfolding spec.end_after
-  end_sound ts s h =
-      let b = bind_some (spec.entry d ts) (λ l rest. Some (End l, skip rest)) (s, []) h in
-      let r = entry_sound ts b.0 b.1 in
-      let last = some_same (End b.0.0, skip b.0.1) (s, []) b.2 in
-      let last_gap = to_gap b.0.1 (ap (λ p. p.1) last) in
-      let text : r.text ++ gap last_gap.0 ≡ ts = sym (r.is ∙ ap (λ y. r.text ++ y) last_gap.1) in
+  end_of : (l : Option Bytes) (ls ts rest : List Tok) (s : Stmt) → IsEntry l ls → ts ≡ ls ++ rest → All (to_end l rest) s → Tree s (Word end_word ∷ ts)
+  end_of l ls ts rest s i e h =
+      let last = some_same (End l, skip rest) (s, []) h in
+      let last_gap = to_gap rest (ap (λ p. p.1) last) in
+      let text : ls ++ gap last_gap.0 ≡ ts = sym (e ∙ ap (λ y. ls ++ y) last_gap.1) in
       subst (λ y. Tree y (Word end_word ∷ ts)) (ap (λ p. p.0) last)
-      (subst (λ y. Tree (End b.0.0) (Word end_word ∷ y)) {x = r.text ++ gap last_gap.0} text (end b.0.0 r.text last_gap.0 r.spelled))
+        (subst (λ y. Tree (End l) (Word end_word ∷ y)) {x = ls ++ gap last_gap.0} text (end l ls last_gap.0 i))
+
+  end_sound : (ts : List Tok) (s : Stmt) → spec.after_end d ts ≡ Some (s, []) → Tree s (Word end_word ∷ ts)
+  unfolding spec.after_end
+  end_sound ts s h = elim (if_is (word_spaced ts) (bind (spec.label (tail ts)) to_end) (Some (End None, skip ts)) (Some (s, [])) h) [
+      inl c ↦
+        let w = word_spaced_is ts c.0 in
+        let read : bind (spec.label (tail ts)) to_end ≡ Some (End (Some w.0), skip (tail (tail ts))) = ap (λ us. bind (spec.label (tail us)) to_end) w.1 ∙ bind_is (Some (Some w.0, tail (tail ts))) to_end (Some w.0, tail (tail ts)) refl in
+        end_of (Some w.0) (Blank ∷ Word w.0 ∷ []) ts (tail (tail ts)) s (entry w.0) w.1 (sym read ∙ c.1)
+    | inr c ↦ end_of None [] ts ts s first refl c.1 ]
+
+  -- a first word that isn't END is a label
+  label_sound : (ts : List Tok) (s : Stmt) → sees_word end_word ts ≡ false → bind (spec.label ts) (spec.after_label d) ≡ Some (s, []) → Tree s ts
+  unfolding sees_word bind
+  label_sound [] s w h = plain_sound None [] [] s unlabelled h
+  label_sound (Word l ∷ ts) s w h = plain_sound (Some l) (Word l ∷ []) ts s (labelled l (λ e. absurd (let t = (bytes_eq-Decides l end_word).1 e in cc))) h
+  label_sound (Blank ∷ ts) s w h = plain_sound None [] (Blank ∷ ts) s unlabelled h
+  label_sound (Digits n ∷ ts) s w h = plain_sound None [] (Digits n ∷ ts) s unlabelled h
+  label_sound (Quoted q ∷ ts) s w h = plain_sound None [] (Quoted q ∷ ts) s unlabelled h
+  label_sound (Sign m ∷ ts) s w h = plain_sound None [] (Sign m ∷ ts) s unlabelled h
 
   statement_sound : (ts : List Tok) (s : Stmt) → spec.statement d ts ≡ Some (s, []) → Tree s ts
   unfolding spec.statement
-  statement_sound [] s h = plain_sound None [] [] s unlabelled h
-  statement_sound (Blank ∷ ts) s h = plain_sound None [] (Blank ∷ ts) s unlabelled h
-  statement_sound (Word l ∷ ts) s h = elim (if_is (bytes_eq l end_word) (spec.end_after d ts) (spec.plain_after d (Some l) ts) (Some (s, [])) h) [
-    | inl c ↦ subst (λ x. Tree s (Word x ∷ ts)) (sym ((bytes_eq-Decides l end_word).0 c.0)) (end_sound ts s c.1)
-    | inr c ↦ plain_sound (Some l) (Word l ∷ []) ts s (labelled l (λ e. absurd (let t = (bytes_eq-Decides l end_word).1 e in cc))) c.1
-  ]
-  statement_sound (Digits n ∷ ts) s h = plain_sound None [] (Digits n ∷ ts) s unlabelled h
-  statement_sound (Quoted q ∷ ts) s h = plain_sound None [] (Quoted q ∷ ts) s unlabelled h
-  statement_sound (Sign m ∷ ts) s h = plain_sound None [] (Sign m ∷ ts) s unlabelled h
+  statement_sound ts s h = elim (if_is (sees_word end_word ts) (spec.after_end d (tail ts)) (bind (spec.label ts) (spec.after_label d)) (Some (s, [])) h) [
+      inl c ↦ subst (λ x. Tree s x) (sym (sees_word_is end_word ts c.0)) (end_sound (tail ts) s c.1)
+    | inr c ↦ label_sound ts s c.0 c.1 ]
 
 pub stmt_sound : (ts : List Tok) (s : Stmt) → stmt ts ≡ Some s → Tree s ts
 unfolding stmt
