@@ -1,9 +1,9 @@
 -- Reading entries one after the other, as a loop does.
-use Rattle.std.proofs.Common.{◌≡◌, ℕ, suc, ◌-◌, ◌+◌, ◌≤◌, ◌<◌, List, [], ◌∷◌, ◌++◌, Result, Ok, Err, length, Option, Some, None, zero, refl, sym, ap, ◌∙◌, arith}
+use Rattle.std.proofs.Common.{◌≡◌, ℕ, suc, ◌-◌, ◌+◌, ◌≤◌, ◌<◌, List, [], ◌∷◌, ◌++◌, Result, Ok, Err, length, Some, None, refl, sym, ap, ◌∙◌, arith}
 use Rattle.model.specs.declared.format.Miss.{Miss}
 use Rattle.model.specs.declared.format.ReadError.{ReadError}
 use Rattle.model.specs.declared.format.ReadError.TheVariants as errors
-use Rattle.model.specs.Reading.{◌>>=◌, Fails, entries_from, instr_of, code_from, fault_at}
+use Rattle.model.specs.Reading.{Fails, entries_from, instr_of, code_from}
 use Rattle.model.specs.declared.instr.Instr.{Instr}
 use Rattle.model.specs.declared.format.FormatRule.TheVariants.{UnknownInstruction}
 use Rattle.std.proofs.lemmas.List.{length-append}

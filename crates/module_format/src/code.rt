@@ -4,7 +4,7 @@ ghost use Rattle.std.specs.Prelude.{◌≡◌, ◌+◌, [], length};
 ghost use Rattle.model.specs.declared.format.FormatRule.TheVariants.{UnknownInstruction};
 ghost use Rattle.model.specs.Reading.{Gives, code_from, code_at};
 
-use crate::fields::{read_bytes, read_count, MOST_CODE};
+use crate::fields::{MOST_CODE, read_bytes, read_count};
 use code_format::first_instr;
 use model::{FormatRule, Instr, Miss, ReadError, Seq};
 use std::alloc::Global;

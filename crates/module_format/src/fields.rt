@@ -6,11 +6,12 @@ ghost use Rattle.model.specs.declared.format.FormatRule.TheVariants.{BadMagic, B
 ghost use Rattle.model.specs.Reading.{Reads, fixed_at, count_at, bytes_at};
 ghost use Rattle.model.specs.Spelling.{magic as magic_number};
 
-use code_format::{read_u16, read_u32, CUT};
+use code_format::{CUT, read_u16, read_u32};
 use model::{FormatRule, Miss};
 
-const MAGIC: u32 = 0x534e_4f34;
-const VERSION: u16 = 1;
+pub(crate) const MAGIC: u32 = 0x534e_4f34;
+
+pub(crate) const VERSION: u16 = 1;
 
 /// The most entries of a table.
 pub(crate) const MOST: u32 = 16_777_216;

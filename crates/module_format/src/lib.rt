@@ -6,5 +6,7 @@ mod fields;
 mod reading;
 mod strings;
 mod tables;
+mod writing;
 
 pub use reading::read_image;
+pub use writing::write_image;

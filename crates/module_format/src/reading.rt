@@ -9,7 +9,7 @@ ghost use Rattle.module_format.specs.Faults.{IsAnswer};
 use crate::code::read_code;
 use crate::fields::{miss, past_magic, past_version};
 use crate::strings::read_strings;
-use crate::tables::{read_table, Expressions, Labels, Patterns, Statements};
+use crate::tables::{Expressions, Labels, Patterns, Statements, read_table};
 use code_format::read_u32;
 use model::{FormatFault, FormatRule, Image, ReadError};
 use std::alloc::Global;

@@ -3,7 +3,7 @@
 ghost use Rattle.std.specs.Prelude.{◌≡◌};
 ghost use Rattle.model.specs.Reading.{Gives, Reads, table_at, string_at, text_at};
 
-use crate::fields::{miss, read_bytes, read_count, MOST};
+use crate::fields::{MOST, miss, read_bytes, read_count};
 use code_format::read_u32;
 use indexmap::IndexSet;
 use model::{Bytes, FormatRule, Miss, ReadError, Seq};

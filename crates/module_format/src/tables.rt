@@ -4,7 +4,7 @@ ghost use Rattle.std.specs.Prelude.{ℕ, List, Result};
 ghost use Rattle.model.specs.declared.format.Miss.{Miss};
 ghost use Rattle.model.specs.Reading.{Gives, Reads, table_at, label_at, statement_at, offset_at, pat_instr_at, pattern_at};
 
-use crate::fields::{miss, read_count, MOST};
+use crate::fields::{MOST, miss, read_count};
 use code_format::{first_pat_instr, read_u32};
 use model::{FormatRule, Label, Miss, PatInstr, ReadError, Seq};
 use std::alloc::Global;
@@ -27,7 +27,10 @@ pub(crate) trait Table {
 
 /// A table of one kind, and the bytes behind it. Nothing is reserved for the count.
 #[tactic(auto, unfolding(model::specs::Reading::table_at))]
-pub(crate) fn read_table<T: Table>(alloc: Global, bytes: &[u8]) -> Result<(Seq<T::Entry>, &[u8]), ReadError>
+pub(crate) fn read_table<T: Table>(
+    alloc: Global,
+    bytes: &[u8],
+) -> Result<(Seq<T::Entry>, &[u8]), ReadError>
     ensures { Gives (λ x. (x.0, x.1.now)) result (table_at T.entry bytes.now) }
 {
     let (n, after) = read_count(MOST, bytes)?;
@@ -50,11 +53,18 @@ impl Table for Labels {
     ghost entry = { label_at };
 
     #[tactic(auto, unfolding(model::specs::Reading::label_at))]
-    fn read_entry<'a>(_alloc: Global, earlier: &[Label], bytes: &'a [u8]) -> Result<(Label, &'a [u8]), ReadError> {
+    fn read_entry<'a>(
+        _alloc: Global,
+        earlier: &[Label],
+        bytes: &'a [u8],
+    ) -> Result<(Label, &'a [u8]), ReadError> {
         let (string, rest) = read_u32(bytes)?;
         let (statement, rest) = read_u32(rest)?;
         match earlier.last() {
-            Some(newest) if statement <= newest.statement => Err(miss(FormatRule::BadTable, bytes))?,
+            Some(newest) if statement <= newest.statement => Err(miss(
+                FormatRule::BadTable,
+                bytes,
+            ))?,
             _ => Ok((Label { string, statement }, rest)),
         }
     }
@@ -69,7 +79,11 @@ impl Table for Statements {
     ghost entry = { statement_at };
 
     #[tactic(auto, unfolding(model::specs::Reading::statement_at))]
-    fn read_entry<'a>(_alloc: Global, earlier: &[u32], bytes: &'a [u8]) -> Result<(u32, &'a [u8]), ReadError> {
+    fn read_entry<'a>(
+        _alloc: Global,
+        earlier: &[u32],
+        bytes: &'a [u8],
+    ) -> Result<(u32, &'a [u8]), ReadError> {
         let (n, rest) = read_u32(bytes)?;
         match earlier.last() {
             Some(newest) if n <= *newest => Err(miss(FormatRule::BadTable, bytes))?,
@@ -87,7 +101,11 @@ impl Table for Expressions {
     ghost entry = { offset_at };
 
     #[tactic(auto, unfolding(model::specs::Reading::offset_at))]
-    fn read_entry<'a>(_alloc: Global, _earlier: &[u32], bytes: &'a [u8]) -> Result<(u32, &'a [u8]), ReadError> {
+    fn read_entry<'a>(
+        _alloc: Global,
+        _earlier: &[u32],
+        bytes: &'a [u8],
+    ) -> Result<(u32, &'a [u8]), ReadError> {
         Ok(read_u32(bytes)?)
     }
 }
@@ -101,7 +119,11 @@ impl Table for Pattern {
     ghost entry = { pat_instr_at };
 
     #[tactic(auto, unfolding(model::specs::Reading::pat_instr_at))]
-    fn read_entry<'a>(_alloc: Global, _earlier: &[PatInstr], bytes: &'a [u8]) -> Result<(PatInstr, &'a [u8]), ReadError> {
+    fn read_entry<'a>(
+        _alloc: Global,
+        _earlier: &[PatInstr],
+        bytes: &'a [u8],
+    ) -> Result<(PatInstr, &'a [u8]), ReadError> {
         Ok(first_pat_instr(bytes)?)
     }
 }

@@ -1,4 +1,4 @@
-use Rattle.std.proofs.Common.{◌≡◌, ◌+◌, ◌<◌, length, arith, refl, []}
+use Rattle.std.proofs.Common.{◌≡◌, ◌<◌, length, arith, refl, []}
 use Rattle.std.proofs.lemmas.Bool.Decides.{nat_tests}
 use Rattle.model.specs.Reading.{code_from}
 use Rattle.module_format.proofs.Loops.{code_goes_on, code_stops, code_left, code_done}
