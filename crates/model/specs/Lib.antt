@@ -52,3 +52,4 @@ pub mod Faults
 pub mod FaultRows
 pub mod TreeRows
 pub mod Lexed
+pub mod RulesUsed
