@@ -1,5 +1,5 @@
 -- The machine follows calls, primitives and references.
-use Rattle.std.proofs.Common.{◌≡◌, ℕ, suc, ◌+◌, ◌*◌, ◌≤◌, List, [], ◌∷◌, length, Option, Some, None, Bool, inr, refl, sym, ap, ◌∙◌, arith, le_refl}
+use Rattle.std.proofs.Common.{◌≡◌, ℕ, suc, ◌≤◌, List, [], ◌∷◌, length, Option, Some, None, Bool, inr, refl, sym, ap, ◌∙◌, arith, le_refl}
 use Rattle.model.specs.declared.instr.Instr.{Instr}
 use Rattle.model.specs.declared.instr.Instr.TheVariants as op
 use Rattle.model.specs.declared.instr.ReturnKind.{ReturnKind}
@@ -12,8 +12,8 @@ use Rattle.model.specs.Programs.{Program}
 use Rattle.model.specs.Values.{Pattern, Function, Defined, Constructor, Field}
 use Rattle.model.specs.Operators.{fetch_op}
 use Rattle.model.specs.Aggregates.{element_op}
-use Rattle.model.specs.Calls.{Kept, return_of, kept_of, enter_call}
-use Rattle.model.specs.Primitives.{Outcome, Returns, Calls, prim_op}
+use Rattle.model.specs.Calls.{Kept, return_of, kept_of}
+use Rattle.model.specs.Primitives.{Outcome, prim_op}
 use Rattle.model.specs.Meaning.{Val, W, Given', QArgs, Rule, ask, doing, function_op, entered, call_rule, finish, function_rule}
 use Rattle.model.specs.Machine as machine
 use Rattle.model.specs.Machine.{PCode, codes_of, MVal, MW, MGiven, Module, Operand, OV, ON, Frame, InCall, Caller, State, Run, fail_to, resume, to_stmt, to_known, to_return, load, pop, pop_many, call, calls, primitive, put_name, act, steps}
@@ -102,15 +102,15 @@ module _ (prog : Program) (img : Module) (trees_at : ℕ → Option Expr) (place
       go us w1 xs m1 hu len r1 (Some x) is =
           from prog img trees_at placed 1
           (one prog img trees_at placed r h.q (prim x n) (push_all xs h.ops) h.hs h.fs m1 is ∙ does_prim x n r (push_all xs h.ops) m1
-              ∙ ap (λ n. pop_many n (push_all xs h.ops) [] m1 (λ vs rest. primitive img want (prim_op codes_of x vs m1) h.q rest h.hs h.fs)) (sym len)
-              ∙ pop_pushed xs h.ops m1 (λ vs rest. primitive img want (prim_op codes_of x vs m1) h.q rest h.hs h.fs))
+          ∙ ap (λ n. pop_many n (push_all xs h.ops) [] m1 (λ vs rest. primitive img want (prim_op codes_of x vs m1) h.q rest h.hs h.fs)) (sym len)
+          ∙ pop_pushed xs h.ops m1 (λ vs rest. primitive img want (prim_op codes_of x vs m1) h.q rest h.hs h.fs))
           (op_follows prog img trees_at placed (OutcomeR trees_at) h.hs h.ops h.fs _ _ (prim_same trees_at x hu r1) (λ a b w2 m2 ho r2. finish_follows (caller_at h want) h.fs k ho r2 one_or_more hg fails) fails)
       go us w1 xs m1 hu len r1 None (i, str, is) =
           from prog img trees_at placed 1
           (one prog img trees_at placed r h.q (call' i n) (push_all xs h.ops) h.hs h.fs m1 is ∙ does_call i n r (push_all xs h.ops) m1
-              ∙ ap (λ o. load o m1 (λ f. calls img want f n h.q (push_all xs h.ops) h.hs h.fs m1)) str
-              ∙ ap (λ n. calls img want f n h.q (push_all xs h.ops) h.hs h.fs m1) (sym len)
-              ∙ pop_pushed xs h.ops m1 (λ vs rest. call img f vs (m1.plain.functions f) (record { ops = rest; hs = h.hs; place = h.q; want_name = want }) h.fs m1))
+          ∙ ap (λ o. load o m1 (λ f. calls img want f n h.q (push_all xs h.ops) h.hs h.fs m1)) str
+          ∙ ap (λ n. calls img want f n h.q (push_all xs h.ops) h.hs h.fs m1) (sym len)
+          ∙ pop_pushed xs h.ops m1 (λ vs rest. call img f vs (m1.plain.functions f) (record { ops = rest; hs = h.hs; place = h.q; want_name = want }) h.fs m1))
           (finish_follows (caller_at h want) h.fs k (calling f hu) r1 one_or_more hg fails)
 
   -- the name of a variable, put on the stack
@@ -128,8 +128,8 @@ module _ (prog : Program) (img : Module) (trees_at : ℕ → Option Expr) (place
       (λ a y w1 m1 ha r1. ask_args prog img trees_at placed (more h s t (OV y)) 0 n code refl r1 le
       (λ us w2 zs m2 hus len r2. from prog img trees_at placed 1
       (one prog img trees_at placed t e (op.Elem n) (push_all zs (OV y ∷ h.ops)) h.hs h.fs m2 elem
-          ∙ ap (λ n. pop_many n (push_all zs (OV y ∷ h.ops)) [] m2 (λ vs r1. pop r1 m2 (λ a rest. put_name img (element_op a vs m2) e rest h.hs h.fs))) (sym len)
-          ∙ pop_pushed zs (OV y ∷ h.ops) m2 (λ vs r1. pop r1 m2 (λ a rest. put_name img (element_op a vs m2) e rest h.hs h.fs)))
+      ∙ ap (λ n. pop_many n (push_all zs (OV y ∷ h.ops)) [] m2 (λ vs r1. pop r1 m2 (λ a rest. put_name img (element_op a vs m2) e rest h.hs h.fs))) (sym len)
+      ∙ pop_pushed zs (OV y ∷ h.ops) m2 (λ vs r1. pop r1 m2 (λ a rest. put_name img (element_op a vs m2) e rest h.hs h.fs)))
       (op_follows prog img trees_at placed ◌≡◌ h.hs h.ops h.fs k (λ a w1. Run e (ON a ∷ h.ops) h.hs h.fs w1) (element_same trees_at ha hus r2)
       (λ z z' w3 m3 hz r3. from prog img trees_at placed 0 (ap (λ x. Run e (ON x ∷ h.ops) h.hs h.fs m3) (sym hz)) (hk z w3 m3 r3)) (λ w3 m3 r3. (m3, r3, refl))))
       (fail_one prog img trees_at placed h (OV y)))

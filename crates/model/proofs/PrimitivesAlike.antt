@@ -1,25 +1,22 @@
 -- Primitives and calls of the machine stand for those of the meaning.
-use Rattle.std.proofs.Common.{◌≡◌, ℕ, zero, suc, ◌+◌, ◌*◌, List, [], ◌∷◌, ◌++◌, length, map, replicate, slice_get, ℤ, pos, negsuc, int_le, int_lt, Option, Some, None, Bool, true, false, not, bytes_eq, nat_eq, nat_lt, if◌then◌else◌, refl, sym, ap, ◌∙◌, subst}
-use Rattle.model.specs.declared.run.ErrorCode.{ErrorCode}
+use Rattle.std.proofs.Common.{◌≡◌, ℕ, zero, suc, ◌+◌, ◌*◌, List, [], ◌∷◌, ◌++◌, length, replicate, ℤ, pos, negsuc, int_le, Option, Some, None, Bool, true, false, bytes_eq, nat_eq, nat_lt, if◌then◌else◌, refl, sym, ap, subst}
 use Rattle.model.specs.declared.run.ErrorCode.TheVariants as error
 use Rattle.model.specs.declared.instr.ReturnKind.{ReturnKind}
 use Rattle.model.specs.declared.instr.ReturnKind.TheVariants as kind
 use Rattle.model.specs.declared.primitives.PrimId.{PrimId}
 use Rattle.model.specs.declared.primitives.PrimId.TheVariants as p
 use Rattle.model.specs.Trees.{Bytes, Expr}
-use Rattle.model.specs.Target.{Name, Element}
 use Rattle.model.specs.Names.{prim_named, most_args}
 use Rattle.model.specs.Keywords.{counted, return_name}
 use Rattle.model.specs.Pattern.{KLen, KPos, KRPos, KTab, KRTab, KAny, KNotAny, KSpan, KBreak}
 use Rattle.model.specs.Stands.{Stands}
-use Rattle.model.specs.Values.{Value, Str, Int, Pat, Nam, Exp, Obj, Pattern, trees, Bounds, Key, IntegerAt, StringAt, Entry, Object, ArrayOf, TableOf, RecordOf, Function, Defined, Constructor, Field, Plain, set_plain, set_objects, set_var, keys_of}
-use Rattle.model.specs.Conversions.{Conv, Got, Bad, Op, Gives, Refuses, Faults, conv, then_conv, then_op, to_text, to_integer, to_pattern, to_name, to_label, to_variable, is_null, read_integer}
-use Rattle.model.specs.Operators.{fetch_op}
+use Rattle.model.specs.Values.{Str, Pat, Obj, Pattern, trees, Bounds, Key, IntegerAt, StringAt, Entry, Object, ArrayOf, Function, Defined, Constructor, Field}
+use Rattle.model.specs.Conversions.{Conv, Got, Bad, Op, Gives, then_conv}
 use Rattle.model.specs.Prototypes.{FunctionPrototype, function_prototype, TypePrototype, type_prototype, array_prototype, elements_in}
 use Rattle.model.specs.Aggregates as g
 use Rattle.model.specs.Aggregates.{place_from, place_of, pairs, new_object, array_op, copy_of, copy_op, field_values, all_integers, named_element, table_element, element_in, element_op, named_field, field_in, field_op, object_type, type_of, rows, row_count, rows_array, table_array, as_array}
-use Rattle.model.specs.Calls.{Given, AValue, AName, Saved, Kept, arg_at, saved_of, bind_arguments, restore, kept_of, enter_call, back, or_no_name, leave_op, as_value, as_name, construct_op, select_op}
-use Rattle.model.specs.Primitives.{Outcome, Returns, Calls, int_same, same_value, holds_if, compare_op, lgt_op, same_op, is_integer, size_op, trim_op, repeated, dupl_op, replaced_in, replace_op, remainder, remdr_op, or_fail, converted, set_function, set_fields, data_op, entry_label, entry_or, define_op, unit_number, unit_op, set_reads, set_writes, input_op, output_op, detach_op, returned, item_op, applied, prim_op}
+use Rattle.model.specs.Calls.{AName, Saved, Kept, arg_at, saved_of, bind_arguments, restore, kept_of, enter_call, back, or_no_name, leave_op, as_value, as_name, construct_op, select_op}
+use Rattle.model.specs.Primitives.{Outcome, Returns, Calls, same_value, holds_if, compare_op, same_op, is_integer, repeated, replaced_in, remainder, or_fail, converted, set_function, set_fields, data_op, entry_label, entry_or, define_op, unit_number, unit_op, set_reads, set_writes, returned, item_op, applied, prim_op}
 use Rattle.model.specs.Meaning.{Val, W, Given'}
 use Rattle.model.specs.Machine.{PCode, codes_of, MVal, MW, MGiven}
 use Rattle.model.specs.Alike.{VR, rstr, rint, rpat, rnam, rexp, robj, VRs, rnil, rcons, EntriesR, enil, econs, ObjectR, rarray, rtable, rrecord, ObjectsR, onil, ocons, GR, rval, rname, WR}

@@ -5,8 +5,8 @@ use Rattle.model.specs.declared.instr.ReturnKind.TheVariants as kind
 use Rattle.model.specs.declared.run.ErrorCode.TheVariants as error
 use Rattle.model.specs.Trees.{Bytes}
 use Rattle.model.specs.Target.{Name}
-use Rattle.model.specs.Keywords.{Keys, counted, return_name}
-use Rattle.model.specs.Values.{Value, Str, World, RecordOf, set_plain, set_var, keys_of, set_keys}
+use Rattle.model.specs.Keywords.{counted, return_name}
+use Rattle.model.specs.Values.{Value, Str, World, RecordOf, set_var, keys_of, set_keys}
 use Rattle.model.specs.Conversions.{Conv, Got, Bad, Op, Gives, Refuses, Faults, conv, then_op, to_name}
 use Rattle.model.specs.Operators.{fetch_op}
 use Rattle.model.specs.Aggregates.{new_object, field_values, field_op}

@@ -1,11 +1,8 @@
 -- What a program does.
-use Rattle.std.specs.Prelude.{ℕ, zero, suc, List, [], ◌∷◌, ◌++◌, ℤ, pos, int_le, Option, None, Some, Bool, ◌&&◌, if◌then◌else◌}
-use Rattle.model.specs.declared.instr.ArithOp.{ArithOp}
+use Rattle.std.specs.Prelude.{ℕ, zero, suc, List, [], ◌∷◌, ◌++◌, pos, int_le, Option, None, Some, Bool, ◌&&◌, if◌then◌else◌}
 use Rattle.model.specs.declared.instr.ArithOp.TheVariants as arith
-use Rattle.model.specs.declared.instr.SignOp.{SignOp}
 use Rattle.model.specs.declared.instr.SignOp.TheVariants as sign
 use Rattle.model.specs.declared.instr.ReturnKind.{ReturnKind}
-use Rattle.model.specs.declared.instr.ReturnKind.TheVariants as kind
 use Rattle.model.specs.declared.keys.KeyId.{KeyId}
 use Rattle.model.specs.declared.primitives.PrimId.{PrimId}
 use Rattle.model.specs.declared.run.ErrorCode.{ErrorCode}
@@ -14,7 +11,7 @@ use Rattle.model.specs.declared.run.Ending.{Ending}
 use Rattle.model.specs.declared.run.Ending.TheVariants as ending
 use Rattle.model.specs.declared.trees.Unary.TheVariants as u
 use Rattle.model.specs.declared.trees.Binary.TheVariants as b
-use Rattle.model.specs.Trees.{Bytes, Expr, Name, Integer, Literal, Keyword, Call, Reference, Apply, Combine, Args, Nil, More, Absent, Given, Place, Label, Computed, Goto, Next, Always, OnSuccess, OnFailure, Both, Body, Nothing, Evaluate, Match, Assign, Replace, Stmt, Plain, End}
+use Rattle.model.specs.Trees.{Bytes, Expr, Name, Integer, Literal, Keyword, Call, Reference, Apply, Combine, Args, Nil, More, Absent, Given, Place, Label, Computed, Goto, Always, OnSuccess, OnFailure, Both, Body, Nothing, Evaluate, Match, Assign, Replace, Stmt, Plain, End}
 use Rattle.model.specs.Names.{key_named, prim_named}
 use Rattle.model.specs.Target as target
 use Rattle.model.specs.Target.{Variable}
