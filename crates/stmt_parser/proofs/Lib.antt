@@ -1,0 +1,3 @@
+pub mod Lexed
+pub mod Digits
+pub mod Powers
