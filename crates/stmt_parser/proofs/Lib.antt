@@ -1,3 +1,5 @@
 pub mod Lexed
 pub mod Digits
 pub mod Powers
+pub mod Loops
+pub mod Rows

@@ -6,6 +6,11 @@ use Rattle.model.specs.Grammar.{grade}
 use Rattle.model.specs.Parse as spec
 use Rattle.model.specs.Parse.{Next, Ends, Sees, next}
 use Rattle.model.specs.Tokens.{Tok, Blank, tok}
+use Rattle.model.specs.Trees.{Args}
+use Rattle.model.specs.TreeViews.{args_of}
+use Rattle.model.specs.declared.trees.Argument.{Argument}
+use Rattle.std.specs.declared.alloc.Global.{Global}
+use Rattle.std.specs.declared.vec.Vec.{Vec}
 use Rattle.stmt_parser.specs.declared.marks.Role.{Role}
 use Rattle.stmt_parser.specs.declared.marks.Role.TheVariants as r
 use Rattle.stmt_parser.specs.declared.stop.Stop.{Stop}
@@ -55,3 +60,6 @@ Fails stop.Memory found = ⊤
 abbrev pub Reads : {A B : Type 0} → (B → A) → Option (A × List Tok) → Result B Stop → List Tok → Type 0
 Reads view found (Ok x) rest = found ≡ Some (view x, rest)
 Reads view found (Err s) rest = Fails s found
+
+abbrev pub arguments_of : Vec Argument Global → Args
+arguments_of v = args_of v.items

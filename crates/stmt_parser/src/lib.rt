@@ -2,6 +2,7 @@
 #![tactic(auto)]
 
 mod cursor;
+mod expressions;
 mod marks;
 mod parts;
 mod stop;
