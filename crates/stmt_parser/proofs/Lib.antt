@@ -3,3 +3,4 @@ pub mod Digits
 pub mod Powers
 pub mod Loops
 pub mod Rows
+pub mod Labels

@@ -6,8 +6,11 @@ use Rattle.model.specs.Grammar.{grade}
 use Rattle.model.specs.Parse as spec
 use Rattle.model.specs.Parse.{Next, Ends, Sees, next}
 use Rattle.model.specs.Tokens.{Tok, Blank, tok}
+use Rattle.model.specs.Trees as tree
 use Rattle.model.specs.Trees.{Args}
-use Rattle.model.specs.TreeViews.{args_of}
+use Rattle.model.specs.declared.trees.Place.{Place}
+use Rattle.model.specs.declared.trees.Stmt.{Stmt}
+use Rattle.model.specs.TreeViews.{args_of, place_of, stmt_of}
 use Rattle.model.specs.declared.trees.Argument.{Argument}
 use Rattle.std.specs.declared.alloc.Global.{Global}
 use Rattle.std.specs.declared.vec.Vec.{Vec}
@@ -63,3 +66,12 @@ Reads view found (Err s) rest = Fails s found
 
 abbrev pub arguments_of : Vec Argument Global → Args
 arguments_of v = args_of v.items
+
+abbrev pub other_place_of : Option Place → Option tree.Place
+other_place_of None = None
+other_place_of (Some p) = Some (place_of p)
+
+-- what all tokens come to
+abbrev pub Parses : Option tree.Stmt → Result Stmt Stop → Type 0
+Parses found (Ok s) = found ≡ Some (stmt_of s)
+Parses found (Err s) = Fails s found
