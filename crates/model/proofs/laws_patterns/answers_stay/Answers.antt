@@ -1,0 +1,8 @@
+use Rattle.model.proofs.PatternLaws.{ends_grow, scan_stays}
+use Rattle.model.proofs.laws_patterns.answers_stay.Goals as goal
+
+pub returns-clause-ends : goal.returns-clause-ends
+returns-clause-ends c = ends_grow
+
+pub returns-clause-scans : goal.returns-clause-scans
+returns-clause-scans c = scan_stays
