@@ -1,10 +1,10 @@
 -- Digits, one after the other.
-use Rattle.std.proofs.Common.{◌≡◌, refl, sym, ◌∙◌, ap, ℕ, zero, suc, ◌+◌, ◌-◌, ◌*◌, ◌<◌, ◌≤◌, ◌&&◌, ◌||◌, ◌==◌, Bool, true, false, List, [], ◌∷◌, ◌++◌, length, drop, get_or, arith}
+use Rattle.std.proofs.Common.{◌≡◌, refl, ap, ℕ, zero, suc, ◌+◌, ◌-◌, ◌*◌, ◌<◌, ◌≤◌, ◌&&◌, ◌||◌, ◌==◌, Bool, true, false, List, [], ◌∷◌, ◌++◌, length, drop, get_or, arith}
 use Rattle.std.proofs.lemmas.Bool.Decides.{nat_tests}
 use Rattle.std.specs.Prelude.{nat_le, if◌then◌else◌}
 use Rattle.model.specs.declared.tokens.TokenKind.TheVariants as kind
-use Rattle.model.specs.Cut.{Class, Space, Letter, Digit, Quote, Star, Dot, Underscore, Sign, Other, class, class_of_sign, digital, is_digit, all, IsToken}
-use Rattle.model.specs.Digits.{value_from, value}
+use Rattle.model.specs.Cut.{Class, Space, Letter, Digit, class, class_of_sign, digital, is_digit, all, IsToken}
+use Rattle.model.specs.Digits.{value_from}
 
 other_if : (b : Bool) (x y : Class) → digital x ≡ false → digital y ≡ false → digital (if b then x else y) ≡ false
 other_if true x y h i = h
@@ -27,7 +27,7 @@ pub digit_least : (d : ℕ) → is_digit d ≡ true → 48 ≤ d
 unfolding class
 digit_least d h =
     let both = third (d == 32) ((nat_le 65 d && nat_le d 90) || (nat_le 97 d && nat_le d 122)) (nat_le 48 d && nat_le d 57) _
-        (other_if (d == 39 || d == 34) _ _ refl (other_if (d == 42) _ _ refl (other_if (d == 46) _ _ refl (other_if (d == 95) _ _ refl (no_sign d))))) h in
+    (other_if (d == 39 || d == 34) _ _ refl (other_if (d == 42) _ _ refl (other_if (d == 46) _ _ refl (other_if (d == 95) _ _ refl (no_sign d))))) h in
     grind (arith, nat_tests)
 
 pub value_least : (n : ℕ) (ds : List ℕ) → n ≤ value_from n ds

@@ -1,10 +1,10 @@
 -- A name that comes next, or none.
 use Rattle.std.proofs.Common.{◌≡◌, refl, subst, true, false, List, [], ◌∷◌, ℕ}
-use Rattle.std.specs.Prelude.{Option, Some, None}
+use Rattle.std.specs.Prelude.{Some, None}
 use Rattle.model.specs.declared.tokens.TokenKind.{TokenKind}
 use Rattle.model.specs.declared.tokens.TokenKind.TheVariants as kind
 use Rattle.model.specs.ParseStatements.{starts_word, label}
-use Rattle.model.specs.Tokens.{Tok, Blank, Word, Digits, Quoted, Sign, tok_by}
+use Rattle.model.specs.Tokens.{Tok, Word, tok_by}
 
 pub no_label : (ts : List Tok) → starts_word ts ≡ false → label ts ≡ Some (None, ts)
 unfolding starts_word

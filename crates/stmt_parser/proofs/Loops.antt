@@ -1,6 +1,5 @@
 -- Turns of the loops.
-use Rattle.std.proofs.Common.{◌≡◌, refl, sym, ◌∙◌, ap, subst, ℕ, zero, suc, ◌+◌, ◌-◌, ◌<◌, ◌≤◌, ◌==◌, Bool, true, false, List, [], ◌∷◌, ◌++◌, length, map, arith}
-use Rattle.std.proofs.lemmas.List.{map-append}
+use Rattle.std.proofs.Common.{◌≡◌, refl, sym, ◌∙◌, ap, subst, ℕ, zero, suc, ◌+◌, ◌-◌, ◌<◌, ◌≤◌, ◌==◌, true, false, List, [], ◌∷◌, ◌++◌, length, arith}
 use Rattle.std.specs.Prelude.{Option, Some, None, is_some, if◌then◌else◌}
 use Rattle.model.specs.declared.tokens.Mark.TheVariants as mark
 use Rattle.model.specs.declared.trees.Argument.{Argument}
@@ -9,7 +8,6 @@ use Rattle.model.specs.declared.trees.Binary.TheVariants as binary
 use Rattle.model.specs.Grammar.{grade}
 use Rattle.model.specs.Parse.{Parser, bind, Next, Ends, Sees, next, on, lefts, rights, graded, one, several, sees, tail}
 use Rattle.model.specs.Tokens.{Tok}
-use Rattle.model.specs.Trees as tree
 use Rattle.model.specs.Trees.{Expr, Combine, Arg, Args, Nil, More}
 use Rattle.model.specs.TreeViews.{arg_of, args_of}
 use Rattle.model.proofs.ParseComplete.{on_go}

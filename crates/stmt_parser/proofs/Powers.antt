@@ -1,5 +1,5 @@
 -- A chain of `**`, one operand after the other.
-use Rattle.std.proofs.Common.{◌≡◌, refl, sym, ◌∙◌, ap, List, [], ◌∷◌, ◌++◌}
+use Rattle.std.proofs.Common.{◌≡◌, refl, ap, List, [], ◌∷◌, ◌++◌}
 use Rattle.model.specs.declared.trees.Binary.TheVariants as binary
 use Rattle.model.specs.Trees.{Expr, Combine}
 use Rattle.stmt_parser.specs.Powers.{powers}

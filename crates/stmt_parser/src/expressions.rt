@@ -23,12 +23,7 @@ pub(crate) fn whole(alloc: Global, cursor: &mut Cursor<'_>, depth: usize) -> Res
 /// An expression of a grade.
 #[cycle(expr)]
 #[tactic(auto, unfolding(model::specs::Parse::graded, model::specs::Parse::bind))]
-fn graded(
-    alloc: Global,
-    cursor: &mut Cursor<'_>,
-    depth: usize,
-    grade: u8,
-) -> Result<Expr, Stop>
+fn graded(alloc: Global, cursor: &mut Cursor<'_>, depth: usize, grade: u8) -> Result<Expr, Stop>
     ensures { Reads expr_of (spec.graded (spec.element depth) grade cursor.old) result cursor.new }
 {
     if grade == 0 {
@@ -84,11 +79,7 @@ fn rights(alloc: Global, cursor: &mut Cursor<'_>, depth: usize) -> Result<Expr, 
 /// An element; brackets and unary operators are nested less deep than the number.
 #[cycle(expr)]
 #[tactic(auto, unfolding(model::specs::Parse::element, model::specs::Parse::element_step, model::specs::Parse::bind))]
-pub(crate) fn element(
-    alloc: Global,
-    cursor: &mut Cursor<'_>,
-    depth: usize,
-) -> Result<Expr, Stop>
+pub(crate) fn element(alloc: Global, cursor: &mut Cursor<'_>, depth: usize) -> Result<Expr, Stop>
     ensures { Reads expr_of (spec.element depth cursor.old) result cursor.new }
 {
     if depth == 0 {
@@ -119,11 +110,13 @@ fn keyword(alloc: Global, cursor: &mut Cursor<'_>) -> Result<Expr, Stop>
     ensures { Reads expr_of (spec.keyword_of (spec.whole 0) cursor.old) result cursor.new }
 {
     match cursor.take() {
-        Some(Token {
-            kind: TokenKind::Name,
-            text,
-            ..
-        }) => Ok(Expr::Keyword(Vec::from_slice(alloc, text)?)),
+        Some(
+            Token {
+                kind: TokenKind::Name,
+                text,
+                ..
+            },
+        ) => Ok(Expr::Keyword(Vec::from_slice(alloc, text)?)),
         _ => Err(Stop::NoTree),
     }
 }
@@ -147,12 +140,7 @@ fn bracketed(alloc: Global, cursor: &mut Cursor<'_>, depth: usize) -> Result<Exp
 /// A name, a call or a reference, after the name.
 #[cycle(expr)]
 #[tactic(auto, unfolding(model::specs::Parse::named, model::specs::Parse::bind, model::specs::Parse::expect))]
-fn named(
-    alloc: Global,
-    cursor: &mut Cursor<'_>,
-    depth: usize,
-    name: &[u8],
-) -> Result<Expr, Stop>
+fn named(alloc: Global, cursor: &mut Cursor<'_>, depth: usize, name: &[u8]) -> Result<Expr, Stop>
     ensures { Reads expr_of (spec.named (spec.whole depth) name.now cursor.old) result cursor.new }
 {
     let name = Vec::from_slice(alloc, name)?;

@@ -88,11 +88,13 @@ fn place(alloc: Global, cursor: &mut Cursor<'_>, depth: usize) -> Result<Place, 
         return Ok(Place::Computed(element(alloc, cursor, depth)?));
     }
     match cursor.take() {
-        Some(Token {
-            kind: TokenKind::Name,
-            text,
-            ..
-        }) => Ok(Place::Label(Vec::from_slice(alloc, text)?)),
+        Some(
+            Token {
+                kind: TokenKind::Name,
+                text,
+                ..
+            },
+        ) => Ok(Place::Label(Vec::from_slice(alloc, text)?)),
         _ => Err(Stop::NoTree),
     }
 }

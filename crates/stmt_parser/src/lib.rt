@@ -11,4 +11,3 @@ mod statements;
 mod stop;
 
 pub use statements::parse_statement;
-

@@ -18,19 +18,10 @@ pub(crate) fn unary(alloc: Global, op: Unary, operand: Expr) -> Result<Expr, All
     Ok(Expr::Unary(op, Box::new(alloc, operand)?))
 }
 
-pub(crate) fn binary(
-    alloc: Global,
-    op: Binary,
-    left: Expr,
-    right: Expr,
-) -> Result<Expr, AllocError>
+pub(crate) fn binary(alloc: Global, op: Binary, left: Expr, right: Expr) -> Result<Expr, AllocError>
     ensures { IfOk result (λ e. expr_of e ≡ tree.Combine op (expr_of left) (expr_of right)) }
 {
-    Ok(Expr::Binary(
-        op,
-        Box::new(alloc, left)?,
-        Box::new(alloc, right)?,
-    ))
+    Ok(Expr::Binary(op, Box::new(alloc, left)?, Box::new(alloc, right)?))
 }
 
 /// The operands of `**` with the last, grouped to the right.

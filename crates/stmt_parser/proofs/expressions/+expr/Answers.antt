@@ -1,23 +1,21 @@
-use Rattle.std.proofs.Common.{rules, arith, ◌≡◌, refl, ◌∙◌, ap, subst, sym, suc, ◌-◌, ◌+◌, [], ◌∷◌, ◌++◌, true, false, List, map, length}
+use Rattle.std.proofs.Common.{rules, arith, ◌≡◌, refl, ◌∙◌, ap, subst, sym, suc, ◌-◌, ◌+◌, [], ◌∷◌, ◌++◌, true, false, map, length}
 use Rattle.std.proofs.lemmas.List.{map-append}
-use Rattle.std.specs.Prelude.{Some, None, is_some, not}
+use Rattle.std.specs.Prelude.{Some, is_some, not}
 use Rattle.std.proofs.lemmas.Grind.{common_steps}
 use Rattle.model.specs.Parse as spec
 use Rattle.model.specs.Parse.{lefts, rights, graded, element}
 use Rattle.model.specs.Tokens as m
-use Rattle.model.specs.Trees as tree
 use Rattle.model.specs.TreeViews.{expr_of, args_of}
-use Rattle.stmt_parser.specs.Powers.{powers}
 use Rattle.stmt_parser.specs.Views as view
 use Rattle.stmt_parser.specs.Views.{Reads}
-use Rattle.stmt_parser.proofs.Loops.{one_more, no_more, lefts_stop, lefts_none, lefts_go, lefts_end, graded_left, onto, rights_none, rights_stop, rights_go, rights_start, rights_end, stopped, went_on, prepend, several_go, several_end, several_start}
+use Rattle.stmt_parser.proofs.Loops.{one_more, no_more, lefts_stop, lefts_go, lefts_end, graded_left, onto, rights_none, rights_stop, rights_go, rights_start, rights_end, stopped, went_on, prepend, several_go, several_end, several_start}
 use Rattle.stmt_parser.proofs.Rows.{call_is, reference_is}
 use Rattle.stmt_parser.proofs.expressions.+expr.Goals as goal
 
 pub graded-returns : goal.graded-returns
 graded-returns t c =
     subst (λ o. Reads expr_of o c.lefts.result c.lefts.new.cursor)
-      (sym (graded_left (element c.args.depth) c.args.grade (c.args.grade - 1) (omega arith) (grind arith) c.args.cursor.now (expr_of c.in_ok-first.first) c.graded.new.cursor c.in_ok-first.ensures)) c.lefts.ensures
+    (sym (graded_left (element c.args.depth) c.args.grade (c.args.grade - 1) (omega arith) (grind arith) c.args.cursor.now (expr_of c.in_ok-first.first) c.graded.new.cursor c.in_ok-first.ensures)) c.lefts.ensures
 
 -- ---- elements
 pub element-returns-in-Name : goal.element-returns-in-Name
@@ -118,7 +116,7 @@ rights-loop-turn-preserved t c =
     let items : c.push.new.self.items ≡ c.loop-turn.operands.items ++ c.in_ok-operand.operand ∷ [] = c.in_ok-push.ensures.items in
     e ∙ rights_go (graded (element c.args.depth) 1) (c.len-turn-end.result - (c.loop-turn._turn + 1)) c.loop-turn.cursor (map expr_of c.loop-turn.operands.items) (expr_of c.in_ok-operand.operand) c.graded.new.cursor s.0 c.operator.new.self c.in_ok-operand.ensures s.1 s.2
     ∙ ap (λ xs. onto xs (rights (graded (element c.args.depth) 1) 2 (c.len-turn-end.result - (c.loop-turn._turn + 1)) c.operator.new.self))
-        (sym (map-append expr_of c.loop-turn.operands.items (c.in_ok-operand.operand ∷ [])) ∙ ap (map expr_of) (sym items))
+    (sym (map-append expr_of c.loop-turn.operands.items (c.in_ok-operand.operand ∷ [])) ∙ ap (map expr_of) (sym items))
 
 pub rights-returns : goal.rights-returns
 rights-returns t c =

@@ -1,4 +1,4 @@
-use Rattle.std.proofs.Common.{refl, arith, rules, subst, sym}
+use Rattle.std.proofs.Common.{refl, arith}
 use Rattle.model.specs.Digits.{value}
 use Rattle.stmt_parser.proofs.Digits.{turn}
 use Rattle.stmt_parser.proofs.parts.integer.Goals as goal

@@ -1,7 +1,5 @@
 use Rattle.std.proofs.Common.{◌≡◌, sym, ◌∙◌, ap, map, ◌∷◌, ◌++◌, []}
 use Rattle.std.proofs.lemmas.List.{map-append}
-use Rattle.std.specs.Prelude.{Some}
-use Rattle.std.specs.Option.{option_to_list}
 use Rattle.model.specs.TreeViews.{expr_of}
 use Rattle.stmt_parser.specs.Powers.{powers}
 use Rattle.stmt_parser.proofs.Powers.{powers_last}

@@ -1,4 +1,4 @@
-use Rattle.std.proofs.Common.{rules, arith, ◌≡◌, refl, sym, ◌∙◌, ap, subst, ◌≤◌, List, [], ◌∷◌, length}
+use Rattle.std.proofs.Common.{arith, ◌≡◌, refl, subst, ◌≤◌, List, [], ◌∷◌, length}
 use Rattle.model.specs.declared.trees.Argument.{Argument}
 use Rattle.model.specs.Trees as m
 use Rattle.model.specs.Grammar as grammar

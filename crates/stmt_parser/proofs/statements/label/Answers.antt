@@ -1,4 +1,4 @@
-use Rattle.std.proofs.Common.{◌≡◌, sym, ◌∙◌, ap}
+use Rattle.std.proofs.Common.{sym, ◌∙◌, ap}
 use Rattle.std.specs.Prelude.{Some}
 use Rattle.stmt_parser.proofs.Labels.{no_label, a_label}
 use Rattle.stmt_parser.proofs.statements.label.Goals as goal

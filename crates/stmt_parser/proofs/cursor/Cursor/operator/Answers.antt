@@ -13,6 +13,7 @@ invariant_of-self c = subst Lexed (sym (rest_is c.next-op.result.1 c.self.inside
 pub returns-in-Some : goal.returns-in-Some
 returns-in-Some c =
     let seen = subst (λ o. view.Seen c.args.self.now o c.next-op.result.1) c.in-Some.is c.next-op.ensures in
-    let cut : drop c.next-op.result.1 (toks c.self.inside.rest.now) ≡ toks (drop c.next-op.result.1 c.self.inside.rest.now) = drop-map tok c.next-op.result.1 c.self.inside.rest.now in
-    (seen.0 ∙ ap (λ x. spec.Sees c.in-Some.op x) (ap (drop c.next-op.result.1) (sym c.self.view_is) ∙ cut ∙ ap toks (sym (rest_is c.next-op.result.1 c.self.inside.rest.now))),
-      sym c.grade.ensures ∙ c.if-grade-wanted.true)
+    let cut : drop c.next-op.result.1 (toks c.self.inside.rest.now) ≡ toks (drop c.next-op.result.1 c.self.inside.rest.now) = drop-map tok c.next-op.result.1 c.self.inside.rest.now in (
+      seen.0 ∙ ap (λ x. spec.Sees c.in-Some.op x) (ap (drop c.next-op.result.1) (sym c.self.view_is) ∙ cut ∙ ap toks (sym (rest_is c.next-op.result.1 c.self.inside.rest.now))),
+      sym c.grade.ensures ∙ c.if-grade-wanted.true,
+    )
