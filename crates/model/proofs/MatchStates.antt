@@ -7,7 +7,7 @@ use Rattle.model.specs.Search.{Script, scan}
 use Rattle.model.specs.Steps.{Code, Answers, State, Starting, Going, Returning, Waits, Over, step, steps, event_of, match_steps, with_more, IsSupplied}
 use Rattle.model.specs.Stands as St
 use Rattle.model.specs.Stands.{AlikeEvent}
-use Rattle.model.specs.MatchStates.{IsAfter, StatesAnswerAsScan, StatesComeToScan, StatesAnswerFirstEnd, StatesComeToFirstEnd, StatesAnswerLiterals, StatesComeToAnswer, StepsLeadOn, AnswersLeadOn}
+use Rattle.model.specs.MatchStates.{IsAfter, ComesToScan, ComesToFirstEnd, ComesToAnswer, StatesAnswerAsScan, StatesAnswerFirstEnd, StatesAnswerLiterals, StatesCome, StepsLeadOn, AnswersLeadOn}
 use Rattle.model.specs.PatternLaws.{TellsRight}
 use Rattle.model.proofs.CodeEvents.{steps_of_scan, scan_of_steps}
 use Rattle.model.proofs.FirstEnd.{scan_of_first, first_of_scan}
@@ -54,7 +54,7 @@ answer_as_scan s code st n xs p left b m t u (sp, al, h) o =
     let r = scan_of_steps s xs p code sp (m + n) left b t u al (subst (λ z. event_of z ≢ Running) e o) in
     (r.0, subst (λ z. AlikeEvent xs (scan s r.0 p left b t) (event_of z)) (sym e) r.1)
 
-pub come_to_scan : StatesComeToScan
+come_to_scan : (s : List ℕ) (code : Code) (st : State) → ComesToScan s code st
 come_to_scan s code st xs p left b m t u (sp, al, h) n o =
     let r = steps_of_scan s xs p code sp n left b t u al o in
     let k = comes s code left b u m st h r.0 (alike_tells xs (scan s n p left b t) (event_of (match_steps s code left b u r.0)) r.1).1 in
@@ -66,7 +66,7 @@ answer_first_end s code st n xs p left b m pl (sp, al, h) o =
     let f = first_of_scan s r.0 p pl left b (alike_tells xs (scan s r.0 p left b []) (event_of (steps s code n st)) r.1).0 in
     (f.0, subst (λ z. AlikeEvent xs z (event_of (steps s code n st))) (sym f.1) r.1)
 
-pub come_to_first_end : StatesComeToFirstEnd
+come_to_first_end : (s : List ℕ) (code : Code) (st : State) → ComesToFirstEnd s code st
 come_to_first_end s code st xs p left b m pl (sp, al, h) n o =
     let f = scan_of_first s n p pl left b o in
     let r = come_to_scan s code st xs p left b m [] [] (sp, al, h) f.0 (λ q. o (sym f.1 ∙ q)) in
@@ -76,11 +76,18 @@ pub answer_literals : StatesAnswerLiterals
 answer_literals s code st n xs p left b m l (sp, al, h) =
     subst (λ z. TellsRight s p left b (event_of z)) (sym (on s code left b [] m st h n)) (literal_runs_right s xs p code l sp (m + n) left b)
 
-pub come_to_answer : StatesComeToAnswer
+come_to_answer : (s : List ℕ) (code : Code) (st : State) → ComesToAnswer s code st
 come_to_answer s code st xs p left b m l (sp, al, h) =
     let r = literals_run s xs p code l sp left b in
     let k = comes s code left b [] m st h r.0 r.1 in
     (k.0, subst (λ z. z ≢ Running) k.1 r.1)
+
+pub come : StatesCome
+come s code st = record {
+  to_scan = come_to_scan s code st;
+  to_first_end = come_to_first_end s code st;
+  to_answer = come_to_answer s code st;
+}
 
 -- ---- leading on
 pub steps_lead_on : StepsLeadOn

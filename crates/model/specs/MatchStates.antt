@@ -40,24 +40,24 @@ AnswersLiterals s code old new = (xs : ℕ → Option Expr) (p : Pat) (left b m 
 abbrev pub ComesToAnswer : List ℕ → Code → State → Type 0
 ComesToAnswer s code st = (xs : ℕ → Option Expr) (p : Pat) (left b m : ℕ) → IsOfLiterals p → IsMatchOf xs s p code left b [] [] m st → (k : ℕ) × (event_of (steps s code k st) ≢ Running)
 
+-- all three
+pub record Comes (s : List ℕ) (code : Code) (st : State) : Type 0 where
+  pub to_scan : ComesToScan s code st
+  pub to_first_end : ComesToFirstEnd s code st
+  pub to_answer : ComesToAnswer s code st
+
 -- ---- the laws: at each state of a match, for so many steps more
 abbrev pub StatesAnswerAsScan : Type 0
 StatesAnswerAsScan = (s : List ℕ) (code : Code) (st : State) (n : ℕ) → AnswersAsScan s code st (steps s code n st)
 
-abbrev pub StatesComeToScan : Type 0
-StatesComeToScan = (s : List ℕ) (code : Code) (st : State) → ComesToScan s code st
-
 abbrev pub StatesAnswerFirstEnd : Type 0
 StatesAnswerFirstEnd = (s : List ℕ) (code : Code) (st : State) (n : ℕ) → AnswersFirstEnd s code st (steps s code n st)
-
-abbrev pub StatesComeToFirstEnd : Type 0
-StatesComeToFirstEnd = (s : List ℕ) (code : Code) (st : State) → ComesToFirstEnd s code st
 
 abbrev pub StatesAnswerLiterals : Type 0
 StatesAnswerLiterals = (s : List ℕ) (code : Code) (st : State) (n : ℕ) → AnswersLiterals s code st (steps s code n st)
 
-abbrev pub StatesComeToAnswer : Type 0
-StatesComeToAnswer = (s : List ℕ) (code : Code) (st : State) → ComesToAnswer s code st
+abbrev pub StatesCome : Type 0
+StatesCome = (s : List ℕ) (code : Code) (st : State) → Comes s code st
 
 -- steps without an event on the way lead on
 abbrev pub StepsLeadOn : Type 0

@@ -1,7 +1,7 @@
 //! The laws of patterns. Each function does nothing; its contract states a law, and who calls it may use the law.
 
 ghost use Rattle.model.specs.PatternLaws.{EndsGrow, SearchStays, ScanStays, EndsPermitted, StepsOfScan, ScanOfSteps, ScanOfFirst, FirstOfScan, AnswersComeLater, StepsAreSound, LiteralsScanned, LiteralScansRight, LiteralsRun, LiteralRunsRight};
-ghost use Rattle.model.specs.MatchStates.{StatesAnswerAsScan, StatesComeToScan, StatesAnswerFirstEnd, StatesComeToFirstEnd, StatesAnswerLiterals, StatesComeToAnswer, StepsLeadOn, AnswersLeadOn};
+ghost use Rattle.model.specs.MatchStates.{StatesAnswerAsScan, StatesAnswerFirstEnd, StatesAnswerLiterals, StatesCome, StepsLeadOn, AnswersLeadOn};
 ghost use Rattle.model.specs.PatternCases.{ScansMeetCases, StepsMeetCases, ScansMeetQuestions, StepsMeetQuestions, NestedEnds};
 
 /// What is answered at a bound stays at each greater one.
@@ -56,11 +56,9 @@ pub fn literals_are_matched()
 /// to a right answer if it is of literals, `|` and blank.
 pub fn match_states_answer()
     ensures scan { StatesAnswerAsScan }
-    ensures comes_to_scan { StatesComeToScan }
     ensures first_end { StatesAnswerFirstEnd }
-    ensures comes_to_first_end { StatesComeToFirstEnd }
     ensures literals { StatesAnswerLiterals }
-    ensures comes_to_answer { StatesComeToAnswer }
+    ensures comes { StatesCome }
 {}
 
 /// A state of a match stays one under further steps without an event on the way, and under further answers.
