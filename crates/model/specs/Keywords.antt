@@ -79,8 +79,19 @@ put_key k.RtnType z ks = ks
 
 abbrev pub first_keys : Keys
 first_keys = record {
-  anchor = pos 0; fullscan = pos 1; trim = pos 0; input = pos 1; output = pos 1; stlimit = pos 50000; maxlngth = pos 5000;
-  stcount = pos 0; stno = pos 0; lastno = pos 0; stfcount = pos 0; fnclevel = pos 0; rtntype = [];
+  anchor = pos 0;
+  fullscan = pos 1;
+  trim = pos 0;
+  input = pos 1;
+  output = pos 1;
+  stlimit = pos 50000;
+  maxlngth = pos 5000;
+  stcount = pos 0;
+  stno = pos 0;
+  lastno = pos 0;
+  stfcount = pos 0;
+  fnclevel = pos 0;
+  rtntype = [];
 }
 
 -- one more, but never past the greatest integer

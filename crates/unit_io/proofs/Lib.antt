@@ -1,2 +1,3 @@
 pub mod FirstLine
 pub mod OpenSides
+pub mod Calls
