@@ -1,12 +1,14 @@
 -- Code at a place, and what is still to match there.
-use Rattle.std.proofs.Common.{◌≡◌, ℕ, ℤ, zero, suc, ◌+◌, ◌-◌, List, [], ◌∷◌, ◌++◌, length, refl, sym, ◌∙◌, ap, subst, arith, ◌≤◌, ◌<◌, ◌⊎◌, inl, inr, Option, Some, None, append_assoc, length-append}
-use Rattle.std.specs.Prelude.{min, slice_get, pos, negsuc}
+use Rattle.std.proofs.Common.{◌≡◌, ℕ, ℤ, zero, suc, ◌+◌, List, [], ◌∷◌, ◌++◌, length, refl, sym, ◌∙◌, ap, subst, arith, ◌≤◌, ◌<◌, ◌⊎◌, inl, inr, Option, Some, None, append_assoc, length-append}
+use Rattle.std.specs.Prelude.{slice_get, pos, negsuc}
 use Rattle.std.proofs.Math.Seq.{get_or-append_seam}
-use Rattle.std.proofs.lemmas.Option.{slice_get-get_or, slice_get_past, slice_get_within}
+use Rattle.std.proofs.lemmas.Option.{slice_get-get_or, slice_get_past}
 use Rattle.model.specs.Pattern.{Lit, Pat, Plain, Succeed, Abort, Fence, Cat, Alt, Arbno, Cond, Imm, At, Defer, DeferBasic, Name, Expr, Instr, Do, Split, Jmp, DoSucceed, DoAbort, DoFence, Open, Close, Say, AtCursor, Eval, EvalBasic}
 use Rattle.model.specs.Search.{Goal, Part, Closing, Saying}
 use Rattle.model.specs.Steps.{Code, Note, Opened, Left, at_distance, past_jump, on_after}
 use Rattle.model.specs.Stands.{Stands}
+use Rattle.model.specs.PatternCode.{led_past, exit_past, exits_past, alt_code, arbno_code}
+use Rattle.model.proofs.Exits.{led_here, led_not, Within, exits_none, exits_length, exits_before, exits_last, exits_twice, within_append, within_exits}
 
 -- from p to x by k jumps
 abbrev pub Jumps : Code → ℕ → ℕ → ℕ → Type 0
@@ -80,92 +82,201 @@ leads_on : (code : Code) (k p y x : ℕ) → Leads code y x → Jumps code k p y
 leads_on code zero p y x g h = subst (λ z. Leads code z x) (sym h) g
 leads_on code (suc k) p y x g h = let r = leads_on code k (at_distance code p h.0) y x g h.2 in (suc r.0, (h.0, h.1, r.1))
 
--- with its ends leading further
-further : (xs : ℕ → Option Expr) (code : Code) (q : Pat) (p y x : ℕ) → Leads code y x → StandsAt xs code q p y → StandsAt xs code q p x
-further xs code (Plain k) p y x g (inl (e, l)) = inl (e, leads_on code l.0 p y x g l.1)
-further xs code (Plain k) p y x g (inr (e, l)) = inr (e, leads_on code l.0 (p + 1) y x g l.1)
-further xs code Succeed p y x g h = (h.0, leads_on code h.1.0 (p + 1) y x g h.1.1)
-further xs code Abort p y x g h = h
-further xs code Fence p y x g h = (h.0, leads_on code h.1.0 (p + 1) y x g h.1.1)
-further xs code (Cat q r) p y x g h = (h.0, h.1, further xs code r h.0 y x g h.2)
-further xs code (Alt q r) p y x g h =
-    (h.0, h.1, further xs code q (p + 1) y x g h.2, further xs code r (at_distance code p h.0) y x g h.3)
-further xs code (Arbno q) p y x g h = (h.0, h.1, leads_on code h.2.0 (p + 1) y x g h.2.1, h.3)
-further xs code (Cond q n) p y x g h = (h.0, h.1, h.2, h.3, leads_on code h.4.0 (h.1 + 1) y x g h.4.1)
-further xs code (Imm q n) p y x g h = (h.0, h.1, h.2, h.3, leads_on code h.4.0 (h.1 + 1) y x g h.4.1)
-further xs code (At n) p y x g h = (h.0, leads_on code h.1.0 (p + 1) y x g h.1.1)
-further xs code (Defer e) p y x g h = (h.0, h.1, h.2, leads_on code h.3.0 (p + 1) y x g h.3.1)
-further xs code (DeferBasic j e) p y x g h = (h.0, h.1, h.2, leads_on code h.3.0 (p + 1) y x g h.3.1)
+-- what has no instruction stands wherever its end is led to
+empty_stands : (xs : ℕ → Option Expr) (code : Code) (q : Pat) (cq : Code) (p x : ℕ) → Stands xs q cq → length cq ≡ 0 → Leads code p x → StandsAt xs code q p x
+empty_stands xs code (Plain (Lit [])) cq p x st z g = inl (refl, g)
+empty_stands xs code (Plain (Lit (b ∷ w))) cq p x st z g = absurd (omega (arith, ap length st, z))
+empty_stands xs code (Plain k) cq p x st z g = absurd (omega (arith, ap length st, z))
+empty_stands xs code Succeed cq p x st z g = absurd (omega (arith, ap length st, z))
+empty_stands xs code Abort cq p x st z g = absurd (omega (arith, ap length st, z))
+empty_stands xs code Fence cq p x st z g = absurd (omega (arith, ap length st, z))
+empty_stands xs code (Cat q r) cq p x (ca, cb, sa, sb, e) z g =
+    let n : length cq ≡ length ca + length cb = ap length e ∙ length-append ca cb in
+    (x, empty_stands xs code q ca p x sa (omega (arith, n, z)) g, empty_stands xs code r cb x x sb (omega (arith, n, z)) (0, refl))
+empty_stands xs code (Alt q r) cq p x (ca, cb, sa, sb, e) z g = absurd (omega (arith, ap length e, z))
+empty_stands xs code (Arbno q) cq p x (ca, sa, e) z g = absurd (omega (arith, ap length e, z))
+empty_stands xs code (Cond q n) cq p x (ca, sa, e) z g = absurd (omega (arith, ap length e, z))
+empty_stands xs code (Imm q n) cq p x (ca, sa, e) z g = absurd (omega (arith, ap length e, z))
+empty_stands xs code (At n) cq p x st z g = absurd (omega (arith, ap length st, z))
+empty_stands xs code (Defer e) cq p x (k, ek, st) z g = absurd (omega (arith, ap length st, z))
+empty_stands xs code (DeferBasic j e) cq p x (k, ek, st) z g = absurd (omega (arith, ap length st, z))
 
--- what has an instruction lies within the code
-has_within : (code : Code) (p : ℕ) (i : Instr) (is : Code) → HasAt code p (i ∷ is) → p + length (i ∷ is) ≤ length code
-has_within code p i [] h = omega (arith, slice_get_within code p i h.0)
-has_within code p i (j ∷ is) h = omega (arith, has_within code (p + 1) j is h.1)
-
-one : (code cq : Code) (i : Instr) (p : ℕ) → cq ≡ i ∷ [] → HasAt code p cq → (slice_get code p ≡ Some i) × Leads code (p + 1) (p + length cq)
-one code cq i p e h = let g = subst (HasAt code p) e h in (g.0, (0, omega (arith, ap length e)))
-
-pub stands_at : (xs : ℕ → Option Expr) (code : Code) (q : Pat) (cq : Code) (p : ℕ) → Stands xs q cq → HasAt code p cq → StandsAt xs code q p (p + length cq)
-stands_at xs code (Plain (Lit [])) cq p st h = inl (refl, (0, omega (arith, ap length st)))
-stands_at xs code (Plain (Lit (b ∷ w))) cq p st h = inr (one code cq (Do (Lit (b ∷ w))) p st h)
-stands_at xs code (Plain k) cq p st h = inr (one code cq (Do k) p st h)
-stands_at xs code Succeed cq p st h = one code cq DoSucceed p st h
-stands_at xs code Abort cq p st h = (one code cq DoAbort p st h).0
-stands_at xs code Fence cq p st h = one code cq DoFence p st h
-stands_at xs code (Cat q r) cq p (ca, cb, sa, sb, e) h =
-    let g = subst (HasAt code p) e h in
-    let len : p + length ca + length cb ≡ p + length cq = omega (arith, ap length e, length-append ca cb) in (
-      p + length ca,
-      stands_at xs code q ca p sa (has_front code p ca cb g),
-      subst (StandsAt xs code r (p + length ca)) len (stands_at xs code r cb (p + length ca) sb (has_back code p ca cb g)),
-    )
-stands_at xs code (Alt q r) cq p (ca, cb, sa, sb, e) h =
-    let g = subst (HasAt code p) e h in
+-- no distance of it leads past its end
+stands_within : (xs : ℕ → Option Expr) (q : Pat) (cq : Code) → Stands xs q cq → Within 0 cq
+stands_within xs (Plain (Lit [])) cq st = subst (Within 0) (sym st) tt
+stands_within xs (Plain (Lit (b ∷ w))) cq st = subst (Within 0) (sym st) (tt, tt)
+stands_within xs (Plain k) cq st = subst (Within 0) (sym st) (tt, tt)
+stands_within xs Succeed cq st = subst (Within 0) (sym st) (tt, tt)
+stands_within xs Abort cq st = subst (Within 0) (sym st) (tt, tt)
+stands_within xs Fence cq st = subst (Within 0) (sym st) (tt, tt)
+stands_within xs (Cat q r) cq (ca, cb, sa, sb, e) =
+    subst (Within 0) (sym e) (within_append 0 0 ca cb (stands_within xs q ca sa) (omega arith) (stands_within xs r cb sb))
+stands_within xs (Alt q r) cq (ca, cb, sa, sb, e) =
+    let out : Code = exits_past (length cb + 1) ca in
     let j : Code = Jmp (pos (length cb + 1)) ∷ cb in
-    let b = has_back code (p + 1) ca j g.1 in
-    let len = length-append ca j in
-    let w = has_within code p (Split (pos (length ca + 2))) (ca ++ j) g in
-    let e1 : min (p + 1 + length ca + (length cb + 1)) (length code) ≡ p + length cq = omega (arith, ap length e, len, w) in
-    let e2 : p + 1 + length ca + 1 ≡ min (p + (length ca + 2)) (length code) = omega (arith, len, w) in
-    let e3 : min (p + (length ca + 2)) (length code) + length cb ≡ p + length cq = omega (arith, ap length e, len, w) in (
-      pos (length ca + 2),
-      g.0,
-      further xs code q (p + 1) (p + 1 + length ca) (p + length cq) (1, (pos (length cb + 1), b.0, e1)) (stands_at xs code q ca (p + 1) sa (has_front code (p + 1) ca j g.1)),
-      subst (StandsAt xs code r (min (p + (length ca + 2)) (length code))) e3 (stands_at xs code r cb (min (p + (length ca + 2)) (length code)) sb (subst (λ z. HasAt code z cb) e2 b.1)),
+    subst (Within 0) (sym e) (
+      omega (arith, length-append out j, exits_length (length cb + 1) ca),
+      within_append 0 (length cb + 1) out j (within_exits (length cb + 1) ca (stands_within xs q ca sa)) (omega arith) (omega arith, stands_within xs r cb sb),
     )
-stands_at xs code (Arbno q) cq p (ca, sa, e) h =
-    let g = subst (HasAt code p) e h in
+stands_within xs (Arbno q) cq (ca, sa, e) =
     let j : Code = Jmp (negsuc (length ca + 1)) ∷ [] in
-    let b = has_back code (p + 1 + 1) ca j g.1.1 in
-    let len = length-append ca j in
-    let w = has_within code p (Split (pos 2)) (Jmp (pos (length ca + 2)) ∷ (ca ++ j)) g in
-    let e1 : min (p + 1 + (length ca + 2)) (length code) ≡ p + length cq = omega (arith, ap length e, len, w) in
-    let e2 : p + 1 + 1 ≡ min (p + 2) (length code) = omega (arith, len, w) in
-    let e3 : min (p + 1 + 1 + length ca - suc (length ca + 1)) (length code) ≡ p = omega (arith, len, w) in (
-      pos 2,
-      g.0,
-      (1, (pos (length ca + 2), g.1.0, e1)),
-      subst (λ z. StandsAt xs code q z p) e2 (further xs code q (p + 1 + 1) (p + 1 + 1 + length ca) p (1, (negsuc (length ca + 1), b.0, e3)) (stands_at xs code q ca (p + 1 + 1) sa (has_front code (p + 1 + 1) ca j g.1.1))),
+    let n = length-append ca j in
+    subst (Within 0) (sym e) (omega (arith, n), (omega (arith, n), within_append 0 0 ca j (stands_within xs q ca sa) (omega arith) (tt, tt)))
+stands_within xs (Cond q x) cq (ca, sa, e) =
+    subst (Within 0) (sym e) (tt, within_append 0 0 ca (Close x ∷ []) (stands_within xs q ca sa) (omega arith) (tt, tt))
+stands_within xs (Imm q x) cq (ca, sa, e) =
+    subst (Within 0) (sym e) (tt, within_append 0 0 ca (Say x ∷ []) (stands_within xs q ca sa) (omega arith) (tt, tt))
+stands_within xs (At n) cq st = subst (Within 0) (sym st) (tt, tt)
+stands_within xs (Defer e) cq (k, ek, st) = subst (Within 0) (sym st) (tt, tt)
+stands_within xs (DeferBasic j e) cq (k, ek, st) = subst (Within 0) (sym st) (tt, tt)
+
+one : (code cq : Code) (k x : ℕ) (i : Instr) (p : ℕ) → cq ≡ i ∷ [] → exit_past k 1 i ≡ i → HasAt code p (exits_past k cq) → Leads code (p + length cq) x → (slice_get code p ≡ Some i) × Leads code (p + 1) x
+one code cq k x i p e same h g =
+    let b = subst (λ z. HasAt code p (exits_past k z)) e h in
+    (b.0 ∙ ap Some same, subst (λ z. Leads code (p + z) x) (ap length e) g)
+
+-- code that stands for q, with its ways out leading k further, where its end and that place both lead to x
+abbrev Lasts : (ℕ → Option Expr) → Code → Pat → Code → Type 0
+Lasts xs code q cq =
+    (k p x : ℕ) → HasAt code p (exits_past k cq) → p + length cq + k ≤ length code → Leads code (p + length cq) x → Leads code (p + length cq + k) x → StandsAt xs code q p x
+
+-- the same where the ways out lead to the end
+plainly : (xs : ℕ → Option Expr) (code : Code) (q : Pat) (cq : Code) (p x : ℕ) → Lasts xs code q cq → HasAt code p cq → p + length cq ≤ length code → Leads code (p + length cq) x → StandsAt xs code q p x
+plainly xs code q cq p x f h le g =
+    f 0 p x (subst (HasAt code p) (sym (exits_none cq)) h) (omega (arith, le)) g (subst (λ y. Leads code y x) (omega arith) g)
+
+none_or_some : (n : ℕ) → (n ≡ 0) ⊎ (0 < n)
+none_or_some zero = inl refl
+none_or_some (suc n) = inr (omega arith)
+
+cat_at : (xs : ℕ → Option Expr) (code : Code) (q r : Pat) (ca cb cq : Code) → Within 0 ca → Stands xs r cb → Lasts xs code q ca → Lasts xs code r cb → cq ≡ ca ++ cb → Lasts xs code (Cat q r) cq
+cat_at xs code q r ca cb cq wa sb fa fb e k p x h le g f = go (none_or_some (length cb))
+  where
+    n : length cq ≡ length ca + length cb
+    n = ap length e ∙ length-append ca cb
+
+    placed : HasAt code p (exits_past k (ca ++ cb))
+    placed = subst (λ z. HasAt code p (exits_past k z)) e h
+
+    null : (c : Code) → length c ≡ 0 → c ≡ []
+    null [] z = refl
+    null (i ∷ is) z = absurd (omega (arith, z))
+
+    go : (length cb ≡ 0) ⊎ (0 < length cb) → StandsAt xs code (Cat q r) p x
+    go (inl z) =
+        let m : p + length cq ≡ p + length ca = omega (arith, n, z) in (
+          x,
+          fa k p x (subst (HasAt code p) (exits_last k ca cb (null cb z)) placed) (omega (arith, m, le)) (subst (λ y. Leads code y x) m g) (subst (λ y. Leads code (y + k) x) m f),
+          empty_stands xs code r cb x x sb z (0, refl),
+        )
+    go (inr z) =
+        let b = subst (HasAt code p) (exits_before k ca cb wa z) placed in
+        let m : p + length cq ≡ p + length ca + length cb = omega (arith, n) in (
+          p + length ca,
+          plainly xs code q ca p (p + length ca) fa (has_front code p ca (exits_past k cb) b) (omega (arith, m, le)) (0, refl),
+          fb k (p + length ca) x (has_back code p ca (exits_past k cb) b) (omega (arith, m, le)) (subst (λ y. Leads code y x) m g) (subst (λ y. Leads code (y + k) x) m f),
+        )
+
+-- the JMP behind p's code, and q's code
+abbrev behind : Code → Code
+behind cb = Jmp (pos (length cb + 1)) ∷ cb
+
+alt_length : (ca cb : Code) → length (alt_code ca cb) ≡ length ca + 2 + length cb
+alt_length ca cb = omega (arith, length-append (exits_past (length cb + 1) ca) (behind cb), exits_length (length cb + 1) ca)
+
+alt_at : (xs : ℕ → Option Expr) (code : Code) (q r : Pat) (ca cb cq : Code) → Within 0 ca → Stands xs r cb → Lasts xs code q ca → Lasts xs code r cb → cq ≡ alt_code ca cb → Lasts xs code (Alt q r) cq
+alt_at xs code q r ca cb cq wa sb fa fb e k p x h le g f =
+    let out : Code = exits_past (length cb + 1 + k) ca in
+    let n : length cq ≡ length ca + 2 + length cb = ap length e ∙ alt_length ca cb in
+    let m : length out ≡ length ca = exits_length (length cb + 1 + k) ca in
+    let placed = subst (λ z. HasAt code p (exits_past k z)) e h in
+    let b = subst (HasAt code (p + 1)) (exits_twice k (length cb + 1) ca (behind cb) wa (omega arith) (omega arith)) placed.1 in
+    let seam : p + 1 + length out ≡ p + 1 + length ca = omega (arith, m) in
+    let back = subst (λ z. HasAt code z (exits_past k (behind cb))) seam (has_back code (p + 1) out (exits_past k (behind cb)) b) in
+    let over : ℕ = led_past k (length (behind cb)) (length cb + 1) in
+    let is : over ≡ length cb + 1 + k = led_here k (length (behind cb)) (length cb + 1) (omega arith) in
+    let there : p + length cq + k ≡ at_distance code (p + 1 + length ca) (pos over) = omega (arith, n, is, le) in
+    let here : p + length cq + k ≡ p + 1 + length ca + (length cb + 1 + k) = omega (arith, n) in (
+      pos (led_past k (length (alt_code ca cb)) (length ca + 2)),
+      placed.0,
+      fa (length cb + 1 + k) (p + 1) x (has_front code (p + 1) out (exits_past k (behind cb)) b) (omega (arith, n, le)) (suc f.0, (pos over, back.0, subst (λ y. Jumps code f.0 y x) there f.1)) (subst (λ y. Leads code y x) here f),
+      second n back.1 (none_or_some (length cb)),
     )
-stands_at xs code (Cond q n) cq p (ca, sa, e) h =
-    let g = subst (HasAt code p) e h in
-    let b = has_back code (p + 1) ca (Close n ∷ []) g.1 in
-    let e1 : p + 1 + length ca + 1 ≡ p + length cq = omega (arith, ap length e, length-append ca (Close n ∷ [])) in
-    (g.0, p + 1 + length ca, stands_at xs code q ca (p + 1) sa (has_front code (p + 1) ca (Close n ∷ []) g.1), b.0, (0, e1))
-stands_at xs code (Imm q n) cq p (ca, sa, e) h =
-    let g = subst (HasAt code p) e h in
-    let b = has_back code (p + 1) ca (Say n ∷ []) g.1 in
-    let e1 : p + 1 + length ca + 1 ≡ p + length cq = omega (arith, ap length e, length-append ca (Say n ∷ [])) in
-    (g.0, p + 1 + length ca, stands_at xs code q ca (p + 1) sa (has_front code (p + 1) ca (Say n ∷ []) g.1), b.0, (0, e1))
-stands_at xs code (At n) cq p st h = one code cq (AtCursor n) p st h
-stands_at xs code (Defer e) cq p (k, ek, st) h = let o = one code cq (Eval k) p st h in (k, ek, o.0, o.1)
-stands_at xs code (DeferBasic j e) cq p (k, ek, st) h = let o = one code cq (EvalBasic j k) p st h in (k, ek, o.0, o.1)
+  where
+    second : length cq ≡ length ca + 2 + length cb → HasAt code (p + 1 + length ca + 1) (exits_past k cb) → (length cb ≡ 0) ⊎ (0 < length cb) → StandsAt xs code r (at_distance code p (pos (led_past k (length (alt_code ca cb)) (length ca + 2)))) x
+    second n b (inl z) =
+        let is = led_here k (length (alt_code ca cb)) (length ca + 2) (omega (arith, alt_length ca cb, z)) in
+        let there : p + length cq + k ≡ at_distance code p (pos (led_past k (length (alt_code ca cb)) (length ca + 2))) = omega (arith, n, is, le, z) in
+        empty_stands xs code r cb (at_distance code p (pos (led_past k (length (alt_code ca cb)) (length ca + 2)))) x sb z (subst (λ y. Leads code y x) there f)
+    second n b (inr z) =
+        let is = led_not k (length (alt_code ca cb)) (length ca + 2) (λ w. absurd (omega (arith, alt_length ca cb, z, w))) in
+        let there : p + 1 + length ca + 1 ≡ at_distance code p (pos (led_past k (length (alt_code ca cb)) (length ca + 2))) = omega (arith, n, is, le) in
+        let end : p + length cq ≡ p + 1 + length ca + 1 + length cb = omega (arith, n) in
+        subst (λ y. StandsAt xs code r y x) there (fb k (p + 1 + length ca + 1) x b (omega (arith, n, le)) (subst (λ y. Leads code y x) end g) (subst (λ y. Leads code (y + k) x) end f))
+
+arbno_at : (xs : ℕ → Option Expr) (code : Code) (q : Pat) (ca cq : Code) → Within 0 ca → Lasts xs code q ca → cq ≡ arbno_code ca → Lasts xs code (Arbno q) cq
+arbno_at xs code q ca cq wa fa e k p x h le g f =
+    let j : Code = Jmp (negsuc (length ca + 1)) ∷ [] in
+    let l = length-append ca j in
+    let n : length cq ≡ length ca + 3 = omega (arith, ap length e, l) in
+    let placed = subst (λ z. HasAt code p (exits_past k z)) e h in
+    let one = led_not k (length (arbno_code ca)) 2 (λ w. absurd (omega (arith, w, l))) in
+    let two = led_here k (length (Jmp (pos (length ca + 2)) ∷ (ca ++ j))) (length ca + 2) (omega (arith, l)) in
+    let b = subst (HasAt code (p + 1 + 1)) (exits_before k ca j wa (omega arith)) placed.1.1 in
+    let back = has_back code (p + 1 + 1) ca j b in
+    let over : ℕ = led_past k (length (Jmp (pos (length ca + 2)) ∷ (ca ++ j))) (length ca + 2) in
+    let there : p + length cq + k ≡ at_distance code (p + 1) (pos over) = omega (arith, n, two, le) in
+    let in_at : p + 1 + 1 ≡ at_distance code p (pos (led_past k (length (arbno_code ca)) 2)) = omega (arith, n, one, le) in
+    let again : at_distance code (p + 1 + 1 + length ca) (negsuc (length ca + 1)) ≡ p = omega (arith, n, le) in (
+      pos (led_past k (length (arbno_code ca)) 2),
+      placed.0,
+      (suc f.0, (pos over, placed.1.0, subst (λ y. Jumps code f.0 y x) there f.1)),
+      subst (λ y. StandsAt xs code q y p) in_at (plainly xs code q ca (p + 1 + 1) p fa (has_front code (p + 1 + 1) ca j b) (omega (arith, n, le)) (1, (negsuc (length ca + 1), back.0, again))),
+    )
+
+-- p's code between OPEN and a last instruction
+abbrev Between : (ℕ → Option Expr) → Code → Pat → (i j : Instr) → ℕ → ℕ → Type 0
+Between xs code q i j p x =
+    (slice_get code p ≡ Some i) × (y : ℕ) × StandsAt xs code q (p + 1) y × (slice_get code y ≡ Some j) × Leads code (y + 1) x
+
+between_at : (xs : ℕ → Option Expr) (code : Code) (q : Pat) (i j : Instr) (ca cq : Code) → (k p x : ℕ) → exit_past k (length (i ∷ (ca ++ j ∷ []))) i ≡ i → exit_past k 1 j ≡ j → Within 0 ca → Lasts xs code q ca → cq ≡ i ∷ (ca ++ j ∷ []) → HasAt code p (exits_past k cq) → p + length cq + k ≤ length code → Leads code (p + length cq) x → Between xs code q i j p x
+between_at xs code q i j ca cq k p x hi hj wa fa e h le g =
+    let n : length cq ≡ length ca + 2 = omega (arith, ap length e, length-append ca (j ∷ [])) in
+    let placed = subst (λ z. HasAt code p (exits_past k z)) e h in
+    let b = subst (HasAt code (p + 1)) (exits_before k ca (j ∷ []) wa (omega arith)) placed.1 in
+    let back = has_back code (p + 1) ca (exit_past k 1 j ∷ []) b in
+    let end : p + length cq ≡ p + 1 + length ca + 1 = omega (arith, n) in (
+      placed.0 ∙ ap Some hi,
+      p + 1 + length ca,
+      plainly xs code q ca (p + 1) (p + 1 + length ca) fa (has_front code (p + 1) ca (exit_past k 1 j ∷ []) b) (omega (arith, n, le)) (0, refl),
+      back.0 ∙ ap Some hj,
+      subst (λ y. Leads code y x) end g,
+    )
+
+pub stands_at : (xs : ℕ → Option Expr) (code : Code) (q : Pat) (cq : Code) → Stands xs q cq → Lasts xs code q cq
+stands_at xs code (Plain (Lit [])) cq st = λ k p x h le g f. inl (refl, subst (λ z. Leads code z x) (omega (arith, ap length st)) g)
+stands_at xs code (Plain (Lit (b ∷ w))) cq st = λ k p x h le g f. inr (one code cq k x (Do (Lit (b ∷ w))) p st refl h g)
+stands_at xs code (Plain j) cq st = λ k p x h le g f. inr (one code cq k x (Do j) p st refl h g)
+stands_at xs code Succeed cq st = λ k p x h le g f. one code cq k x DoSucceed p st refl h g
+stands_at xs code Abort cq st = λ k p x h le g f. (one code cq k x DoAbort p st refl h g).0
+stands_at xs code Fence cq st = λ k p x h le g f. one code cq k x DoFence p st refl h g
+stands_at xs code (Cat q r) cq (ca, cb, sa, sb, e) =
+    cat_at xs code q r ca cb cq (stands_within xs q ca sa) sb (stands_at xs code q ca sa) (stands_at xs code r cb sb) e
+stands_at xs code (Alt q r) cq (ca, cb, sa, sb, e) =
+    alt_at xs code q r ca cb cq (stands_within xs q ca sa) sb (stands_at xs code q ca sa) (stands_at xs code r cb sb) e
+stands_at xs code (Arbno q) cq (ca, sa, e) = arbno_at xs code q ca cq (stands_within xs q ca sa) (stands_at xs code q ca sa) e
+stands_at xs code (Cond q n) cq (ca, sa, e) = λ k p x h le g f.
+    between_at xs code q Open (Close n) ca cq k p x refl refl (stands_within xs q ca sa) (stands_at xs code q ca sa) e h le g
+stands_at xs code (Imm q n) cq (ca, sa, e) = λ k p x h le g f.
+    between_at xs code q Open (Say n) ca cq k p x refl refl (stands_within xs q ca sa) (stands_at xs code q ca sa) e h le g
+stands_at xs code (At n) cq st = λ k p x h le g f. one code cq k x (AtCursor n) p st refl h g
+stands_at xs code (Defer e) cq (i, ek, st) = λ k p x h le g f. let o = one code cq k x (Eval i) p st refl h g in (i, ek, o.0, o.1)
+stands_at xs code (DeferBasic j e) cq (i, ek, st) = λ k p x h le g f. let o = one code cq k x (EvalBasic j i) p st refl h g in (i, ek, o.0, o.1)
 
 -- code by itself
 pub stands_alone : (xs : ℕ → Option Expr) (code : Code) (q : Pat) → Stands xs q code → StandsAt xs code q 0 (length code)
 stands_alone xs code q st =
-    let e : 0 + length code ≡ length code = omega arith in
-    subst (StandsAt xs code q 0) e (stands_at xs code q code 0 st (has_all code []))
+    plainly xs code q code 0 (length code) (stands_at xs code q code st) (has_all code []) (omega arith) (0, omega arith)
 
 pub past_end : (code : Code) → slice_get code (length code) ≡ None
 past_end code = slice_get_past code (length code) (omega arith)
