@@ -1,3 +1,4 @@
 pub mod FirstLine
 pub mod OpenSides
 pub mod Calls
+pub mod Untold

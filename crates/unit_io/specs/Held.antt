@@ -1,6 +1,7 @@
 -- What units in memory hold.
 use Rattle.std.specs.Prelude.{◌≡◌, ℕ, ◌+◌, List, [], ◌∷◌, ◌++◌, Option, Some, None, length, map, nat_eq, ◌⊎◌, slice_index_or, set, if◌then◌else◌}
 use Rattle.model.specs.Io.{Io}
+use Rattle.unit_io.specs.Counts.{count_of, one_more}
 use Rattle.model.specs.Units.{bytes_on, first_of, rest_of}
 use Rattle.model.specs.declared.run.UnitFault.{UnitFault}
 use Rattle.model.specs.declared.run.UnitFault.TheVariants.{NotOpen, Memory}
@@ -32,11 +33,7 @@ abbrev pub io_of : Held → Io
 io_of h = record { left = λ unit. left_by (side_at unit h.opened); printed = printed_of h.printed }
 
 abbrev pub failures_of : Held → ℕ → ℕ
-failures_of h unit = slice_index_or h.failures unit 0
-
--- one more, but never past the last value of 64 bits
-abbrev pub one_more : ℕ → ℕ
-one_more n = if nat_eq n 18446744073709551615 then n else n + 1
+failures_of h unit = count_of h.failures unit
 
 abbrev pub IsReadable : Option Side → Type 0
 IsReadable (Some (Input records)) = Unit {0}

@@ -5,6 +5,7 @@ ghost use Rattle.model.specs.Units.{records_of, Reads, Writes, IsCounted};
 ghost use Rattle.unit_io.specs.Held.{side_at, output_of, place_of, written_to, io_of, failures_of, refused, IsRead, IsWritten, IsReadable, IsWritable, IsOfMemUnits};
 ghost use Rattle.unit_io.specs.declared.mem.Side.TheVariants.{Input, Output};
 
+use crate::counts::Counts;
 use crate::lines::Lines;
 use crate::records::Records;
 use crate::units::Units;
@@ -40,7 +41,7 @@ pub struct MemUnits {
     alloc: Global,
     opened: Vec<OpenUnit>,
     printed: Vec<Written>,
-    failures: [u64; 256],
+    failures: Counts,
 }
 
 impl Model for MemUnits {
@@ -62,7 +63,7 @@ impl MemUnits {
             alloc,
             opened: Vec::new(alloc),
             printed: Vec::new(alloc),
-            failures: [0; 256],
+            failures: Counts::new(),
         }
     }
 
@@ -126,8 +127,7 @@ impl MemUnits {
         ensures answer { result ≡ UnitFault.NotOpen }
         ensures counted { self.new ≡ refused UnitFault.NotOpen unit self.old }
     {
-        let k = unit as usize;
-        self.failures[k] = self.failures[k].saturating_add(1);
+        self.failures.add(unit);
         UnitFault::NotOpen
     }
 }
