@@ -54,8 +54,8 @@ pub enum Kind {
 pub enum Instr {
     Do(Basic),
     /// Goes on, and keeps a choice to go on at the distance.
-    Split(i32),
-    Jmp(i32),
+    Split(i64),
+    Jmp(i64),
     /// Matches null, and again on each return.
     Succeed,
     Abort,
