@@ -26,6 +26,7 @@ pub mod Steps
 pub mod PatternCode
 pub mod Stands
 pub mod PatternLaws
+pub mod MatchStates
 pub mod PatternCases
 pub mod Codes
 pub mod Spelling
