@@ -48,7 +48,9 @@ pub mod Modules
 pub mod Placed
 pub mod Alike
 pub mod Agreement
+pub mod MatchLaws
 pub mod Faults
 pub mod FaultRows
 pub mod TreeRows
 pub mod Lexed
+pub mod RulesUsed

@@ -7,6 +7,7 @@ mod format;
 mod image;
 mod instr;
 mod keys;
+mod laws_agreement;
 mod laws_cards;
 mod laws_tokens;
 mod laws_bytes;
@@ -25,6 +26,7 @@ pub use format::{FormatFault, FormatRule, LoadFault, Miss, ModuleFault, ModuleRu
 pub use image::{Image, Label, PatInstr};
 pub use instr::{ArithOp, Instr, ReturnKind, SignOp};
 pub use keys::KeyId;
+pub use laws_agreement::{agreement, matches_step, meaning_stays};
 pub use laws_cards::worked_decks;
 pub use laws_tokens::{each_text_has_one_cut, worked_texts};
 pub use laws_bytes::{read_is_spelt, spelling_rows, spelt_is_read};
