@@ -51,3 +51,5 @@ pub mod Faults
 pub mod FaultRows
 pub mod TreeRows
 pub mod Lexed
+pub mod Flow
+pub mod WellFormed
