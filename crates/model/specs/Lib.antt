@@ -54,3 +54,5 @@ pub mod FaultRows
 pub mod TreeRows
 pub mod Lexed
 pub mod RulesUsed
+pub mod Flow
+pub mod WellFormed
