@@ -2,6 +2,7 @@ pub mod Cards
 pub mod CardRows
 pub mod Cut
 pub mod CutRows
+pub mod DeckLaws
 pub mod Digits
 pub mod NameLaws
 pub mod Io
