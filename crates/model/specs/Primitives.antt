@@ -14,11 +14,11 @@ use Rattle.model.specs.Conversions.{Conv, Got, Bad, Op, Gives, Refuses, Faults, 
 use Rattle.model.specs.Operators.{kind_op}
 use Rattle.model.specs.Prototypes.{FunctionPrototype, function_prototype, TypePrototype, type_prototype, array_prototype}
 use Rattle.model.specs.Aggregates.{new_object, array_op, copy_op, element_op, type_of, as_array}
-use Rattle.model.specs.Calls.{Given, AValue, AName, arg_at}
+use Rattle.model.specs.Calls.{Returned, AValue, AName, arg_at}
 
 -- what a primitive comes to; APPLY may call a function that isn't one
 pub data Outcome (P E : Type 0) : Type 0 where
-  Returns : Given P E → Outcome P E
+  Returns : Returned P E → Outcome P E
   Calls : Bytes → List (Value P E) → Outcome P E
 
 -- ---- comparing
