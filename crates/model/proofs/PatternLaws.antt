@@ -3,11 +3,12 @@ use Rattle.std.proofs.Common.{◌≡◌, ℕ, List, [], ◌∷◌, refl, sym, �
 use Rattle.model.specs.Pattern.{Expr, Event, Running, Failed, Asks, Matched, Pending}
 use Rattle.model.specs.Ends.{Item, End, Aborted, Deep, ends, Permits}
 use Rattle.model.specs.Search.{scan}
-use Rattle.model.specs.PatternLaws.{Begins, EndsGrow, ScanStays, IsItem, EndsPermitted, StepsOfScan, ScanOfSteps}
-use Rattle.model.proofs.SearchGrows.{EventGrows, search_more, over_starts_grows}
+use Rattle.model.specs.PatternLaws.{Begins, EndsGrow, SearchStays, ScanStays, IsItem, EndsPermitted, StepsOfScan, ScanOfSteps}
+use Rattle.model.proofs.SearchGrows.{Grows, EventGrows, search_more, over_starts_grows}
 use Rattle.model.proofs.EndsLaws.{Begins as BeginsBy, ends_more, EachEnd, each_permitted}
 use Rattle.model.proofs.CodeEvents.{steps_of_scan, scan_of_steps}
-use Rattle.model.specs.Search.{search, Part}
+use Rattle.model.specs.Search as S
+use Rattle.model.specs.Search.{Found', search, Part}
 
 begins : (xs ys : List Item) → BeginsBy xs ys → Begins xs ys
 begins [] ys h = inl (sym h)
@@ -22,11 +23,21 @@ begins (End e a ∷ xs) ys (zs, q, r) = more (begins xs zs r)
 pub ends_grow : EndsGrow
 ends_grow s n m le p c = begins (ends s n p c) (ends s m p c) (ends_more s n m le p c)
 
-event_same : (x y : Event Expr) → EventGrows x y → (x ≡ Running → ⊥) → y ≡ x
+pub event_same : (x y : Event Expr) → EventGrows x y → (x ≡ Running → ⊥) → y ≡ x
 event_same Running y h o = absurd (o refl)
 event_same Failed y h o = h
 event_same (Asks v) y h o = h
 event_same (Matched b e a) y h o = h
+
+found_same : (x y : Found') → Grows x y → (x ≡ S.Deep → ⊥) → y ≡ x
+found_same S.Deep y h o = absurd (o refl)
+found_same (S.Hit e a t) y h o = h
+found_same (S.Miss t) y h o = h
+found_same S.Stop y h o = h
+found_same (S.Wait v) y h o = h
+
+pub search_stays : SearchStays
+search_stays s n m le rest c a t o = found_same (search s n rest c a t) (search s m rest c a t) (search_more s n m le rest c a t) o
 
 pub scan_stays : ScanStays
 scan_stays s n m le p left b t o =

@@ -1,10 +1,13 @@
 //! The laws of patterns. Each function does nothing; its contract states a law, and who calls it may use the law.
 
-ghost use Rattle.model.specs.PatternLaws.{EndsGrow, ScanStays, EndsPermitted, StepsOfScan, ScanOfSteps, ScanOfFirst, FirstOfScan, AnswersComeLater, StepsAreSound};
+ghost use Rattle.model.specs.PatternLaws.{EndsGrow, SearchStays, ScanStays, EndsPermitted, StepsOfScan, ScanOfSteps, ScanOfFirst, FirstOfScan, AnswersComeLater, StepsAreSound, LiteralsScanned, LiteralScansRight, LiteralsRun, LiteralRunsRight};
+ghost use Rattle.model.specs.MatchStates.{StatesAnswerAsScan, StatesAnswerFirstEnd, StatesAnswerLiterals, StatesCome, StepsLeadOn, AnswersLeadOn};
+ghost use Rattle.model.specs.PatternCases.{ScansMeetCases, StepsMeetCases, ScansMeetQuestions, StepsMeetQuestions, NestedEnds};
 
 /// What is answered at a bound stays at each greater one.
 pub fn answers_stay()
     ensures ends { EndsGrow }
+    ensures searches { SearchStays }
     ensures scans { ScanStays }
 {}
 
@@ -33,4 +36,42 @@ pub fn answers_come_later()
 /// Each step keeps cursors and starts within the subject.
 pub fn steps_stay_within()
     ensures { StepsAreSound }
+{}
+
+/// A pattern of literals, `|` and blank has a scan that isn't deep, and an answer is a match exactly where some end is
+/// permitted at some start that may be tried.
+pub fn literals_are_scanned()
+    ensures answers { LiteralsScanned }
+    ensures right { LiteralScansRight }
+{}
+
+/// Code that stands for a pattern of literals, `|` and blank reaches an answer, which is a match exactly where some end
+/// is permitted at some start that may be tried.
+pub fn literals_are_matched()
+    ensures answers { LiteralsRun }
+    ensures right { LiteralRunsRight }
+{}
+
+/// At each state of a match, further steps come to the events of the pattern's scan, to its first end if it is plain, and
+/// to a right answer if it is of literals, `|` and blank.
+pub fn match_states_answer()
+    ensures scan { StatesAnswerAsScan }
+    ensures first_end { StatesAnswerFirstEnd }
+    ensures literals { StatesAnswerLiterals }
+    ensures comes { StatesCome }
+{}
+
+/// A state of a match stays one under further steps without an event on the way, and under further answers.
+pub fn match_states_lead_on()
+    ensures steps { StepsLeadOn }
+    ensures answers { AnswersLeadOn }
+{}
+
+/// The worked cases: the scan of each pattern and the steps of its code give the answer that its table tells.
+pub fn pattern_cases()
+    ensures scans { ScansMeetCases }
+    ensures steps { StepsMeetCases }
+    ensures scans_asked { ScansMeetQuestions }
+    ensures steps_asked { StepsMeetQuestions }
+    ensures nested { NestedEnds }
 {}
