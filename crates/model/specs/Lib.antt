@@ -57,3 +57,4 @@ pub mod Lexed
 pub mod RulesUsed
 pub mod Flow
 pub mod WellFormed
+pub mod ValueLaws

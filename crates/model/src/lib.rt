@@ -15,6 +15,7 @@ mod laws_bytes;
 mod laws_names;
 mod laws_patterns;
 mod laws_trees;
+mod laws_values;
 mod primitives;
 mod run;
 mod seq;
@@ -39,6 +40,7 @@ pub use laws_patterns::{
     match_states_lead_on, pattern_cases, steps_stay_within,
 };
 pub use laws_trees::{each_expression_is_one, each_statement_is_one, worked_faults, worked_trees};
+pub use laws_values::{integers_fit, integers_read};
 pub use primitives::PrimId;
 pub use run::{Ending, ErrorCode, Status, Stop, UnitFault};
 pub use seq::{Bytes, Seq};
