@@ -28,6 +28,7 @@ pub mod Steps
 pub mod PatternCode
 pub mod Stands
 pub mod PatternLaws
+pub mod MatchStates
 pub mod PatternCases
 pub mod Codes
 pub mod Spelling
@@ -49,7 +50,11 @@ pub mod Modules
 pub mod Placed
 pub mod Alike
 pub mod Agreement
+pub mod MatchLaws
 pub mod Faults
 pub mod FaultRows
 pub mod TreeRows
 pub mod Lexed
+pub mod RulesUsed
+pub mod Flow
+pub mod WellFormed
