@@ -1,15 +1,14 @@
 -- How much an accepted deck holds.
-use Rattle.std.proofs.Common.{◌≡◌, refl, sym, ◌∙◌, ap, subst, ℕ, zero, suc, ◌+◌, ◌<◌, ◌≤◌, ◌==◌, ◌&&◌, ◌||◌, inl, inr, Bool, true, false, List, [], ◌∷◌, ◌++◌, length, length-append, take, arith}
-use Rattle.std.specs.Prelude.{Option, Some, None, Ok, map, nat_lt, if◌then◌else◌, codes}
+use Rattle.std.proofs.Common.{◌≡◌, refl, sym, ap, subst, ℕ, suc, ◌+◌, ◌≤◌, ◌==◌, ◌||◌, inl, inr, true, false, List, [], ◌∷◌, ◌++◌, length, length-append, take, arith}
+use Rattle.std.specs.Prelude.{Option, Some, None, map, nat_lt}
 use Rattle.std.specs.List.{AllByRecursion}
 use Rattle.std.proofs.lemmas.Bool.{cases_Bool}
 use Rattle.std.proofs.lemmas.Bool.Decides.{nat_tests}
 use Rattle.std.proofs.lemmas.List.{length-map, length-take}
 use Rattle.model.specs.declared.cards.Statement.{Statement}
 use Rattle.model.specs.declared.cards.CardRule.TheVariants as rule
-use Rattle.model.specs.Cards.{Card, to_first, lines, numbered_from, cards, is_blank_text, is_known_control, CardKind, Comment, Control, UnknownControl, Continuation, Start, kind_by_first, kind_of_columns, kind_of, Column, placed, bytes, before_continued, continued, before_texts, texts, into_first, split, pieces_of_texts, pieces_of, is_end, beginnings, first_ended, ended, kept, before_kept, first_card, statements_from, statements_of, fault, bad_bytes, lost_continuations, unknown_controls, long_statements, faults_of}
-use Rattle.model.specs.DeckLaws.{DecksFit, CardsFit, AcceptedDecksFit, TreesOfDeckFit}
-use Rattle.model.specs.Faults.{read}
+use Rattle.model.specs.Cards.{Card, to_first, lines, numbered_from, cards, is_blank_text, is_known_control, CardKind, Comment, Control, UnknownControl, Continuation, Start, kind_by_first, kind_of_columns, kind_of, Column, placed, bytes, before_continued, continued, before_texts, texts, into_first, split, pieces_of_texts, pieces_of, is_end, beginnings, first_ended, ended, kept, first_card, statements_from, statements_of, fault, bad_bytes, lost_continuations, unknown_controls, long_statements, faults_of}
+use Rattle.model.specs.DeckLaws.{DecksFit, CardsFit, AcceptedDecksFit}
 use Rattle.model.specs.Trees.{Stmt}
 use Rattle.model.specs.Weights.{weight, total}
 use Rattle.model.proofs.DeckVerdicts.{Have, accepts, by_cards, none_right}

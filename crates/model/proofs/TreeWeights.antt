@@ -1,19 +1,19 @@
 -- A text is at least as long as its tree is heavy.
-use Rattle.std.proofs.Common.{◌≡◌, refl, sym, ◌∙◌, ap, subst, ℕ, zero, suc, ◌+◌, ◌-◌, ◌≤◌, Bool, true, false, List, [], ◌∷◌, ◌++◌, length, take, drop, length-append, arith}
-use Rattle.std.specs.Prelude.{max, Option, Some, None, Ok}
+use Rattle.std.proofs.Common.{◌≡◌, ap, ℕ, ◌+◌, ◌-◌, ◌≤◌, List, [], ◌∷◌, ◌++◌, length, drop, length-append, arith}
+use Rattle.std.specs.Prelude.{Option, Ok}
 use Rattle.std.proofs.lemmas.List.{length-take}
 use Rattle.model.specs.declared.tokens.TokenKind.{TokenKind}
 use Rattle.model.specs.declared.tokens.TokenKind.TheVariants as kind
 use Rattle.model.specs.declared.trees.Binary.{Binary}
 use Rattle.model.specs.declared.trees.Binary.TheVariants as binary
-use Rattle.model.specs.Cut.{IsToken, Piece, Token, Stray, Unclosed, text_of, Cut, toks_of}
+use Rattle.model.specs.Cut.{IsToken, Piece, Token, Stray, Unclosed, Cut, toks_of}
 use Rattle.model.specs.Faults.{read}
-use Rattle.model.specs.Grammar.{link, gap, shown, Phrase, Element, Grade, One, Several, Spells, name, integer, literal, keyword, applied, brackets, call, reference, plain, looser, combined, absent, present, single, comma}
+use Rattle.model.specs.Grammar.{link, shown, Phrase, Element, Grade, One, Several, Spells, name, integer, literal, keyword, applied, brackets, call, reference, plain, looser, combined, absent, present, single, comma}
 use Rattle.model.specs.Pieces.{pieces}
 use Rattle.model.specs.Statements as st
 use Rattle.model.specs.Statements.{IsPlace, InBrackets, IsExits, IsGoto, IsObject, IsBody, IsLabel, IsEntry, Tree}
 use Rattle.model.specs.Tokens.{Tok, Blank, Word, Digits, Quoted, Sign, tok_by, between_quotes}
-use Rattle.model.specs.Trees.{Bytes, Expr, Arg, Absent, Given, Args, Nil, More, Place, Goto, Body, Stmt}
+use Rattle.model.specs.Trees.{Bytes, Expr, Absent, Given, Args, Nil, More, Place, Goto, Body, Stmt}
 use Rattle.model.specs.Weights.{of_name, of_expr, of_arg, of_args, of_place, of_goto, of_object, of_body, of_label, of_entry, weight}
 use Rattle.model.proofs.Cutting.{cut_is}
 use Rattle.model.proofs.DeckEnds.{piece_is}
