@@ -30,7 +30,7 @@ pub use instr::{ArithOp, Instr, ReturnKind, SignOp};
 pub use keys::KeyId;
 pub use laws_agreement::{agreement, matches_step, meaning_stays};
 pub use laws_cards::worked_decks;
-pub use laws_decks::end_is_last;
+pub use laws_decks::{accepted_decks_fit, decks_fit, end_is_last, trees_fit};
 pub use laws_tokens::{each_text_has_one_cut, worked_texts};
 pub use laws_bytes::{read_is_spelt, spelling_rows, spelt_is_read};
 pub use laws_names::{key_names, prim_names};
