@@ -37,7 +37,7 @@ kept_one x e = rw e refl
 -- END is no blank text
 end_shows : (text : List ℕ) → is_word_first (codes "END") text ≡ true → is_blank_text text ≡ false
 end_shows [] h = absurd (cc)
-end_shows (b ∷ bs) h = elim (cases_Bool (b == 69)) [
+end_shows (b ∷ bs) h = elim (cases_Bool (69 == b)) [
   | inl e ↦ (let same : b ≡ 69 = grind (arith, nat_tests) in rw same refl)
   | inr e ↦ absurd (let g : false ≡ true = rw e at h in cc)
 ]

@@ -41,7 +41,7 @@ abbrev pub is_word_first : List ℕ → List ℕ → Bool
 is_word_first [] [] = true
 is_word_first [] (b ∷ bs) = is_blank b
 is_word_first (w ∷ ws) [] = false
-is_word_first (w ∷ ws) (b ∷ bs) = (b == w) && is_word_first ws bs
+is_word_first (w ∷ ws) (b ∷ bs) = (w == b) && is_word_first ws bs
 
 abbrev pub is_known_control : List ℕ → Bool
 is_known_control text = is_word_first (codes "-LIST") text || is_word_first (codes "-UNLIST") text || is_word_first (codes "-EJECT") text
