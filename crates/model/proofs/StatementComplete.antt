@@ -6,7 +6,7 @@ use Rattle.std.proofs.lemmas.Slice.Eq.{bytes_eq-Decides}
 use Rattle.model.specs.declared.tokens.Mark.{Mark}
 use Rattle.model.specs.declared.tokens.Mark.TheVariants as mark
 use Rattle.model.specs.Tokens.{Tok, Blank, Word, Sign}
-use Rattle.model.specs.Trees.{Bytes, Expr, Place, Computed, Goto, Always, OnSuccess, OnFailure, Both, Body, Assign, Replace, Stmt, Plain, End}
+use Rattle.model.specs.Trees.{Bytes, Expr, Place, Computed, Goto, Always, Body, Assign, Replace, Stmt, Plain, End}
 use Rattle.model.specs.Grammar.{gap, IsElement, IsExpr}
 use Rattle.model.specs.Statements.{on_success, on_failure, end_word, IsPlace, label, computed, InBrackets, brackets, IsExits, always, success, failure, success_first, failure_first, IsGoto, next, leaves, IsObject, absent, present, IsBody, nothing, evaluate, match, assign, replace, IsLabel, unlabelled, labelled, IsEntry, first, entry, Tree, plain, end, HasNoTree}
 use Rattle.model.specs.Parse.{Parser, Ends, bind, skip, starts, tok_starts, sees_tok, sees, expect, element, whole, finish}

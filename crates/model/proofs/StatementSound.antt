@@ -1,15 +1,14 @@
 -- What the parser of statements gives is spelled by what it took.
 use Rattle.std.proofs.Common.{◌≡◌, refl, sym, ◌∙◌, ap, subst, ℕ, ◌&&◌, inl, inr, Bool, true, false, List, [], ◌∷◌, ◌++◌, length, append-nil}
 use Rattle.std.specs.Prelude.{Option, Some, None}
-use Rattle.std.specs.Str.{bytes_eq}
 use Rattle.std.proofs.lemmas.Slice.Eq.{bytes_eq-Decides}
 use Rattle.model.specs.declared.tokens.Mark.{Mark}
 use Rattle.model.specs.declared.tokens.Mark.TheVariants as mark
 use Rattle.model.specs.Tokens.{Tok, Blank, Word, Digits, Quoted, Sign}
-use Rattle.model.specs.Trees.{Bytes, Expr, Place, Label, Computed, Goto, Next, Always, OnSuccess, OnFailure, Both, Body, Nothing, Evaluate, Match, Assign, Replace, Stmt, Plain, End}
+use Rattle.model.specs.Trees.{Bytes, Expr, Place, Label, Computed, Goto, Next, Always, OnSuccess, OnFailure, Body, Nothing, Evaluate, Match, Assign, Replace, Stmt, Plain, End}
 use Rattle.model.specs.Grammar.{gap, IsElement, IsExpr}
 use Rattle.model.specs.Statements.{on_success, on_failure, end_word, IsPlace, label, computed, InBrackets, brackets, IsExits, always, success, failure, success_first, failure_first, IsGoto, next, leaves, IsObject, absent, present, IsBody, nothing, evaluate, match, assign, replace, IsLabel, unlabelled, labelled, IsEntry, first, entry, Tree, plain, end}
-use Rattle.model.specs.Parse.{Parser, bind, skip, starts, same, sees, tail, expect, element, whole}
+use Rattle.model.specs.Parse.{Parser, bind, skip, starts, sees, tail, expect, element, whole}
 use Rattle.model.specs.ParseStatements as spec
 use Rattle.model.specs.ParseStatements.{sees_word, is_blank, sees_spaced, starts_spaced, starts_word, word_spaced, from_success, from_failure, stmt}
 use Rattle.model.proofs.ParseSteps.{bind_some, some_same, if_is, Wanted, opening, close, at_equal, at_colon, at_dollar, bind_is, sees_is, skip_gap, All, finish_is}

@@ -1,8 +1,8 @@
-use Rattle.std.proofs.Common.{◌≡◌, refl, sym, ◌∙◌, ap, ap₂, subst, inl, inr, ◌&&◌, [], length, drop, arith}
+use Rattle.std.proofs.Common.{◌≡◌, sym, ◌∙◌, ap, ap₂, subst, inl, inr, ◌&&◌, [], drop, arith}
 use Rattle.std.proofs.lemmas.Grind.{common_steps}
 use Rattle.model.specs.Faults.{everywhere, in_args, call_fits, keyword_known, operand_fits}
 use Rattle.model.specs.Trees as tree
-use Rattle.model.specs.TreeViews.{arg_of, args_of, expr_of}
+use Rattle.model.specs.TreeViews.{args_of, expr_of}
 use Rattle.model.proofs.ArgumentLists.{call_is, reference_is}
 use Rattle.parser.specs.Rules.{AllKeep, Keeps}
 use Rattle.parser.specs.declared.rules.Kept.{Kept}
