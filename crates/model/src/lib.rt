@@ -12,10 +12,13 @@ mod laws_cards;
 mod laws_decks;
 mod laws_tokens;
 mod laws_bytes;
+mod laws_cards;
 mod laws_names;
 mod laws_patterns;
 mod laws_trees;
 mod laws_values;
+mod laws_tokens;
+mod laws_trees;
 mod primitives;
 mod run;
 mod seq;
@@ -33,6 +36,7 @@ pub use laws_cards::worked_decks;
 pub use laws_decks::{accepted_decks_fit, decks_fit, end_is_last, trees_fit};
 pub use laws_tokens::{each_text_has_one_cut, worked_texts};
 pub use laws_bytes::{read_is_spelt, spelling_rows, spelt_is_read};
+pub use laws_cards::worked_decks;
 pub use laws_names::{key_names, prim_names};
 pub use laws_patterns::{
     answers_come_later, answers_stay, code_means_its_pattern, ends_are_permitted,
@@ -41,6 +45,8 @@ pub use laws_patterns::{
 };
 pub use laws_trees::{each_expression_is_one, each_statement_is_one, worked_faults, worked_trees};
 pub use laws_values::{integers_fit, integers_read};
+pub use laws_tokens::{each_text_has_one_cut, worked_texts};
+pub use laws_trees::{each_expression_is_one, each_statement_is_one, worked_faults, worked_trees};
 pub use primitives::PrimId;
 pub use run::{Ending, ErrorCode, Status, Stop, UnitFault};
 pub use seq::{Bytes, Seq};
