@@ -31,74 +31,54 @@ fn events(
     Ok(out)
 }
 
-fn script<const N: usize>(alloc: Global, answers: [Answer; N]) -> Result<Vec<Answer>, Fail> {
-    let mut list = Vec::new(alloc);
-    for answer in answers {
-        list.push(answer)?;
-    }
-    Ok(list)
+/// The events of a match with two answers.
+fn two(
+    alloc: Global,
+    subject: &[u8],
+    code: &PatCode,
+    first: Answer,
+    second: Answer,
+) -> Result<String, Fail> {
+    let mut script = Vec::new(alloc);
+    script.push(first)?;
+    script.push(second)?;
+    events(alloc, subject, code, script)
 }
 
 #[test]
-fn each_answer(rt: HostRuntime) -> Result<(), Fail> {
+fn counts_and_bytes(rt: HostRuntime) -> Result<(), Fail> {
     let alloc = rt.alloc();
     let len = PatCode::defer_prim(alloc, Kind::Len, 7)?;
+    let counted = two(alloc, b"AB", &len, Answer::Count(3), Answer::Count(1))?;
+    assert_eq!(rt; counted.as_str(), "ask 7; ask 7; 1 2");
     let span = PatCode::defer_prim(alloc, Kind::Span, 8)?;
-    let any = PatCode::defer(alloc, 9)?;
-    let said = cat(
-        alloc,
-        PatCode::imm(alloc, &prim(alloc, Basic::Len(1))?, variable(alloc, b"X")?)?,
-        lit(alloc, b"B")?,
-    )?;
-    let cursor = cat(
-        alloc,
-        lit(alloc, b"B")?,
-        PatCode::at(alloc, variable(alloc, b"Y")?)?,
-    )?;
-    assert_eq!(rt;
-        events(
-            alloc,
-            b"AB",
-            &len,
-            script(alloc, [Answer::Count(3), Answer::Count(1)])?
-        )?
-        .as_str(),
-        "ask 7; ask 7; 1 2"
-    );
-    assert_eq!(rt;
-        events(
-            alloc,
-            b"ABB",
-            &span,
-            script(alloc, [Answer::Failed, Answer::Bytes(text(alloc, b"B")?)])?
-        )?
-        .as_str(),
-        "ask 8; ask 8; 1 3"
-    );
-    assert_eq!(rt;
-        events(
-            alloc,
-            b"AB",
-            &any,
-            script(alloc, [Answer::Pattern(lit(alloc, b"AB")?)])?
-        )?
-        .as_str(),
-        "ask 9; 0 2"
-    );
-    assert_eq!(rt;
-        events(
-            alloc,
-            b"AAB",
-            &said,
-            script(alloc, [Answer::Said, Answer::Said])?
-        )?
-        .as_str(),
-        "say X A; say X A; 1 3"
-    );
-    assert_eq!(rt;
-        events(alloc, b"AB", &cursor, script(alloc, [Answer::Said])?)?.as_str(),
-        "say Y 2; 1 2"
-    );
+    let set = Answer::Bytes(text(alloc, b"B")?);
+    let spanned = two(alloc, b"ABB", &span, Answer::Failed, set)?;
+    assert_eq!(rt; spanned.as_str(), "ask 8; ask 8; 1 3");
+    Ok(())
+}
+
+#[test]
+fn patterns(rt: HostRuntime) -> Result<(), Fail> {
+    let alloc = rt.alloc();
+    let code = PatCode::defer(alloc, 9)?;
+    let answer = Answer::Pattern(lit(alloc, b"AB")?);
+    let entered = two(alloc, b"CAB", &code, Answer::Failed, answer)?;
+    assert_eq!(rt; entered.as_str(), "ask 9; ask 9; 1 3");
+    Ok(())
+}
+
+#[test]
+fn assignments(rt: HostRuntime) -> Result<(), Fail> {
+    let alloc = rt.alloc();
+    let one = prim(alloc, Basic::Len(1))?;
+    let said = PatCode::imm(alloc, &one, variable(alloc, b"X")?)?;
+    let code = cat(alloc, said, lit(alloc, b"B")?)?;
+    let told = two(alloc, b"AAB", &code, Answer::Said, Answer::Said)?;
+    assert_eq!(rt; told.as_str(), "say X A; say X A; 1 3");
+    let at = PatCode::at(alloc, variable(alloc, b"Y")?)?;
+    let cursor = two(alloc, b"AB", &at, Answer::Failed, Answer::Said)?;
+    assert_eq!(rt; cursor.as_str(), "say Y 0; say Y 1; 1 1");
     Ok(())
 }
 
