@@ -53,3 +53,4 @@ pub mod TreeRows
 pub mod Lexed
 pub mod Flow
 pub mod WellFormed
+pub mod Loading
