@@ -59,3 +59,4 @@ pub mod RulesUsed
 pub mod Flow
 pub mod WellFormed
 pub mod ValueLaws
+pub mod Loading

@@ -3,6 +3,7 @@
 
 mod cards;
 mod causes;
+mod flow;
 mod format;
 mod image;
 mod instr;
@@ -15,6 +16,7 @@ mod laws_bytes;
 mod laws_cards;
 mod laws_names;
 mod laws_patterns;
+mod laws_tokens;
 mod laws_trees;
 mod laws_values;
 mod laws_tokens;
@@ -27,6 +29,7 @@ mod trees;
 
 pub use cards::{CardFault, CardRule, Deck, Statement};
 pub use causes::{Cause, DeckFault, StmtFault};
+pub use flow::{Course, Handler, Kind, Mode};
 pub use format::{FormatFault, FormatRule, LoadFault, Miss, ModuleFault, ModuleRule, ReadError};
 pub use image::{Image, Label, PatInstr};
 pub use instr::{ArithOp, Instr, ReturnKind, SignOp};
@@ -43,6 +46,7 @@ pub use laws_patterns::{
     first_end_is_found, literals_are_matched, literals_are_scanned, match_states_answer,
     match_states_lead_on, pattern_cases, steps_stay_within,
 };
+pub use laws_tokens::{each_text_has_one_cut, worked_texts};
 pub use laws_trees::{each_expression_is_one, each_statement_is_one, worked_faults, worked_trees};
 pub use laws_values::{integers_fit, integers_read};
 pub use laws_tokens::{each_text_has_one_cut, worked_texts};
