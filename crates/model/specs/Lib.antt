@@ -47,3 +47,5 @@ pub mod Modules
 pub mod Placed
 pub mod Alike
 pub mod Agreement
+pub mod Told
+pub mod Flow
