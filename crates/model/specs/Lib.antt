@@ -2,6 +2,7 @@ pub mod Cards
 pub mod CardRows
 pub mod Cut
 pub mod CutRows
+pub mod DeckLaws
 pub mod Digits
 pub mod NameLaws
 pub mod Io
@@ -15,6 +16,7 @@ pub mod Pieces
 pub mod Strings
 pub mod Tokens
 pub mod Trees
+pub mod Weights
 pub mod TreeLaws
 pub mod TreeViews
 pub mod Target
@@ -26,6 +28,7 @@ pub mod Steps
 pub mod PatternCode
 pub mod Stands
 pub mod PatternLaws
+pub mod MatchStates
 pub mod PatternCases
 pub mod Codes
 pub mod Spelling
@@ -49,3 +52,12 @@ pub mod Alike
 pub mod Agreement
 pub mod Told
 pub mod Flow
+pub mod MatchLaws
+pub mod Faults
+pub mod FaultRows
+pub mod TreeRows
+pub mod Lexed
+pub mod RulesUsed
+pub mod Flow
+pub mod WellFormed
+pub mod ValueLaws
