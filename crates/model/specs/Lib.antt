@@ -51,7 +51,6 @@ pub mod Placed
 pub mod Alike
 pub mod Agreement
 pub mod Told
-pub mod Flow
 pub mod MatchLaws
 pub mod Faults
 pub mod FaultRows
