@@ -1,5 +1,6 @@
 -- The names of keywords and primitives, and the most arguments that each primitive takes.
-use Rattle.std.specs.Prelude.{ℕ, List, [], ◌∷◌, Option, None, Some, Bool, true, false, codes, if◌then◌else◌}
+use Rattle.std.specs.Prelude.{ℕ, List, [], ◌∷◌, Option, Bool, true, false, codes}
+use Rattle.std.specs.List.{find}
 use Rattle.std.specs.Str.{bytes_eq}
 use Rattle.model.specs.declared.keys.KeyId.{KeyId}
 use Rattle.model.specs.declared.keys.KeyId.TheVariants as k
@@ -7,9 +8,8 @@ use Rattle.model.specs.declared.primitives.PrimId.{PrimId}
 use Rattle.model.specs.declared.primitives.PrimId.TheVariants as p
 
 -- the first of the listed that has this name
-abbrev pub named : {A : Type 0} → (A → List ℕ) → List A → List ℕ → Option A
-named name [] text = None
-named name (x ∷ xs) text = if bytes_eq (name x) text then Some x else named name xs text
+unfoldable pub named : {A : Type 0} → (A → List ℕ) → List A → List ℕ → Option A
+named name listed text = find (λ x. bytes_eq (name x) text) listed
 
 -- ---- keywords
 abbrev pub key_name : KeyId → List ℕ

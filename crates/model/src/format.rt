@@ -1,7 +1,7 @@
 //! Why bytes are no module's.
 
 ghost use Rattle.std.specs.Prelude.{◌≡◌};
-ghost use Rattle.model.specs.declared.format.ReadError.TheVariants.{Memory};
+ghost use Rattle.model.specs.declared.format.ReadError.TheVariants.{Fault, Memory};
 
 use std::alloc::{AllocError, AllocFailed};
 use thiserror::Error;
@@ -67,6 +67,14 @@ impl<T: Drop> From<AllocFailed<T>> for ReadError {
 
     fn from(_e: AllocFailed<T>) -> ReadError {
         ReadError::Memory
+    }
+}
+
+impl From<Miss> for ReadError {
+    ghost from_gives = { λ miss e. e ≡ Fault miss };
+
+    fn from(miss: Miss) -> ReadError {
+        ReadError::Fault(miss)
     }
 }
 

@@ -7,6 +7,12 @@ mod format;
 mod image;
 mod instr;
 mod keys;
+mod laws_trees;
+mod laws_cards;
+mod laws_tokens;
+mod laws_bytes;
+mod laws_names;
+mod laws_patterns;
 mod primitives;
 mod run;
 mod seq;
@@ -19,6 +25,14 @@ pub use format::{FormatFault, FormatRule, LoadFault, Miss, ModuleFault, ModuleRu
 pub use image::{Image, Label, PatInstr};
 pub use instr::{ArithOp, Instr, ReturnKind, SignOp};
 pub use keys::KeyId;
+pub use laws_cards::worked_decks;
+pub use laws_tokens::{each_text_has_one_cut, worked_texts};
+pub use laws_bytes::{read_is_spelt, spelling_rows, spelt_is_read};
+pub use laws_names::{key_names, prim_names};
+pub use laws_patterns::{
+    answers_come_later, answers_stay, code_means_its_pattern, ends_are_permitted,
+    first_end_is_found, steps_stay_within,
+};
 pub use primitives::PrimId;
 pub use run::{Ending, ErrorCode, UnitFault};
 pub use seq::{Bytes, Seq};

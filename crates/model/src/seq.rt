@@ -41,7 +41,8 @@ impl<T> Seq<T> {
     pub fn into_vec(self) -> Vec<T>
         ensures { result.items ≡ self }
     {
-        self.items
+        let Self { items } = self;
+        items
     }
 
     /// The items in order.

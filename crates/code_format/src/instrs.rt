@@ -1,0 +1,251 @@
+//! Instructions as bytes.
+
+ghost use Rattle.std.specs.Prelude.{◌≡◌, [], ◌∷◌, ◌++◌, OnOk, OnErr};
+ghost use Rattle.model.specs.Spelling.{instr, u16 as u16_bytes, u32 as u32_bytes, u64 as u64_bytes};
+ghost use Rattle.model.specs.Reading.{Finds, instr_of};
+ghost use Rattle.code_format.specs.Places.{instr_at};
+
+use crate::codes::{
+    arith_code_of, arith_op_of, key_code_of, key_of, prim_code_of, prim_of, return_code_of,
+    return_kind_of, sign_code_of, sign_op_of,
+};
+use crate::numbers::{first_byte, first_u16, first_u32, first_u64};
+use byteorder::{BigEndian, ByteOrder};
+use model::{FormatFault, FormatRule, Instr};
+use std::alloc::AllocError;
+
+/// The instruction in front, and what is behind it; none if it is in no table or is cut.
+#[tactic(auto, unfolding(model::specs::Reading::instr_of, model::specs::Reading::readers, model::specs::Reading::alone, model::specs::Reading::wide, model::specs::Reading::short, model::specs::Reading::whole, model::specs::Reading::call, model::specs::Reading::choice, model::specs::Reading::prim))]
+pub fn first_instr(bytes: &[u8]) -> Option<(Instr, &[u8])>
+    ensures { Finds (λ x. (x.0, x.1.now)) result (instr_of bytes.now) }
+{
+    let (code, rest) = first_byte(bytes)?;
+    match code {
+        0 => Some((Instr::End, rest)),
+        1 => {
+            let (n, rest) = first_u32(rest)?;
+            Some((Instr::Begin(n), rest))
+        }
+        2 => Some((Instr::Body, rest)),
+        3 => {
+            let (n, rest) = first_u32(rest)?;
+            Some((Instr::Goto(n), rest))
+        }
+        4 => {
+            let (x, rest) = first_byte(rest)?;
+            Some((Instr::Return(return_kind_of(x)?), rest))
+        }
+        5 => Some((Instr::GotoV, rest)),
+        6 => Some((Instr::NoLabel, rest)),
+        7 => {
+            let (n, rest) = first_u32(rest)?;
+            Some((Instr::Str(n), rest))
+        }
+        8 => {
+            let (n, rest) = first_u64(rest)?;
+            Some((Instr::Int(n.cast_signed()), rest))
+        }
+        9 => Some((Instr::Null, rest)),
+        10 => {
+            let (n, rest) = first_u32(rest)?;
+            Some((Instr::Var(n), rest))
+        }
+        11 => Some((Instr::Fetch, rest)),
+        12 => {
+            let (x, rest) = first_byte(rest)?;
+            Some((Instr::KeyGet(key_of(x)?), rest))
+        }
+        13 => {
+            let (x, rest) = first_byte(rest)?;
+            Some((Instr::KeySet(key_of(x)?), rest))
+        }
+        14 => Some((Instr::Indir, rest)),
+        15 => {
+            let (n, rest) = first_u16(rest)?;
+            Some((Instr::Elem(n), rest))
+        }
+        16 => Some((Instr::Assign, rest)),
+        17 => Some((Instr::NameV, rest)),
+        18 => {
+            let (n, rest) = first_u32(rest)?;
+            Some((Instr::Expr(n), rest))
+        }
+        19 => {
+            let (s, rest) = first_u32(rest)?;
+            let (n, rest) = first_u16(rest)?;
+            Some((Instr::CallV(s, n), rest))
+        }
+        20 => {
+            let (s, rest) = first_u32(rest)?;
+            let (n, rest) = first_u16(rest)?;
+            Some((Instr::CallN(s, n), rest))
+        }
+        21 => {
+            let (p, rest) = first_byte(rest)?;
+            let p = prim_of(p)?;
+            let (n, rest) = first_byte(rest)?;
+            Some((Instr::PrimV(p, n), rest))
+        }
+        22 => {
+            let (p, rest) = first_byte(rest)?;
+            let p = prim_of(p)?;
+            let (n, rest) = first_byte(rest)?;
+            Some((Instr::PrimN(p, n), rest))
+        }
+        23 => Some((Instr::Drop, rest)),
+        24 => {
+            let (n, rest) = first_u32(rest)?;
+            Some((Instr::Try(n), rest))
+        }
+        25 => Some((Instr::Untry, rest)),
+        26 => Some((Instr::Fail, rest)),
+        27 => {
+            let (x, rest) = first_byte(rest)?;
+            Some((Instr::Sign(sign_op_of(x)?), rest))
+        }
+        28 => {
+            let (x, rest) = first_byte(rest)?;
+            Some((Instr::Arith(arith_op_of(x)?), rest))
+        }
+        29 => Some((Instr::Cat, rest)),
+        30 => Some((Instr::Alt, rest)),
+        31 => Some((Instr::Cond, rest)),
+        32 => Some((Instr::Imm, rest)),
+        33 => Some((Instr::Cursor, rest)),
+        34 => {
+            let (n, rest) = first_u32(rest)?;
+            Some((Instr::Pat(n), rest))
+        }
+        35 => Some((Instr::FetchK, rest)),
+        36 => Some((Instr::Match, rest)),
+        37 => Some((Instr::MatchR, rest)),
+        38 => Some((Instr::Splice, rest)),
+        39 => Some((Instr::Ret, rest)),
+        _ => None,
+    }
+}
+
+/// The instruction at a place and the place behind it. One that is in no table or is cut is a fault at the place itself.
+pub fn get_instr(bytes: &[u8], at: usize) -> Result<(Instr, usize), FormatFault>
+    ensures { result ≡ instr_at bytes.now at }
+{
+    let behind = bytes.get(at..).unwrap_or(&[]);
+    match first_instr(behind) {
+        Some((instr, rest)) => Ok((instr, bytes.len().saturating_sub(rest.len()))),
+        None => Err(FormatFault {
+            offset: at,
+            rule: FormatRule::UnknownInstruction,
+        }),
+    }
+}
+
+fn put_byte(out: &mut Vec<u8>, code: u8) -> Result<(), AllocError>
+    ensures ok { OnOk result (out.new.items ≡ out.old.items ++ code ∷ []) }
+    ensures err { OnErr result (out.new.items ≡ out.old.items) }
+{
+    out.extend_from_slice(&[code])
+}
+
+fn put_choice(out: &mut Vec<u8>, code: u8, x: u8) -> Result<(), AllocError>
+    ensures ok { OnOk result (out.new.items ≡ out.old.items ++ code ∷ x ∷ []) }
+    ensures err { OnErr result (out.new.items ≡ out.old.items) }
+{
+    out.extend_from_slice(&[code, x])
+}
+
+fn put_prim(out: &mut Vec<u8>, code: u8, prim: u8, n: u8) -> Result<(), AllocError>
+    ensures ok { OnOk result (out.new.items ≡ out.old.items ++ code ∷ prim ∷ n ∷ []) }
+    ensures err { OnErr result (out.new.items ≡ out.old.items) }
+{
+    out.extend_from_slice(&[code, prim, n])
+}
+
+#[tactic(auto, unfolding(model::specs::Spelling::u16))]
+fn put_short(out: &mut Vec<u8>, code: u8, n: u16) -> Result<(), AllocError>
+    ensures ok { OnOk result (out.new.items ≡ out.old.items ++ code ∷ u16_bytes n) }
+    ensures err { OnErr result (out.new.items ≡ out.old.items) }
+{
+    let mut bytes = [code, 0, 0];
+    BigEndian::write_u16(&mut bytes[1..], n);
+    out.extend_from_slice(&bytes)
+}
+
+#[tactic(auto, unfolding(model::specs::Spelling::u32))]
+fn put_wide(out: &mut Vec<u8>, code: u8, n: u32) -> Result<(), AllocError>
+    ensures ok { OnOk result (out.new.items ≡ out.old.items ++ code ∷ u32_bytes n) }
+    ensures err { OnErr result (out.new.items ≡ out.old.items) }
+{
+    let mut bytes = [code, 0, 0, 0, 0];
+    BigEndian::write_u32(&mut bytes[1..], n);
+    out.extend_from_slice(&bytes)
+}
+
+#[tactic(auto, unfolding(model::specs::Spelling::u64))]
+fn put_whole(out: &mut Vec<u8>, code: u8, n: u64) -> Result<(), AllocError>
+    ensures ok { OnOk result (out.new.items ≡ out.old.items ++ code ∷ u64_bytes n) }
+    ensures err { OnErr result (out.new.items ≡ out.old.items) }
+{
+    let mut bytes = [code, 0, 0, 0, 0, 0, 0, 0, 0];
+    BigEndian::write_u64(&mut bytes[1..], n);
+    out.extend_from_slice(&bytes)
+}
+
+#[tactic(auto, unfolding(model::specs::Spelling::u16, model::specs::Spelling::u32))]
+fn put_call(out: &mut Vec<u8>, code: u8, string: u32, n: u16) -> Result<(), AllocError>
+    ensures ok { OnOk result (out.new.items ≡ out.old.items ++ code ∷ (u32_bytes string ++ u16_bytes n)) }
+    ensures err { OnErr result (out.new.items ≡ out.old.items) }
+{
+    let mut bytes = [code, 0, 0, 0, 0, 0, 0];
+    BigEndian::write_u32(&mut bytes[1..], string);
+    BigEndian::write_u16(&mut bytes[5..], n);
+    out.extend_from_slice(&bytes)
+}
+
+/// Puts an instruction at the end; after a refusal the bytes are as before.
+pub fn put_instr(i: &Instr, out: &mut Vec<u8>) -> Result<(), AllocError>
+    ensures ok { OnOk result (out.new.items ≡ out.old.items ++ instr i.now) }
+    ensures err { OnErr result (out.new.items ≡ out.old.items) }
+{
+    match *i {
+        Instr::End => put_byte(out, 0),
+        Instr::Begin(n) => put_wide(out, 1, n),
+        Instr::Body => put_byte(out, 2),
+        Instr::Goto(n) => put_wide(out, 3, n),
+        Instr::Return(x) => put_choice(out, 4, return_code_of(x)),
+        Instr::GotoV => put_byte(out, 5),
+        Instr::NoLabel => put_byte(out, 6),
+        Instr::Str(n) => put_wide(out, 7, n),
+        Instr::Int(z) => put_whole(out, 8, z.cast_unsigned()),
+        Instr::Null => put_byte(out, 9),
+        Instr::Var(n) => put_wide(out, 10, n),
+        Instr::Fetch => put_byte(out, 11),
+        Instr::KeyGet(x) => put_choice(out, 12, key_code_of(x)),
+        Instr::KeySet(x) => put_choice(out, 13, key_code_of(x)),
+        Instr::Indir => put_byte(out, 14),
+        Instr::Elem(n) => put_short(out, 15, n),
+        Instr::Assign => put_byte(out, 16),
+        Instr::NameV => put_byte(out, 17),
+        Instr::Expr(n) => put_wide(out, 18, n),
+        Instr::CallV(s, n) => put_call(out, 19, s, n),
+        Instr::CallN(s, n) => put_call(out, 20, s, n),
+        Instr::PrimV(p, n) => put_prim(out, 21, prim_code_of(p), n),
+        Instr::PrimN(p, n) => put_prim(out, 22, prim_code_of(p), n),
+        Instr::Drop => put_byte(out, 23),
+        Instr::Try(n) => put_wide(out, 24, n),
+        Instr::Untry => put_byte(out, 25),
+        Instr::Fail => put_byte(out, 26),
+        Instr::Sign(x) => put_choice(out, 27, sign_code_of(x)),
+        Instr::Arith(x) => put_choice(out, 28, arith_code_of(x)),
+        Instr::Cat => put_byte(out, 29),
+        Instr::Alt => put_byte(out, 30),
+        Instr::Cond => put_byte(out, 31),
+        Instr::Imm => put_byte(out, 32),
+        Instr::Cursor => put_byte(out, 33),
+        Instr::Pat(n) => put_wide(out, 34, n),
+        Instr::FetchK => put_byte(out, 35),
+        Instr::Match => put_byte(out, 36),
+        Instr::MatchR => put_byte(out, 37),
+        Instr::Splice => put_byte(out, 38),
+        Instr::Ret => put_byte(out, 39),
+    }
+}

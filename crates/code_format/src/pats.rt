@@ -1,0 +1,129 @@
+//! Instructions of patterns as bytes.
+
+ghost use Rattle.std.specs.Prelude.{◌≡◌, [], ◌∷◌, ◌++◌, OnOk, OnErr};
+ghost use Rattle.model.specs.Spelling.{pat_instr, u32 as u32_bytes, u64 as u64_bytes};
+ghost use Rattle.model.specs.Reading.{Reads, pat_instr_at};
+ghost use Rattle.code_format.specs.Places.{pat_at};
+
+use crate::numbers::{read_byte, read_u32, read_u64};
+use byteorder::{BigEndian, ByteOrder};
+use model::{FormatFault, FormatRule, Miss, PatInstr};
+use std::alloc::AllocError;
+
+/// The instruction in front, and what is behind it.
+#[tactic(auto, unfolding(model::specs::Reading::pat_instr_at, model::specs::Reading::pat_readers, model::specs::Reading::wide, model::specs::Reading::long, model::specs::Reading::distance, model::specs::Reading::number_at))]
+pub fn first_pat_instr(bytes: &[u8]) -> Result<(PatInstr, &[u8]), Miss>
+    ensures { Reads (λ x. (x.0, x.1.now)) result (pat_instr_at [] bytes.now) }
+{
+    let (kind, rest) = read_byte(bytes)?;
+    match kind {
+        0 => {
+            let (n, rest) = read_u32(rest)?;
+            Ok((PatInstr::Lit(n), rest))
+        }
+        1 => {
+            let (n, rest) = read_u32(rest)?;
+            Ok((PatInstr::Split(n.cast_signed()), rest))
+        }
+        2 => {
+            let (n, rest) = read_u32(rest)?;
+            Ok((PatInstr::Jmp(n.cast_signed()), rest))
+        }
+        3 => {
+            let (n, rest) = read_u64(rest)?;
+            Ok((PatInstr::Len(n), rest))
+        }
+        4 => {
+            let (n, rest) = read_u64(rest)?;
+            Ok((PatInstr::Pos(n), rest))
+        }
+        5 => {
+            let (n, rest) = read_u64(rest)?;
+            Ok((PatInstr::RPos(n), rest))
+        }
+        6 => {
+            let (n, rest) = read_u64(rest)?;
+            Ok((PatInstr::Tab(n), rest))
+        }
+        7 => {
+            let (n, rest) = read_u64(rest)?;
+            Ok((PatInstr::RTab(n), rest))
+        }
+        8 => {
+            let (n, rest) = read_u32(rest)?;
+            Ok((PatInstr::Any(n), rest))
+        }
+        9 => {
+            let (n, rest) = read_u32(rest)?;
+            Ok((PatInstr::NotAny(n), rest))
+        }
+        10 => {
+            let (n, rest) = read_u32(rest)?;
+            Ok((PatInstr::Span(n), rest))
+        }
+        11 => {
+            let (n, rest) = read_u32(rest)?;
+            Ok((PatInstr::Break(n), rest))
+        }
+        _ => Err(Miss {
+            left: bytes.len(),
+            rule: FormatRule::UnknownInstruction,
+        }),
+    }
+}
+
+/// The instruction at a place and the place behind it. A kind in no table is a fault at the place itself, an operand that
+/// is cut one at the end of the bytes.
+pub fn get_pat_instr(bytes: &[u8], at: usize) -> Result<(PatInstr, usize), FormatFault>
+    ensures { result ≡ pat_at bytes.now at }
+{
+    let behind = bytes.get(at..).unwrap_or(&[]);
+    match first_pat_instr(behind) {
+        Ok((instr, rest)) => Ok((instr, bytes.len().saturating_sub(rest.len()))),
+        Err(miss) => Err(FormatFault {
+            offset: bytes.len().saturating_sub(miss.left),
+            rule: miss.rule,
+        }),
+    }
+}
+
+#[tactic(auto, unfolding(model::specs::Spelling::u32))]
+fn put_short(out: &mut Vec<u8>, kind: u8, n: u32) -> Result<(), AllocError>
+    ensures ok { OnOk result (out.new.items ≡ out.old.items ++ kind ∷ u32_bytes n) }
+    ensures err { OnErr result (out.new.items ≡ out.old.items) }
+{
+    let mut bytes = [kind, 0, 0, 0, 0];
+    BigEndian::write_u32(&mut bytes[1..], n);
+    out.extend_from_slice(&bytes)
+}
+
+#[tactic(auto, unfolding(model::specs::Spelling::u64))]
+fn put_long(out: &mut Vec<u8>, kind: u8, n: u64) -> Result<(), AllocError>
+    ensures ok { OnOk result (out.new.items ≡ out.old.items ++ kind ∷ u64_bytes n) }
+    ensures err { OnErr result (out.new.items ≡ out.old.items) }
+{
+    let mut bytes = [kind, 0, 0, 0, 0, 0, 0, 0, 0];
+    BigEndian::write_u64(&mut bytes[1..], n);
+    out.extend_from_slice(&bytes)
+}
+
+/// Puts an instruction of a pattern at the end; after a refusal the bytes are as before.
+pub fn put_pat_instr(i: &PatInstr, out: &mut Vec<u8>) -> Result<(), AllocError>
+    ensures ok { OnOk result (out.new.items ≡ out.old.items ++ pat_instr i.now) }
+    ensures err { OnErr result (out.new.items ≡ out.old.items) }
+{
+    match *i {
+        PatInstr::Lit(n) => put_short(out, 0, n),
+        PatInstr::Split(n) => put_short(out, 1, n.cast_unsigned()),
+        PatInstr::Jmp(n) => put_short(out, 2, n.cast_unsigned()),
+        PatInstr::Len(n) => put_long(out, 3, n),
+        PatInstr::Pos(n) => put_long(out, 4, n),
+        PatInstr::RPos(n) => put_long(out, 5, n),
+        PatInstr::Tab(n) => put_long(out, 6, n),
+        PatInstr::RTab(n) => put_long(out, 7, n),
+        PatInstr::Any(n) => put_short(out, 8, n),
+        PatInstr::NotAny(n) => put_short(out, 9, n),
+        PatInstr::Span(n) => put_short(out, 10, n),
+        PatInstr::Break(n) => put_short(out, 11, n),
+    }
+}

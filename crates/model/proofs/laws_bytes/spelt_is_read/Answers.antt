@@ -1,0 +1,5 @@
+use Rattle.model.proofs.SpeltImages
+use Rattle.model.proofs.laws_bytes.spelt_is_read.Goals as goal
+
+pub returns : goal.returns
+returns c = SpeltImages.spelt_is_read

@@ -1,0 +1,5 @@
+use Rattle.model.proofs.Names
+use Rattle.model.proofs.laws_names.key_names.Goals as goal
+
+pub returns : goal.returns
+returns c = Names.key_names

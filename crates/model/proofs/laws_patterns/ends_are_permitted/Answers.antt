@@ -1,0 +1,5 @@
+use Rattle.model.proofs.PatternLaws.{ends_permitted}
+use Rattle.model.proofs.laws_patterns.ends_are_permitted.Goals as goal
+
+pub returns : goal.returns
+returns c = ends_permitted

@@ -1,0 +1,5 @@
+use Rattle.model.proofs.StepsSound.{steps_sound}
+use Rattle.model.proofs.laws_patterns.steps_stay_within.Goals as goal
+
+pub returns : goal.returns
+returns c s code m st h = steps_sound s code m st h

@@ -1,0 +1,10 @@
+use Rattle.model.proofs.ParseComplete.{expr_full}
+use Rattle.model.proofs.ParseExact.{expr_sound}
+use Rattle.model.proofs.laws_trees.one_expr.Goals as goal
+
+pub returns : goal.returns
+returns c = record {
+  sound = expr_sound;
+  complete = λ ts e s. expr_full e ts s;
+  one = λ ts e f s t. let a = expr_full e ts s in let b = expr_full f ts t in cc;
+}

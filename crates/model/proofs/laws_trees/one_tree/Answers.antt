@@ -1,0 +1,10 @@
+use Rattle.model.proofs.StatementSound.{stmt_sound}
+use Rattle.model.proofs.StatementComplete.{stmt_full}
+use Rattle.model.proofs.laws_trees.one_tree.Goals as goal
+
+pub returns : goal.returns
+returns c = record {
+  sound = stmt_sound;
+  complete = stmt_full;
+  one = λ ts s t i j. let a = stmt_full ts s i in let b = stmt_full ts t j in cc;
+}

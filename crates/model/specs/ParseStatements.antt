@@ -1,0 +1,94 @@
+-- The tree of a token list, as a function of it: the statements.
+use Rattle.std.specs.Prelude.{ℕ, ◌&&◌, Bool, true, false, List, [], ◌∷◌, length, Option, Some, None, if◌then◌else◌}
+use Rattle.std.specs.Str.{bytes_eq}
+use Rattle.model.specs.declared.tokens.Mark.{Mark}
+use Rattle.model.specs.declared.tokens.Mark.TheVariants as mark
+use Rattle.model.specs.Tokens.{Tok, Blank, Word, Sign}
+use Rattle.model.specs.Trees.{Bytes, Expr, Place, Label, Computed, Goto, Next, Always, OnSuccess, OnFailure, Both, Body, Nothing, Evaluate, Match, Assign, Replace, Stmt, Plain, End}
+use Rattle.model.specs.Statements.{on_success, on_failure, end_word}
+use Rattle.model.specs.Parse.{Parser, bind, skip, starts, same, sees, tail, expect, element, whole, finish}
+
+-- whether this word comes next
+abbrev pub word_is : Bytes → Tok → Bool
+word_is w (Word s) = bytes_eq s w
+word_is w _ = false
+
+unfoldable pub sees_word : Bytes → List Tok → Bool
+sees_word w [] = false
+sees_word w (t ∷ ts) = word_is w t
+
+abbrev pub is_blank : Tok → Bool
+is_blank Blank = true
+is_blank _ = false
+
+-- whether blanks and this mark come next
+unfoldable pub sees_spaced : Mark → List Tok → Bool
+sees_spaced m [] = false
+sees_spaced m (t ∷ ts) = is_blank t && sees m ts
+
+-- whether blanks and an element come next
+unfoldable pub starts_spaced : List Tok → Bool
+starts_spaced [] = false
+starts_spaced (t ∷ ts) = is_blank t && starts ts
+
+-- brackets and unary operators are nested less deep than the number
+module _ (d : ℕ) where
+  -- ---- gotos
+  abbrev pub place_by : Tok → Parser Place
+  place_by (Word l) ts = Some (Label l, ts)
+  place_by (Sign m) ts = if same mark.Dollar m then bind (element d ts) (λ e rest. Some (Computed e, rest)) else None
+  place_by _ ts = None
+
+  unfoldable pub place : Parser Place
+  place [] = None
+  place (t ∷ ts) = place_by t ts
+
+  unfoldable pub in_brackets : Parser Place
+  in_brackets ts = if sees mark.Open ts then bind (place (skip (tail ts))) (λ p rest. expect mark.Close p (skip rest)) else None
+
+  -- the goto with the second place, where its word comes next, and else the one without
+  unfoldable pub second : Bytes → (Place → Goto) → Goto → Parser Goto
+  second word both one ts = if sees_word word (skip ts) then bind (in_brackets (tail (skip ts))) (λ q rest. Some (both q, rest)) else Some (one, ts)
+
+  unfoldable pub exits : Parser Goto
+  exits ts =
+      if sees_word on_success ts then bind (in_brackets (tail ts)) (λ p rest. second on_failure (λ q. Both p q) (OnSuccess p) rest)
+      else (if sees_word on_failure ts then bind (in_brackets (tail ts)) (λ p rest. second on_success (λ q. Both q p) (OnFailure p) rest)
+      else bind (in_brackets ts) (λ p rest. Some (Always p, rest)))
+
+  unfoldable pub goto : Parser Goto
+  goto ts = if sees_spaced mark.Colon ts then exits (skip (tail (tail ts))) else Some (Next, ts)
+
+  -- ---- bodies
+  unfoldable pub object : Parser (Option Expr)
+  object ts = if starts_spaced ts then bind (whole d (tail ts)) (λ e rest. Some (Some e, rest)) else Some (None, ts)
+
+  unfoldable pub after_pattern : Expr → Expr → Parser Body
+  after_pattern x p ts = if sees_spaced mark.Equal ts then bind (object (tail (tail ts))) (λ o rest. Some (Replace x p o, rest)) else Some (Match x p, ts)
+
+  unfoldable pub after_subject : Expr → Parser Body
+  after_subject x ts =
+      if sees_spaced mark.Equal ts then bind (object (tail (tail ts))) (λ o rest. Some (Assign x o, rest))
+      else (if starts_spaced ts then bind (whole d (tail ts)) (after_pattern x) else Some (Evaluate x, ts))
+
+  unfoldable pub body : Parser Body
+  body ts = if starts_spaced ts then bind (element d (tail ts)) after_subject else Some (Nothing, ts)
+
+  -- ---- statements
+  unfoldable pub plain_after : Option Bytes → Parser Stmt
+  plain_after l ts = bind (body ts) (λ b rest. bind (goto rest) (λ g end. Some (Plain l b g, skip end)))
+
+  abbrev pub entry : Parser (Option Bytes)
+  entry (Blank ∷ Word l ∷ ts) = Some (Some l, ts)
+  entry ts = Some (None, ts)
+
+  unfoldable pub end_after : Parser Stmt
+  end_after ts = bind (entry ts) (λ l rest. Some (End l, skip rest))
+
+  unfoldable pub statement : Parser Stmt
+  statement (Word s ∷ ts) = if bytes_eq s end_word then end_after ts else plain_after (Some s) ts
+  statement ts = plain_after None ts
+
+-- the one tree of all the tokens
+unfoldable pub stmt : List Tok → Option Stmt
+stmt ts = finish (statement (length ts) ts)

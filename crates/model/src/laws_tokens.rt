@@ -1,0 +1,14 @@
+//! Laws of tokens: functions that do nothing, each with a contract that says the law.
+
+ghost use Rattle.model.specs.CutRows.{CutRows};
+ghost use Rattle.model.specs.Pieces.{EachTextHasOneCut};
+
+/// Each text is cut into pieces in exactly one way.
+pub fn each_text_has_one_cut()
+    ensures { EachTextHasOneCut }
+{}
+
+/// The worked cases of texts.
+pub fn worked_texts()
+    ensures { CutRows }
+{}

@@ -1,0 +1,42 @@
+use Rattle.std.proofs.Common.{◌≡◌, ℕ, zero, suc, ◌+◌, ◌-◌, ◌≤◌, List, [], ◌∷◌, ◌++◌, length, take, drop, refl, sym, ap, ◌∙◌, arith, append_assoc, add-one}
+use Rattle.std.proofs.lemmas.List.{drop-take, append-nil, take-take, drop-drop, length-take}
+use Rattle.std.specs.List.{repeat, slice_range}
+use Rattle.std.specs.Prelude.{◌==◌, if◌then◌else◌}
+use Rattle.model.specs.Strings.{replaced_or}
+
+pub repeat-nil : (n : ℕ) → repeat {A = ℕ} n [] ≡ []
+repeat-nil zero = refl
+repeat-nil (suc n) = repeat-nil n
+
+pub repeat-push : (n : ℕ) (xs : List ℕ) → repeat (suc n) xs ≡ repeat n xs ++ xs
+repeat-push zero xs = append-nil xs
+repeat-push (suc n) xs = ap (λ ys. xs ++ ys) (repeat-push n xs) ∙ sym (append_assoc xs (repeat n xs) xs)
+
+-- a part of a part
+pub slice_range-slice_range : (xs : List ℕ) (a b i j : ℕ) → i ≤ j → a + j ≤ b → slice_range xs (a + i) (a + j) ≡ slice_range (slice_range xs a b) i j
+slice_range-slice_range xs a b i j le within =
+    let m : ℕ = b - a - i in
+    let count : b - a ≡ i + m = omega arith in
+    let same : a + j - (a + i) ≡ j - i = omega arith in
+    let fits : j - i ≤ m = omega arith in
+    ap (λ n. take n (drop (a + i) xs)) same
+    ∙ ap (λ ys. take (j - i) ys) (sym (drop-drop i a xs))
+    ∙ sym (take-take (j - i) m (drop i (drop a xs)) fits)
+    ∙ ap (λ ys. take (j - i) ys) (sym (drop-take i m (drop a xs)))
+    ∙ ap (λ n. take (j - i) (drop i (take n (drop a xs)))) (sym count)
+
+pub replaced_or-push : (fs ts : List ℕ) (x f t b : ℕ) → length fs ≡ length ts → replaced_or x (fs ++ f ∷ []) (ts ++ t ∷ []) b ≡ (if b == f then t else replaced_or x fs ts b)
+replaced_or-push [] [] x f t b e = refl
+replaced_or-push (g ∷ fs) (u ∷ ts) x f t b e = replaced_or-push fs ts (if b == g then u else x) f t b (omega arith)
+replaced_or-push [] (u ∷ ts) x f t b e = absurd (omega arith)
+replaced_or-push (g ∷ fs) [] x f t b e = absurd (omega arith)
+
+pub length-slice_range-le : (xs : List ℕ) (a b : ℕ) → length (slice_range xs a b) ≤ b - a
+length-slice_range-le xs a b = omega (arith, length-take (b - a) (drop a xs))
+
+pub repeat_of_null : (n : ℕ) (xs : List ℕ) → length xs ≡ 0 → [] ≡ repeat n xs
+repeat_of_null n [] e = sym (repeat-nil n)
+repeat_of_null n (x ∷ xs) e = absurd (omega arith)
+
+pub repeat_more : (n : ℕ) (xs : List ℕ) → repeat (n + 1) xs ≡ repeat n xs ++ xs
+repeat_more n xs = rw add-one (repeat-push n xs)

@@ -1,0 +1,83 @@
+//! Functions of byte strings, and sets of bytes.
+
+ghost use Rattle.std.specs.Prelude.{◌≡◌, ◌≤◌, length, SomeIff};
+ghost use Rattle.std.specs.Str.Parse.{signed_digits_value};
+ghost use Rattle.model.specs.Strings.{IsIntText, trimmed, span_to, break_to, flags_of};
+
+use std::marker::Model;
+use std::str;
+
+/// The bytes without the blanks at their end.
+pub fn trim_end(bytes: &[u8]) -> &[u8]
+    ensures { result.now ≡ trimmed bytes.now }
+{
+    let mut end = bytes.len();
+    while end > 0 && bytes[end - 1] == b' ' {
+        end -= 1;
+    }
+    &bytes[..end]
+}
+
+/// A set of bytes, which contracts see as its 256 flags.
+#[derive(Drop)]
+pub struct ByteSet {
+    flags: [bool; 256],
+}
+
+impl Model for ByteSet {
+    ghost use Rattle.std.specs.Prelude.{List, Bool, length, ◌≡◌};
+
+    ghost Value = { List Bool };
+
+    ghost view = { λ s. s.flags };
+
+    ghost invariant = { λ s. length s.flags ≡ 256 };
+}
+
+impl ByteSet {
+    /// The set of these bytes.
+    pub fn of(bytes: &[u8]) -> ByteSet
+        ensures { result ≡ flags_of bytes.now }
+    {
+        let mut flags = [false; 256];
+        for b in bytes {
+            flags[*b as usize] = true;
+        }
+        ByteSet { flags }
+    }
+}
+
+/// Where the longest run of bytes of the set ends that begins at `at`; `at` itself if the next byte isn't in the set.
+pub fn span_end(bytes: &[u8], at: usize, set: &ByteSet) -> usize
+    requires { at ≤ length bytes.now }
+    ensures { result ≡ span_to bytes.now at set.now }
+{
+    let mut end = at;
+    while end < bytes.len() && set.flags[bytes[end] as usize] {
+        end += 1;
+    }
+    end
+}
+
+/// Where the first byte of the set from `at` on stands.
+pub fn break_end(bytes: &[u8], at: usize, set: &ByteSet) -> Option<usize>
+    requires { at ≤ length bytes.now }
+    ensures { result ≡ break_to bytes.now at set.now }
+{
+    for k in at..bytes.len() {
+        if set.flags[bytes[k] as usize] {
+            return Some(k);
+        }
+    }
+    None
+}
+
+/// The integer that an optional sign and digits write, if it fits 64 bits.
+pub fn read_int(bytes: &[u8]) -> Option<i64>
+    ensures { SomeIff result (IsIntText bytes.now) (signed_digits_value 10 bytes.now) }
+{
+    match str::from_utf8(bytes) {
+        Ok(text) => text.parse::<i64>().ok(),
+        Err(_) => None,
+    }
+}
