@@ -33,7 +33,6 @@ pub mod Reading
 pub mod OneSpelling
 pub mod SpellingRows
 pub mod Keywords
-pub mod Keywords
 pub mod Values
 pub mod Conversions
 pub mod Operators
