@@ -2,16 +2,55 @@
 SHELL := /bin/sh
 RT ?= rt
 DECK ?= examples/hello.sno
-INPUT ?= /dev/null
-SOURCES := $(shell git ls-files crates crates.txt 2>/dev/null)
+INPUT ?=
 
-.PHONY: help test check fmt clean toolchain
+PROGRAM := crates/sno
+BENCHES := $(wildcard crates/*_bench)
+# What a proof reads, folders too, so that a file that goes is noticed.
+SOURCES := crates.txt $(shell find crates/*/src crates/*/specs crates/*/proofs 2>/dev/null)
+# The program's own words, beyond the deck on standard input.
+HAS_WORDS := $(shell grep -E '^(sno|driver):.* clap( |$$)' crates.txt 2>/dev/null)
+
+.PHONY: help run try sno test check bench fmt clean toolchain program deck input
+.DEFAULT_GOAL := help
 
 help: ## list the targets
-	@sed -n 's/^\([a-z]*\):.*## /\1\t/p' $(MAKEFILE_LIST) | expand -t 12
+	@sed -n 's/^\([a-z]*\):.*## /\1\t/p' $(firstword $(MAKEFILE_LIST)) | expand -t 8
+	@$(if $(wildcard $(PROGRAM)),,echo "Not there yet: the program, so run, try and sno only say so.")
+	@$(if $(BENCHES),,echo "Not there yet: benchmark programs, so bench only says so.")
 
+# Each of these stops with one line where something is missing.
 toolchain:
-	@command -v $(RT) >/dev/null 2>&1 || { echo "rt not found: install the Rattle toolchain and put its command rt on PATH" >&2; exit 1; }
+	@: $(if $(shell command -v $(RT)),,$(error $(RT) not found: install the Rattle toolchain and put its command rt on PATH))
+
+program: toolchain
+	@: $(if $(wildcard $(PROGRAM)),,$(error the program is not there yet: no crate $(PROGRAM)))
+
+deck: program
+	@: $(if $(wildcard $(DECK)),,$(error no such deck: $(DECK)))
+
+input: deck
+	@: $(if $(INPUT),$(if $(HAS_WORDS),$(if $(wildcard $(INPUT)),,$(error no such file: $(INPUT))),$(error INPUT is not there yet: the program reads no words, so unit 5 has no file)))
+
+run: input build/sno ## DECK=file [INPUT=file]: run a deck on the proved program, built first where the source changed
+ifeq ($(INPUT),)
+	@build/sno < $(DECK)
+else
+	@build/sno compile $(DECK) build/deck.module && build/sno run build/deck.module 5=$(INPUT)
+endif
+
+try: deck ## DECK=file: run a deck with nothing proved, in seconds; at most 60 seconds and 1 MiB of output
+	@echo "try: nothing is proved of this run" >&2
+	@(cd $(PROGRAM) && $(RT) try) < $(DECK)
+
+sno: build/sno ## leave the proved program at build/sno
+
+# `rt run` is the command that links, so the new program runs once, on the deck that does nothing.
+build/sno: $(SOURCES) | program
+	@echo "sno: proving and building the program (each crate's lines come as it is proved; minutes where nothing is kept)" >&2
+	@mkdir -p build
+	@(cd $(PROGRAM) && echo END | $(RT) run) >&2 || { echo "sno: not proved, or not built" >&2; exit 1; }
+	@cp $(PROGRAM)/out/sno build/sno.new && mv build/sno.new build/sno
 
 test: toolchain ## the gate: every proof from nothing, must-fail edits, tests, programs (last line 'N passed, M failed')
 	@echo "test: proving every crate from nothing; this takes minutes (docs/architecture.md has the times)"
@@ -20,6 +59,10 @@ test: toolchain ## the gate: every proof from nothing, must-fail edits, tests, p
 check: toolchain ## prove every crate over what earlier checks kept
 	@echo "check: proving every crate, lowest first"
 	@$(RT) all check
+
+bench: toolchain ## prove, build and run the benchmark programs
+	@: $(if $(BENCHES),,$(error there are no benchmark programs yet: no crate crates/*_bench))
+	@for crate in $(BENCHES); do echo "bench: $$crate"; (cd $$crate && $(RT) run < /dev/null) || exit 1; done
 
 fmt: toolchain ## lay out every crate's files
 	@for crate in crates/*/; do echo "fmt: $$crate"; (cd $$crate && $(RT) fmt) || exit 1; done

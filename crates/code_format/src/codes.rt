@@ -118,10 +118,7 @@ pub(crate) fn return_code_of(x: ReturnKind) -> u8
     x as u8
 }
 
-const SIGN_OPS: [SignOp; 2] = [
-    SignOp::Plus,
-    SignOp::Minus,
-];
+const SIGN_OPS: [SignOp; 2] = [SignOp::Plus, SignOp::Minus];
 
 /// The sign with this code.
 pub(crate) fn sign_op_of(code: u8) -> Option<SignOp>

@@ -7,5 +7,5 @@ mod numbers;
 mod pats;
 
 pub use instrs::{first_instr, get_instr, put_instr};
-pub use numbers::{put_u32, read_u16, read_u32, CUT};
+pub use numbers::{CUT, put_u32, read_u16, read_u32};
 pub use pats::{first_pat_instr, get_pat_instr, put_pat_instr};

@@ -346,3 +346,9 @@ cut_is text = cut_from (length text) text (omega arith)
 pub only_is : (text : List ℕ) (ps : List Piece) → Cut text ps → ps ≡ pieces text
 unfolding pieces
 only_is text ps c = only_from (length text) text ps (omega arith) c
+
+-- the first piece, and then those of what is left
+pub pieces_step : (b : ℕ) (bs : List ℕ) → pieces (b ∷ bs) ≡ (first b bs).piece ∷ pieces (first b bs).rest
+pieces_step b bs =
+    let g = good_first b bs in
+    sym (only_is (b ∷ bs) ((first b bs).piece ∷ pieces (first b bs).rest) (g.0, ((first b bs).rest, g.1, cut_is (first b bs).rest)))

@@ -42,8 +42,13 @@ begins_long : (ts : List Tok) → Begins ts → 0 < length ts
 begins_long ts b = subst (λ x. 0 < length x) (sym b.is) (omega arith)
 
 pub begins_append : (ts us : List Tok) → Begins ts → Begins (ts ++ us)
-begins_append ts us b = record { head = b.head; rest = b.rest ++ us; is = ap (λ x. x ++ us) b.is; start = b.start;
-    cat = λ more. rw (append_assoc ts us more) (b.cat (us ++ more)) }
+begins_append ts us b = record {
+  head = b.head;
+  rest = b.rest ++ us;
+  is = ap (λ x. x ++ us) b.is;
+  start = b.start;
+  cat = λ more. rw (append_assoc ts us more) (b.cat (us ++ more));
+}
 
 either_cat : (op : Binary) (m : Mark) (t : Tok) (ts : List Tok) → tok_starts t ≡ true → either op m (t ∷ ts) ≡ Sees binary.Concatenate (Sign m ∷ t ∷ ts)
 either_cat op m Blank ts h = absurd (cc)
@@ -74,8 +79,13 @@ sign_starts unary.Interrogate = refl
 sign_starts unary.Negate = refl
 
 begins_sign : (u : Unary) (ts : List Tok) → Begins ts → Begins (Sign (sign_of u) ∷ ts)
-begins_sign u ts b = record { head = Sign (sign_of u); rest = ts; is = refl; start = sign_starts u;
-    cat = λ more. subst (λ x. next (Blank ∷ Sign (sign_of u) ∷ (x ++ more)) ≡ Sees binary.Concatenate (Sign (sign_of u) ∷ (x ++ more))) (sym b.is) (sign_cat u b.head (b.rest ++ more) b.start) }
+begins_sign u ts b = record {
+  head = Sign (sign_of u);
+  rest = ts;
+  is = refl;
+  start = sign_starts u;
+  cat = λ more. subst (λ x. next (Blank ∷ Sign (sign_of u) ∷ (x ++ more)) ≡ Sees binary.Concatenate (Sign (sign_of u) ∷ (x ++ more))) (sym b.is) (sign_cat u b.head (b.rest ++ more) b.start);
+}
 
 -- an operator's link is seen before an operand
 link_next : (op : Binary) (ts : List Tok) (b : Begins ts) (more : List Tok) → next (link op ++ (ts ++ more)) ≡ Sees op (ts ++ more)
@@ -103,8 +113,11 @@ link_sees binary.Concatenate m ts = refl
 link_sees binary.Alternate m ts = refl
 
 link_stops : (k : ℕ) (op : Binary) (ts : List Tok) (b : Begins ts) (more : List Tok) → k < grade op → Stops k (link op ++ (ts ++ more))
-link_stops k op ts b more h = record { open_no = link_sees op mark.Open (ts ++ more); less_no = link_sees op mark.Less (ts ++ more);
-    past = subst (Past k) (sym (link_next op ts b more)) h }
+link_stops k op ts b more h = record {
+  open_no = link_sees op mark.Open (ts ++ more);
+  less_no = link_sees op mark.Less (ts ++ more);
+  past = subst (Past k) (sym (link_next op ts b more)) h;
+}
 
 link_long : (op : Binary) (ts : List Tok) → length ts < length (link op ++ ts)
 link_long binary.Conditional ts = omega arith
@@ -157,8 +170,8 @@ module _ (operand : Parser Expr) (k : ℕ) where
       let regroup : (link op ++ (ts ++ us)) ++ rest ≡ link op ++ (ts ++ (us ++ rest)) = append_assoc (link op) (ts ++ us) rest ∙ ap (λ x. link op ++ x) (append_assoc ts us rest) in
       let shorter : length us ≤ n = omega (arith, link_long op (ts ++ us), length-append ts us) in
       rw regroup (on_go (next (link op ++ (ts ++ (us ++ rest)))) (suc k) (Some (e, link op ++ (ts ++ (us ++ rest)))) (λ o after. bind (operand after) (λ x end. lefts operand (suc k) n (Combine o e x) end)) op (ts ++ (us ++ rest)) (link_next op ts b (us ++ rest)) g
-        ∙ bind_is (operand (ts ++ (us ++ rest))) (λ x end. lefts operand (suc k) n (Combine op e x) end) (f, us ++ rest) (found (us ++ rest) (goes_stops m rest s))
-        ∙ lefts_full m n rest shorter s)
+      ∙ bind_is (operand (ts ++ (us ++ rest))) (λ x end. lefts operand (suc k) n (Combine op e x) end) (f, us ++ rest) (found (us ++ rest) (goes_stops m rest s))
+      ∙ lefts_full m n rest shorter s)
 
 -- ---- what each phrase comes to
 pub data Closes : Mark → Type 0 where
@@ -244,17 +257,20 @@ module _ (atom : Parser Expr) where
       let regroup : ts ++ rest ≡ c.front ++ (c.more ++ rest) = ap (λ x. x ++ rest) c.is ∙ append_assoc c.front c.more rest in
       let long : length c.more ≤ length (c.more ++ rest) = omega (arith, length-append c.more rest) in
       rw (regroup, h) (bind_is (graded atom k (c.front ++ (c.more ++ rest))) (λ x end. lefts (graded atom k) (suc k) (length end) x end) (c.first, c.more ++ rest)
-          (c.found (c.more ++ rest) (goes_stops (graded atom k) k c.rest rest s))
-        ∙ lefts_full (graded atom k) k c.rest (length (c.more ++ rest)) rest long s)
+      (c.found (c.more ++ rest) (goes_stops (graded atom k) k c.rest rest s))
+      ∙ lefts_full (graded atom k) k c.rest (length (c.more ++ rest)) rest long s)
 
   powers_found : (e : Expr) (ts : List Tok) → Powers e ts → Finds (graded atom 2) 2 e ts
   unfolding graded
   powers_found e ts p rest s = p (length (ts ++ rest)) rest (omega (arith, length-append ts rest)) s
 
   of_chain : (k : ℕ) (e : Expr) (ts : List Tok) → Begins ts → (k == 1) ≡ false → Chain k e ts → FullGrade (suc k) e ts
-  of_chain k e ts b h c = record { begins = b; found = chain_found k e ts h c;
-      chain = λ j i n. subst (λ x. Chain x e ts) (let same : k ≡ j = omega arith in same) c;
-      powers = λ i. absurd (let one : k ≡ 1 = omega arith in grind arith) }
+  of_chain k e ts b h c = record {
+    begins = b;
+    found = chain_found k e ts h c;
+    chain = λ j i n. subst (λ x. Chain x e ts) (let same : k ≡ j = omega arith in same) c;
+    powers = λ i. absurd (let one : k ≡ 1 = omega arith in grind arith);
+  }
 
   of_powers : (e : Expr) (ts : List Tok) → Begins ts → Powers e ts → FullGrade 2 e ts
   of_powers e ts b p = record { begins = b; found = powers_found e ts p; chain = λ j i n. absurd (let one : j ≡ 1 = omega arith in grind arith); powers = λ _. p }
@@ -281,8 +297,15 @@ module _ (atom : Parser Expr) where
   full_left k op a b ts us g h fa fb =
       let c = fa.chain k refl h in
       of_chain k (Combine op a b) (ts ++ (link op ++ us)) (begins_append ts (link op ++ us) fa.begins) h
-        (record { first = c.first; front = c.front; more = c.more ++ (link op ++ us); is = ap (λ x. x ++ (link op ++ us)) c.is ∙ append_assoc c.front c.more (link op ++ us); begins = c.begins; found = c.found;
-          rest = goes_snoc (graded atom k) k c.rest op b us g fb.begins fb.found })
+      (record {
+        first = c.first;
+        front = c.front;
+        more = c.more ++ (link op ++ us);
+        is = ap (λ x. x ++ (link op ++ us)) c.is ∙ append_assoc c.front c.more (link op ++ us);
+        begins = c.begins;
+        found = c.found;
+        rest = goes_snoc (graded atom k) k c.rest op b us g fb.begins fb.found;
+      })
 
   more_power : (a b : Expr) (ts us : List Tok) → Finds (graded atom 1) 1 a ts → Begins us → Powers b us → Powers (Combine binary.Power a b) (ts ++ (link binary.Power ++ us))
   unfolding rights
@@ -291,9 +314,9 @@ module _ (atom : Parser Expr) where
       let regroup : (ts ++ (link binary.Power ++ us)) ++ rest ≡ ts ++ (link binary.Power ++ (us ++ rest)) = append_assoc ts (link binary.Power ++ us) rest in
       let shorter : length us ≤ n = omega (arith, length-append ts (link binary.Power ++ us)) in
       rw regroup (bind_is (graded atom 1 (ts ++ (link binary.Power ++ (us ++ rest)))) (λ x end. on (next end) 2 (Some (x, end)) (λ op after. bind (rights (graded atom 1) 2 n after) (λ f last. Some (Combine op x f, last)))) (a, link binary.Power ++ (us ++ rest))
-          (found (link binary.Power ++ (us ++ rest)) (link_stops 1 binary.Power us begins rest (omega arith)))
-        ∙ on_go (next (link binary.Power ++ (us ++ rest))) 2 (Some (a, link binary.Power ++ (us ++ rest))) (λ op after. bind (rights (graded atom 1) 2 n after) (λ f last. Some (Combine op a f, last))) binary.Power (us ++ rest) (link_next binary.Power us begins rest) refl
-        ∙ bind_is (rights (graded atom 1) 2 n (us ++ rest)) (λ f last. Some (Combine binary.Power a f, last)) (b, rest) (p n rest shorter s))
+      (found (link binary.Power ++ (us ++ rest)) (link_stops 1 binary.Power us begins rest (omega arith)))
+      ∙ on_go (next (link binary.Power ++ (us ++ rest))) 2 (Some (a, link binary.Power ++ (us ++ rest))) (λ op after. bind (rights (graded atom 1) 2 n after) (λ f last. Some (Combine op a f, last))) binary.Power (us ++ rest) (link_next binary.Power us begins rest) refl
+      ∙ bind_is (rights (graded atom 1) 2 n (us ++ rest)) (λ f last. Some (Combine binary.Power a f, last)) (b, rest) (p n rest shorter s))
 
   full_combined : (op : Binary) (a b : Expr) (ts us : List Tok) → FullGrade (left op) a ts → FullGrade (right op) b us → FullGrade (grade op) (Combine op a b) (ts ++ (link op ++ us))
   full_combined binary.Conditional a b ts us fa fb = full_left 0 binary.Conditional a b ts us refl refl fa fb
@@ -373,8 +396,8 @@ module _ (inner : Parser Expr) (bound : ℕ) (inner_full : (e : Expr) (ts : List
   full_brackets e ts g h s short begins rest ho hl =
       let regroup : (gap g ++ (ts ++ (gap h ++ Sign mark.Close ∷ []))) ++ rest ≡ gap g ++ (ts ++ (gap h ++ Sign mark.Close ∷ rest)) = simp append_assoc in
       rw (regroup, skip_begins g (ts ++ (gap h ++ Sign mark.Close ∷ rest)) (begins_append ts (gap h ++ Sign mark.Close ∷ rest) begins))
-        (bind_is (inner (ts ++ (gap h ++ Sign mark.Close ∷ rest))) (λ x end. expect mark.Close x (skip end)) (e, gap h ++ Sign mark.Close ∷ rest) (inner_full e ts short s (gap h ++ Sign mark.Close ∷ rest) (mark_stops h mark.Close rest at_close))
-        ∙ rw (skip_mark h mark.Close rest) (expect_mark mark.Close e rest (sees_same mark.Close rest at_close)))
+      (bind_is (inner (ts ++ (gap h ++ Sign mark.Close ∷ rest))) (λ x end. expect mark.Close x (skip end)) (e, gap h ++ Sign mark.Close ∷ rest) (inner_full e ts short s (gap h ++ Sign mark.Close ∷ rest) (mark_stops h mark.Close rest at_close))
+      ∙ rw (skip_mark h mark.Close rest) (expect_mark mark.Close e rest (sees_same mark.Close rest at_close)))
 
   call_found : (f : List ℕ) (args : Args) (ts : List Tok) → Full (Several args) ts → length ts < bound → FindsElement atom (Call f (shown args)) (Word f ∷ Sign mark.Open ∷ (ts ++ Sign mark.Close ∷ []))
   unfolding element_step named sees
@@ -382,8 +405,8 @@ module _ (inner : Parser Expr) (bound : ℕ) (inner_full : (e : Expr) (ts : List
       let regroup : (ts ++ Sign mark.Close ∷ []) ++ rest ≡ ts ++ Sign mark.Close ∷ rest = append_assoc ts (Sign mark.Close ∷ []) rest in
       let long : length ts ≤ length (ts ++ Sign mark.Close ∷ rest) = omega (arith, length-append ts (Sign mark.Close ∷ rest)) in
       rw regroup (bind_is (several inner (suc (length (ts ++ Sign mark.Close ∷ rest))) (ts ++ Sign mark.Close ∷ rest)) (λ x end. expect mark.Close (Call f (shown x)) end) (args, Sign mark.Close ∷ rest)
-          (full short (length (ts ++ Sign mark.Close ∷ rest)) mark.Close rest long by_close)
-        ∙ expect_mark mark.Close (Call f (shown args)) rest (sees_same mark.Close rest at_close))
+      (full short (length (ts ++ Sign mark.Close ∷ rest)) mark.Close rest long by_close)
+      ∙ expect_mark mark.Close (Call f (shown args)) rest (sees_same mark.Close rest at_close))
 
   reference_found : (f : List ℕ) (args : Args) (ts : List Tok) → Full (Several args) ts → given args ≡ true → length ts < bound → FindsElement atom (Reference f args) (Word f ∷ Sign mark.Less ∷ (ts ++ Sign mark.Greater ∷ []))
   unfolding element_step named sees
@@ -391,8 +414,8 @@ module _ (inner : Parser Expr) (bound : ℕ) (inner_full : (e : Expr) (ts : List
       let regroup : (ts ++ Sign mark.Greater ∷ []) ++ rest ≡ ts ++ Sign mark.Greater ∷ rest = append_assoc ts (Sign mark.Greater ∷ []) rest in
       let long : length ts ≤ length (ts ++ Sign mark.Greater ∷ rest) = omega (arith, length-append ts (Sign mark.Greater ∷ rest)) in
       rw regroup (bind_is (several inner (suc (length (ts ++ Sign mark.Greater ∷ rest))) (ts ++ Sign mark.Greater ∷ rest)) (subscripts inner f) (args, Sign mark.Greater ∷ rest)
-          (full short (length (ts ++ Sign mark.Greater ∷ rest)) mark.Greater rest long by_greater)
-        ∙ rw all (expect_mark mark.Greater (Reference f args) rest (sees_same mark.Greater rest at_greater)))
+      (full short (length (ts ++ Sign mark.Greater ∷ rest)) mark.Greater rest long by_greater)
+      ∙ rw all (expect_mark mark.Greater (Reference f args) rest (sees_same mark.Greater rest at_greater)))
 
   absent_found : (g : Bool) (m : Mark) (rest : List Tok) → Closes m → one inner (gap g ++ Sign m ∷ rest) ≡ Some (Absent, Sign m ∷ rest)
   unfolding one
@@ -405,8 +428,8 @@ module _ (inner : Parser Expr) (bound : ℕ) (inner_full : (e : Expr) (ts : List
       let regroup : (gap g ++ (ts ++ gap h)) ++ Sign m ∷ rest ≡ gap g ++ (ts ++ (gap h ++ Sign m ∷ rest)) = simp append_assoc in
       let longer = begins_append ts (gap h ++ Sign m ∷ rest) begins in
       rw (regroup, skip_begins g (ts ++ (gap h ++ Sign m ∷ rest)) longer, starts_begins (ts ++ (gap h ++ Sign m ∷ rest)) longer)
-        (bind_is (inner (ts ++ (gap h ++ Sign m ∷ rest))) (λ x end. Some (Given x, skip end)) (e, gap h ++ Sign m ∷ rest) (inner_full e ts short s (gap h ++ Sign m ∷ rest) (mark_stops h m rest c))
-        ∙ rw (skip_mark h m rest) refl)
+      (bind_is (inner (ts ++ (gap h ++ Sign m ∷ rest))) (λ x end. Some (Given x, skip end)) (e, gap h ++ Sign m ∷ rest) (inner_full e ts short s (gap h ++ Sign m ∷ rest) (mark_stops h m rest c))
+      ∙ rw (skip_mark h m rest) refl)
 
   abbrev after_one : ℕ → Arg → Parser Args
   after_one n arg rest = if sees mark.Comma rest then bind (several inner n (tail rest)) (λ args end. Some (More arg args, end)) else Some (More arg Nil, rest)
@@ -426,7 +449,7 @@ module _ (inner : Parser Expr) (bound : ℕ) (inner_full : (e : Expr) (ts : List
       let rest_short : length us < bound = omega (arith, length-append ts (Sign mark.Comma ∷ us)) in
       let turns : length us ≤ n = omega (arith, length-append ts (Sign mark.Comma ∷ us)) in
       rw regroup (bind_is (one inner (ts ++ (Sign mark.Comma ∷ (us ++ Sign m ∷ rest)))) (after_one (suc n)) (arg, Sign mark.Comma ∷ (us ++ Sign m ∷ rest)) (fo one_short mark.Comma (us ++ Sign m ∷ rest) at_comma)
-        ∙ bind_is (several inner (suc n) (us ++ Sign m ∷ rest)) (λ x end. Some (More arg x, end)) (args, Sign m ∷ rest) (fs rest_short n m rest turns b))
+      ∙ bind_is (several inner (suc n) (us ++ Sign m ∷ rest)) (λ x end. Some (More arg x, end)) (args, Sign m ∷ rest) (fs rest_short n m rest turns b))
 
   flat : (t : Tok) (ts : List Tok) → tok_starts t ≡ true → ((us : List Tok) → next (Blank ∷ t ∷ us) ≡ Sees binary.Concatenate (t ∷ us)) → Begins (t ∷ ts)
   flat t ts s c = record { head = t; rest = ts; is = refl; start = s; cat = λ us. c (ts ++ us) }
@@ -495,9 +518,10 @@ elements_full zero = ((λ e ts h s. absurd (let b = (long s h).begins in omega (
 elements_full (suc d) =
     let below = elements_full d in
     let inner : (e : Expr) (ts : List Tok) → length ts < suc d → Spells (Grade 7 e) ts → Finds (graded (element d) 7) 7 e ts = λ e ts h s. below.1 e ts (omega arith) s in
-    let again : (e : Expr) (ts : List Tok) → length ts < suc d → Spells (Element e) ts → FindsElement (element d) e ts = λ e ts h s. below.0 e ts (omega arith) s in
-    ((λ e ts h s. (full (graded (element d) 7) (suc d) inner (element d) again s h).found),
-     (λ e ts h s. (full (graded (element d) 7) (suc d) inner (element d) again s h).found))
+    let again : (e : Expr) (ts : List Tok) → length ts < suc d → Spells (Element e) ts → FindsElement (element d) e ts = λ e ts h s. below.0 e ts (omega arith) s in (
+      (λ e ts h s. (full (graded (element d) 7) (suc d) inner (element d) again s h).found),
+      (λ e ts h s. (full (graded (element d) 7) (suc d) inner (element d) again s h).found),
+    )
 
 -- an expression and an element are read where the bound on nesting is large enough
 pub whole_full : (d : ℕ) (e : Expr) (ts : List Tok) → length ts ≤ d → Spells (Grade 7 e) ts → Finds (whole d) 7 e ts

@@ -39,15 +39,17 @@ pub on_is : {A : Type 0} (x : Next) (k : ℕ) (stop : A) (go : Binary → List T
 unfolding on
 on_is Ends k stop go y h = inl h
 on_is (Sees op after) k stop go y h = elim (if_is (grade op == k) (go op after) stop y h) [
-    inl c ↦ inr (record { op = op; after = after; is = refl; at = c.0; gives = c.1 })
-  | inr c ↦ inl c.1 ]
+  | inl c ↦ inr (record { op = op; after = after; is = refl; at = c.0; gives = c.1 })
+  | inr c ↦ inl c.1
+]
 
 pub expect_some : {A : Type 0} (m : Mark) (a : A) (ts : List Tok) (q : A × List Tok) → expect m a ts ≡ Some q
     → (sees m ts ≡ true) × ((a, tail ts) ≡ q)
 unfolding expect
 expect_some m a ts q h = elim (if_is (sees m ts) (Some (a, tail ts)) None (Some q) h) [
-    inl c ↦ (c.0, some_same (a, tail ts) q c.1)
-  | inr c ↦ absurd (cc) ]
+  | inl c ↦ (c.0, some_same (a, tail ts) q c.1)
+  | inr c ↦ absurd (cc)
+]
 
 -- the marks that are expected somewhere
 pub data Wanted : Mark → Type 0 where

@@ -12,7 +12,7 @@ use Rattle.model.specs.declared.image.PatInstr.{PatInstr}
 use Rattle.model.specs.declared.image.Label.{Label}
 use Rattle.model.specs.declared.instr.Instr.{Instr}
 use Rattle.model.specs.Spelling.{u32, most_code, string, label, pattern, instr, pat_instr, pat_operand, code_bytes, is_new, newest, rises, statement_of, InstrFits, StringFits, LabelFits, StatementFits, OffsetFits, PatInstrFits, PatternFits}
-use Rattle.model.specs.Reading.{◌>>=◌, number_at, bytes_at, checked, required, byte, either, instr_of, pat_readers, operand_at, count_at, string_at, label_at, labelled, statement_at, offset_at, pat_instr_at, pattern_at, code_from, code_at}
+use Rattle.model.specs.Reading.{◌>>=◌, number_at, bytes_at, checked, required, byte, either, instr_of, pat_readers, operand_at, count_at, text_at, string_at, label_at, labelled, statement_at, offset_at, pat_instr_at, pattern_at, code_from, code_at}
 use Rattle.model.specs.OneSpelling.{IsBytes}
 use Rattle.model.proofs.SpeltNumbers.{ok_bind, ok_is, checked_ok, required_ok, guard_ok, Takes, Takes-then, IsBytes-drop, IsBytes-take, u32_takes, u32_again, byte_takes}
 use Rattle.model.proofs.SpeltInstrs.{instr_takes, instr_again, operand_takes, operand_again}
@@ -34,17 +34,17 @@ bytes_again text rest =
 -- ---- entries
 
 pub string_entry : IsEntry string_at string StringFits
-unfolding string_at
+unfolding string_at text_at
 string_entry = record {
   takes = λ front bytes x fits e.
-      let a = ok_bind (number_at w32 bytes) (λ n. bytes_at n.0 n.1 >>= λ s. checked (is_new front s.0) BadTable bytes s) x e in
-      let b = ok_bind (bytes_at a.0.0 a.0.1) (λ s. checked (is_new front s.0) BadTable bytes s) x a.2 in
-      let g = checked_ok (is_new front b.0.0) BadTable bytes b.0 x b.2 in
+      let c = ok_bind (text_at bytes) (λ s. checked (is_new front s.0) BadTable bytes s) x e in
+      let a = ok_bind (number_at w32 bytes) (λ n. bytes_at n.0 n.1) c.0 c.1 in
+      let g = checked_ok (is_new front c.0.0) BadTable bytes c.0 x c.2 in
       let t = u32_takes bytes a.0 fits a.1 in
-      let u = bytes_take a.0.0 a.0.1 b.0 t.0.rest_fits b.1 in
-      let both = Takes-then bytes (u32 a.0.0) a.0.1 b.0.0 b.0.1 t.0 u.0 in
-      let whole : Takes bytes (string b.0.0) b.0.1 = rw u.1 both in
-      let small : length b.0.0 < 2 ^ 32 = omega (arith, u.1, t.1) in
+      let u = bytes_take a.0.0 a.0.1 c.0 t.0.rest_fits a.2 in
+      let both = Takes-then bytes (u32 a.0.0) a.0.1 c.0.0 c.0.1 t.0 u.0 in
+      let whole : Takes bytes (string c.0.0) c.0.1 = rw u.1 both in
+      let small : length c.0.0 < 2 ^ 32 = omega (arith, u.1, t.1) in
       let P : List ℕ × List ℕ → Type 0 = λ y. Takes bytes (string y.0) y.1 × StringFits front y.0 in
       subst P g.1 (whole, (small, g.0));
   again = λ front s rest h.

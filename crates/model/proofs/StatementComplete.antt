@@ -9,10 +9,10 @@ use Rattle.model.specs.Tokens.{Tok, Blank, Word, Sign}
 use Rattle.model.specs.Trees.{Bytes, Expr, Place, Computed, Goto, Always, OnSuccess, OnFailure, Both, Body, Assign, Replace, Stmt, Plain, End}
 use Rattle.model.specs.Grammar.{gap, IsElement, IsExpr}
 use Rattle.model.specs.Statements.{on_success, on_failure, end_word, IsPlace, label, computed, InBrackets, brackets, IsExits, always, success, failure, success_first, failure_first, IsGoto, next, leaves, IsObject, absent, present, IsBody, nothing, evaluate, match, assign, replace, IsLabel, unlabelled, labelled, IsEntry, first, entry, Tree, plain, end}
-use Rattle.model.specs.Parse.{Ends, bind, skip, starts, tok_starts, sees_tok, sees, tail, expect, element, whole, finish}
+use Rattle.model.specs.Parse.{Parser, Ends, bind, skip, starts, tok_starts, sees_tok, sees, expect, element, whole, finish}
 use Rattle.model.specs.Parse as parse
 use Rattle.model.specs.ParseStatements as spec
-use Rattle.model.specs.ParseStatements.{word_is, sees_word, sees_spaced, starts_spaced, stmt}
+use Rattle.model.specs.ParseStatements.{sees_word, sees_spaced, starts_spaced, starts_word, word_spaced, from_success, from_failure, stmt}
 use Rattle.model.proofs.ParseSteps.{bind_is}
 use Rattle.model.proofs.ParseComplete.{Begins, Stops, begins_append, skip_mark, skip_head, starts_begins, expr_begins, element_begins, element_full, whole_full}
 
@@ -72,7 +72,7 @@ module _ (d : ℕ) where
 
   place_full : {p : Place} {ts : List Tok} → IsPlace p ts → length ts ≤ d → (h : Bool) (rest : List Tok)
       → spec.place d (ts ++ (gap h ++ Sign mark.Close ∷ rest)) ≡ Some (p, gap h ++ Sign mark.Close ∷ rest)
-  unfolding spec.place
+  unfolding spec.place sees
   place_full (label l) fits h rest = refl
   place_full (computed e ts s) fits h rest =
       let stops = close_stops h rest in
@@ -93,8 +93,8 @@ module _ (d : ℕ) where
       let regroup : (gap g ++ (ts ++ (gap h ++ Sign mark.Close ∷ []))) ++ rest ≡ gap g ++ (ts ++ (gap h ++ Sign mark.Close ∷ rest)) = simp append_assoc in
       let short : length ts ≤ d = omega (arith, length-append (gap g) (ts ++ (gap h ++ Sign mark.Close ∷ [])), length-append ts (gap h ++ Sign mark.Close ∷ [])) in
       rw (regroup, place_skip s g (gap h ++ Sign mark.Close ∷ rest))
-        (bind_is (spec.place d (ts ++ (gap h ++ Sign mark.Close ∷ rest))) (λ x end. expect mark.Close x (skip end)) (p, gap h ++ Sign mark.Close ∷ rest) (place_full s short h rest)
-        ∙ rw (skip_mark h mark.Close rest) (expect_close p rest))
+      (bind_is (spec.place d (ts ++ (gap h ++ Sign mark.Close ∷ rest))) (λ x end. expect mark.Close x (skip end)) (p, gap h ++ Sign mark.Close ∷ rest) (place_full s short h rest)
+      ∙ rw (skip_mark h mark.Close rest) (expect_close p rest))
 
   -- no word comes next
   gap_no_word : (w : Bytes) (h : Bool) → sees_word w (skip (gap h)) ≡ false
@@ -102,45 +102,51 @@ module _ (d : ℕ) where
   gap_no_word w true = refl
   gap_no_word w false = refl
 
-  no_second : (word : Bytes) (both : Place → Goto) (one : Goto) (h : Bool) → spec.second d word both one (gap h) ≡ Some (one, gap h)
+  no_second : (word : Bytes) (h : Bool) → spec.second d word (gap h) ≡ Some (None, gap h)
   unfolding spec.second
-  no_second word both one h = rw (gap_no_word word h) refl
+  no_second word h = rw (gap_no_word word h) refl
 
-  a_second : (word : Bytes) (both : Place → Goto) (one : Goto) {q : Place} {us : List Tok} → InBrackets q us → length us ≤ d → (g : Bool) (rest : List Tok) → bytes_eq word word ≡ true
-      → spec.second d word both one ((gap g ++ Word word ∷ us) ++ rest) ≡ Some (both q, rest)
+  a_second : (word : Bytes) {q : Place} {us : List Tok} → InBrackets q us → length us ≤ d → (g : Bool) (rest : List Tok) → bytes_eq word word ≡ true
+      → spec.second d word ((gap g ++ Word word ∷ us) ++ rest) ≡ Some (Some q, rest)
   unfolding spec.second sees_word
-  a_second word both one {q} {us} s fits g rest same =
+  a_second word {q} {us} s fits g rest same =
       let regroup : (gap g ++ Word word ∷ us) ++ rest ≡ gap g ++ (Word word ∷ (us ++ rest)) = append_assoc (gap g) (Word word ∷ us) rest in
       rw (regroup, skip_head g (Word word) (us ++ rest) refl, same)
-        (bind_is (spec.in_brackets d (us ++ rest)) (λ x end. Some (both x, end)) (q, rest) (in_brackets_full s fits rest))
+        (bind_is (spec.in_brackets d (us ++ rest)) (λ x end. Some (Some x, end)) (q, rest) (in_brackets_full s fits rest))
 
   in_brackets_no_word : (w : Bytes) {p : Place} {ts : List Tok} → InBrackets p ts → (rest : List Tok) → sees_word w (ts ++ rest) ≡ false
   unfolding sees_word
   in_brackets_no_word w (brackets p ts g h s) rest = refl
+
+  -- the place after a word, and the other where there is one
+  module _ (other_word : Bytes) (joined : Place → Option Place → Goto) where
+    abbrev after_first : Place → Parser Goto
+    after_first p rest = bind (spec.second d other_word rest) (λ q end. Some (joined p q, end))
+
+    one_place : {p : Place} {ts : List Tok} → InBrackets p ts → length ts ≤ d → (h : Bool) → bind (spec.in_brackets d (ts ++ gap h)) after_first ≡ Some (joined p None, gap h)
+    one_place {p} {ts} s fits h =
+        bind_is (spec.in_brackets d (ts ++ gap h)) after_first (p, gap h) (in_brackets_full s fits (gap h))
+        ∙ bind_is (spec.second d other_word (gap h)) (λ q end. Some (joined p q, end)) (None, gap h) (no_second other_word h)
+
+    two_places : {p q : Place} {ts us : List Tok} → InBrackets p ts → InBrackets q us → (g h : Bool) → bytes_eq other_word other_word ≡ true
+        → length (ts ++ (gap g ++ Word other_word ∷ us)) ≤ d → bind (spec.in_brackets d ((ts ++ (gap g ++ Word other_word ∷ us)) ++ gap h)) after_first ≡ Some (joined p (Some q), gap h)
+    two_places {p} {q} {ts} {us} s t g h same fits =
+        let more : List Tok = gap g ++ Word other_word ∷ us in
+        let long = length-append ts more in
+        rw (append_assoc ts more (gap h))
+          (bind_is (spec.in_brackets d (ts ++ (more ++ gap h))) after_first (p, more ++ gap h) (in_brackets_full s (omega (arith, long)) (more ++ gap h))
+          ∙ bind_is (spec.second d other_word (more ++ gap h)) (λ x end. Some (joined p x, end)) (Some q, gap h)
+              (a_second other_word t (omega (arith, long, length-append (gap g) (Word other_word ∷ us))) g (gap h) same))
 
   exits_full : {g : Goto} {ts : List Tok} → IsExits g ts → length ts ≤ d → (h : Bool) → spec.exits d (ts ++ gap h) ≡ Some (g, gap h)
   unfolding spec.exits sees_word
   exits_full (always p ts s) fits h =
       rw (in_brackets_no_word on_success s (gap h), in_brackets_no_word on_failure s (gap h))
         (bind_is (spec.in_brackets d (ts ++ gap h)) (λ x rest. Some (Always x, rest)) (p, gap h) (in_brackets_full s fits (gap h)))
-  exits_full (success p ts s) fits h =
-      bind_is (spec.in_brackets d (ts ++ gap h)) (λ x rest. spec.second d on_failure (λ q. Both x q) (OnSuccess x) rest) (p, gap h) (in_brackets_full s (omega arith) (gap h))
-      ∙ no_second on_failure (λ q. Both p q) (OnSuccess p) h
-  exits_full (failure p ts s) fits h =
-      bind_is (spec.in_brackets d (ts ++ gap h)) (λ x rest. spec.second d on_success (λ q. Both q x) (OnFailure x) rest) (p, gap h) (in_brackets_full s (omega arith) (gap h))
-      ∙ no_second on_success (λ q. Both q p) (OnFailure p) h
-  exits_full (success_first p q ts us g s t) fits h =
-      let other : List Tok = gap g ++ Word on_failure ∷ us in
-      let regroup : (ts ++ other) ++ gap h ≡ ts ++ (other ++ gap h) = append_assoc ts other (gap h) in
-      rw regroup (bind_is (spec.in_brackets d (ts ++ (other ++ gap h))) (λ x rest. spec.second d on_failure (λ y. Both x y) (OnSuccess x) rest) (p, other ++ gap h)
-          (in_brackets_full s (omega (arith, length-append ts other)) (other ++ gap h))
-        ∙ a_second on_failure (λ y. Both p y) (OnSuccess p) t (omega (arith, length-append ts other, length-append (gap g) (Word on_failure ∷ us))) g (gap h) refl)
-  exits_full (failure_first p q ts us g s t) fits h =
-      let other : List Tok = gap g ++ Word on_success ∷ ts in
-      let regroup : (us ++ other) ++ gap h ≡ us ++ (other ++ gap h) = append_assoc us other (gap h) in
-      rw regroup (bind_is (spec.in_brackets d (us ++ (other ++ gap h))) (λ x rest. spec.second d on_success (λ y. Both y x) (OnFailure x) rest) (q, other ++ gap h)
-          (in_brackets_full t (omega (arith, length-append us other)) (other ++ gap h))
-        ∙ a_second on_success (λ y. Both y q) (OnFailure q) s (omega (arith, length-append us other, length-append (gap g) (Word on_success ∷ ts))) g (gap h) refl)
+  exits_full (success p ts s) fits h = one_place on_failure from_success s (omega arith) h
+  exits_full (failure p ts s) fits h = one_place on_success from_failure s (omega arith) h
+  exits_full (success_first p q ts us g s t) fits h = two_places on_failure from_success s t g h refl (omega arith)
+  exits_full (failure_first p q ts us g s t) fits h = two_places on_success from_failure t s g h refl (omega arith)
 
   exits_skip : {x : Goto} {ts : List Tok} → IsExits x ts → (g : Bool) (rest : List Tok) → skip (gap g ++ (ts ++ rest)) ≡ ts ++ rest
   exits_skip (always p _ (brackets _ ts i j s)) g rest = skip_head g (Sign mark.Open) _ refl
@@ -166,7 +172,7 @@ module _ (d : ℕ) where
   object_full absent fits rest over = rw over.element_no refl
   object_full (present e ts s) fits rest over =
       rw (begins_spaced (ts ++ rest) (begins_append ts rest (expr_begins e ts s)))
-        (bind_is (whole d (ts ++ rest)) (λ x end. Some (Some x, end)) (e, rest) (whole_full d e ts (omega arith) s rest (over_stops rest over)))
+      (bind_is (whole d (ts ++ rest)) (λ x end. Some (Some x, end)) (e, rest) (whole_full d e ts (omega arith) s rest (over_stops rest over)))
 
   -- the tokens after a body
   record After (rest : List Tok) : Type 0 where
@@ -182,14 +188,14 @@ module _ (d : ℕ) where
   unfolding spec.body
   subject_full x ts s fits rest no_open no_less =
       rw (begins_spaced (ts ++ rest) (begins_append ts rest (element_begins x ts s)))
-        (bind_is (element d (ts ++ rest)) (spec.after_subject d) (x, rest) (element_full d x ts fits s rest no_open no_less))
+      (bind_is (element d (ts ++ rest)) (spec.after_subject d) (x, rest) (element_full d x ts fits s rest no_open no_less))
 
   pattern_full : (x p : Expr) (us : List Tok) → IsExpr p us → length us ≤ d → (rest : List Tok) → Over rest → spec.after_subject d x (Blank ∷ (us ++ rest)) ≡ spec.after_pattern d x p rest
   unfolding spec.after_subject
   pattern_full x p us s fits rest over =
       let begins = begins_append us rest (expr_begins p us s) in
       rw (begins_equal_no (us ++ rest) begins, begins_spaced (us ++ rest) begins)
-        (bind_is (whole d (us ++ rest)) (spec.after_pattern d x) (p, rest) (whole_full d p us fits s rest (over_stops rest over)))
+      (bind_is (whole d (us ++ rest)) (spec.after_pattern d x) (p, rest) (whole_full d p us fits s rest (over_stops rest over)))
 
   blank_no : (ts : List Tok) → (sees mark.Open (Blank ∷ ts) ≡ false) × (sees mark.Less (Blank ∷ ts) ≡ false)
   unfolding sees
@@ -203,24 +209,24 @@ module _ (d : ℕ) where
   body_full (match x p ts us s t) fits rest after =
       let none = blank_no (us ++ rest) in
       rw (append_assoc ts (Blank ∷ us) rest) (subject_full x ts s (omega (arith, length-append ts (Blank ∷ us))) (Blank ∷ (us ++ rest)) none.0 none.1
-        ∙ pattern_full x p us t (omega (arith, length-append ts (Blank ∷ us))) rest after.over ∙ rw after.no_equal refl)
+      ∙ pattern_full x p us t (omega (arith, length-append ts (Blank ∷ us))) rest after.over ∙ rw after.no_equal refl)
   body_full (assign x o ts us s t) fits rest after =
       let none = blank_no (Sign mark.Equal ∷ (us ++ rest)) in
       rw (append_assoc ts (Blank ∷ Sign mark.Equal ∷ us) rest) (subject_full x ts s (omega (arith, length-append ts (Blank ∷ Sign mark.Equal ∷ us))) (Blank ∷ Sign mark.Equal ∷ (us ++ rest)) none.0 none.1
-        ∙ rw (equal_seen (us ++ rest)) (bind_is (spec.object d (us ++ rest)) (λ y end. Some (Assign x y, end)) (o, rest) (object_full t (omega (arith, length-append ts (Blank ∷ Sign mark.Equal ∷ us))) rest after.over)))
+      ∙ rw (equal_seen (us ++ rest)) (bind_is (spec.object d (us ++ rest)) (λ y end. Some (Assign x y, end)) (o, rest) (object_full t (omega (arith, length-append ts (Blank ∷ Sign mark.Equal ∷ us))) rest after.over)))
   body_full (replace x p o ts us vs s t u) fits rest after =
       let tail_of : List Tok = us ++ (Blank ∷ Sign mark.Equal ∷ vs) in
       let none = blank_no (us ++ (Blank ∷ Sign mark.Equal ∷ (vs ++ rest))) in
       let regroup : (ts ++ (Blank ∷ tail_of)) ++ rest ≡ ts ++ (Blank ∷ (us ++ (Blank ∷ Sign mark.Equal ∷ (vs ++ rest)))) = simp append_assoc in
       let long : length ts + suc (length us + suc (suc (length vs))) ≤ d = omega (arith, length-append ts (Blank ∷ tail_of), length-append us (Blank ∷ Sign mark.Equal ∷ vs)) in
       rw regroup (subject_full x ts s (omega arith) (Blank ∷ (us ++ (Blank ∷ Sign mark.Equal ∷ (vs ++ rest)))) none.0 none.1
-        ∙ pattern_full x p us t (omega arith) (Blank ∷ Sign mark.Equal ∷ (vs ++ rest)) (over_equal (vs ++ rest))
-        ∙ rw (equal_seen (vs ++ rest)) (bind_is (spec.object d (vs ++ rest)) (λ y end. Some (Replace x p y, end)) (o, rest) (object_full u (omega arith) rest after.over)))
+      ∙ pattern_full x p us t (omega arith) (Blank ∷ Sign mark.Equal ∷ (vs ++ rest)) (over_equal (vs ++ rest))
+      ∙ rw (equal_seen (vs ++ rest)) (bind_is (spec.object d (vs ++ rest)) (λ y end. Some (Replace x p y, end)) (o, rest) (object_full u (omega arith) rest after.over)))
 
   -- ---- statements
   no_label : {b : Body} {us : List Tok} → IsBody b us → {g : Goto} {vs : List Tok} → IsGoto g vs → (h : Bool)
-      → spec.statement d (us ++ (vs ++ gap h)) ≡ spec.plain_after d None (us ++ (vs ++ gap h))
-  unfolding spec.statement
+      → spec.statement d (us ++ (vs ++ gap h)) ≡ spec.after_label d None (us ++ (vs ++ gap h))
+  unfolding spec.statement sees_word bind
   no_label nothing next true = refl
   no_label nothing next false = refl
   no_label nothing (leaves x ts g s) h = refl
@@ -235,11 +241,11 @@ module _ (d : ℕ) where
   skip_nothing false = refl
 
   plain_full : (l : Option Bytes) {b : Body} {us : List Tok} → IsBody b us → {g : Goto} {vs : List Tok} → IsGoto g vs → (h : Bool) → length us ≤ d → length vs ≤ d
-      → spec.plain_after d l (us ++ (vs ++ gap h)) ≡ Some (Plain l b g, [])
-  unfolding spec.plain_after
+      → spec.after_label d l (us ++ (vs ++ gap h)) ≡ Some (Plain l b g, [])
+  unfolding spec.after_label
   plain_full l {b} {us} s {g} {vs} t h body_fits goto_fits =
       bind_is (spec.body d (us ++ (vs ++ gap h))) (λ x rest. bind (spec.goto d rest) (λ y end. Some (Plain l x y, skip end))) (b, vs ++ gap h)
-        (body_full s body_fits (vs ++ gap h) (record { over = over_goto t h; no_equal = equal_no t h }))
+      (body_full s body_fits (vs ++ gap h) (record { over = over_goto t h; no_equal = equal_no t h }))
       ∙ bind_is (spec.goto d (vs ++ gap h)) (λ y end. Some (Plain l b y, skip end)) (g, gap h) (goto_full t goto_fits h)
       ∙ ap (λ rest. Some (Plain l b g, rest)) (skip_nothing h)
 
@@ -251,20 +257,16 @@ module _ (d : ℕ) where
       known false h = h
 
   with_label : {l : Option Bytes} {ls : List Tok} → IsLabel l ls → {b : Body} {us : List Tok} → IsBody b us → {g : Goto} {vs : List Tok} → IsGoto g vs → (h : Bool)
-      → spec.statement d (ls ++ (us ++ (vs ++ gap h))) ≡ spec.plain_after d l (us ++ (vs ++ gap h))
-  unfolding spec.statement
+      → spec.statement d (ls ++ (us ++ (vs ++ gap h))) ≡ spec.after_label d l (us ++ (vs ++ gap h))
+  unfolding spec.statement sees_word bind
   with_label unlabelled s t h = no_label s t h
   with_label (labelled l n) s t h = rw (differs l n) refl
 
-  entry_full : {l : Option Bytes} {ts : List Tok} → IsEntry l ts → (h : Bool) → spec.entry d (ts ++ gap h) ≡ Some (l, gap h)
-  entry_full first true = refl
-  entry_full first false = refl
-  entry_full (entry l) h = refl
-
   end_full : {l : Option Bytes} {ts : List Tok} → IsEntry l ts → (h : Bool) → spec.statement d (Word end_word ∷ (ts ++ gap h)) ≡ Some (End l, [])
-  unfolding spec.statement spec.end_after
-  end_full {l} {ts} s h =
-      bind_is (spec.entry d (ts ++ gap h)) (λ x rest. Some (End x, skip rest)) (l, gap h) (entry_full s h) ∙ ap (λ rest. Some (End l, rest)) (skip_nothing h)
+  unfolding spec.statement spec.after_end sees_word word_spaced starts_word bind
+  end_full first true = ap (λ rest. Some (End None, rest)) (skip_nothing true)
+  end_full first false = ap (λ rest. Some (End None, rest)) (skip_nothing false)
+  end_full (entry l) h = ap (λ rest. Some (End (Some l), rest)) (skip_nothing h)
 
   statement_full : {s : Stmt} {ts : List Tok} → Tree s ts → length ts ≤ d → spec.statement d ts ≡ Some (s, [])
   statement_full (plain l b g ts us vs h i s t) fits =

@@ -47,3 +47,7 @@ pub mod Modules
 pub mod Placed
 pub mod Alike
 pub mod Agreement
+pub mod Faults
+pub mod FaultRows
+pub mod TreeRows
+pub mod Lexed

@@ -1,7 +1,5 @@
 -- Names and what they name are each other's reverse.
 use Rattle.std.specs.Prelude.{◌≡◌, List, ℕ, Option, Some}
-use Rattle.model.specs.declared.keys.KeyId.{KeyId}
-use Rattle.model.specs.declared.primitives.PrimId.{PrimId}
 use Rattle.model.specs.Names.{key_name, key_named, prim_name, prim_named}
 
 -- each name leads back to what it names, and what a name leads to has that name

@@ -31,29 +31,55 @@ unfoldable pub starts_spaced : List Tok → Bool
 starts_spaced [] = false
 starts_spaced (t ∷ ts) = is_blank t && starts ts
 
+abbrev pub is_word : Tok → Bool
+is_word (Word s) = true
+is_word _ = false
+
+-- whether a word comes next
+unfoldable pub starts_word : List Tok → Bool
+starts_word [] = false
+starts_word (t ∷ ts) = is_word t
+
+-- whether blanks and a word come next
+unfoldable pub word_spaced : List Tok → Bool
+word_spaced [] = false
+word_spaced (t ∷ ts) = is_blank t && starts_word ts
+
+-- a word, where one comes next
+abbrev pub label : Parser (Option Bytes)
+label (Word l ∷ ts) = Some (Some l, ts)
+label ts = Some (None, ts)
+
+-- the goto with the place that stands first, and with the other where there is one
+abbrev pub from_success : Place → Option Place → Goto
+from_success p None = OnSuccess p
+from_success p (Some q) = Both p q
+
+abbrev pub from_failure : Place → Option Place → Goto
+from_failure q None = OnFailure q
+from_failure q (Some p) = Both p q
+
 -- brackets and unary operators are nested less deep than the number
 module _ (d : ℕ) where
   -- ---- gotos
-  abbrev pub place_by : Tok → Parser Place
-  place_by (Word l) ts = Some (Label l, ts)
-  place_by (Sign m) ts = if same mark.Dollar m then bind (element d ts) (λ e rest. Some (Computed e, rest)) else None
-  place_by _ ts = None
+  abbrev pub place_named : Parser Place
+  place_named (Word l ∷ ts) = Some (Label l, ts)
+  place_named ts = None
 
   unfoldable pub place : Parser Place
-  place [] = None
-  place (t ∷ ts) = place_by t ts
+  place ts = if sees mark.Dollar ts then bind (element d (tail ts)) (λ e rest. Some (Computed e, rest)) else place_named ts
 
   unfoldable pub in_brackets : Parser Place
   in_brackets ts = if sees mark.Open ts then bind (place (skip (tail ts))) (λ p rest. expect mark.Close p (skip rest)) else None
 
-  -- the goto with the second place, where its word comes next, and else the one without
-  unfoldable pub second : Bytes → (Place → Goto) → Goto → Parser Goto
-  second word both one ts = if sees_word word (skip ts) then bind (in_brackets (tail (skip ts))) (λ q rest. Some (both q, rest)) else Some (one, ts)
+  -- the place after blanks and this word, where the word comes next
+  unfoldable pub second : Bytes → Parser (Option Place)
+  second word ts = if sees_word word (skip ts) then bind (in_brackets (tail (skip ts))) (λ q rest. Some (Some q, rest)) else Some (None, ts)
 
   unfoldable pub exits : Parser Goto
   exits ts =
-      if sees_word on_success ts then bind (in_brackets (tail ts)) (λ p rest. second on_failure (λ q. Both p q) (OnSuccess p) rest)
-      else (if sees_word on_failure ts then bind (in_brackets (tail ts)) (λ p rest. second on_success (λ q. Both q p) (OnFailure p) rest)
+      if sees_word on_success ts then bind (in_brackets (tail ts)) (λ p rest. bind (second on_failure rest) (λ q end. Some (from_success p q, end)))
+      else (if sees_word on_failure ts then bind (in_brackets (tail ts)) (λ q rest. bind (second on_success rest) (λ p end. Some (from_failure q p, end)))
       else bind (in_brackets ts) (λ p rest. Some (Always p, rest)))
 
   unfoldable pub goto : Parser Goto
@@ -75,19 +101,14 @@ module _ (d : ℕ) where
   body ts = if starts_spaced ts then bind (element d (tail ts)) after_subject else Some (Nothing, ts)
 
   -- ---- statements
-  unfoldable pub plain_after : Option Bytes → Parser Stmt
-  plain_after l ts = bind (body ts) (λ b rest. bind (goto rest) (λ g end. Some (Plain l b g, skip end)))
+  unfoldable pub after_label : Option Bytes → Parser Stmt
+  after_label l ts = bind (body ts) (λ b rest. bind (goto rest) (λ g end. Some (Plain l b g, skip end)))
 
-  abbrev pub entry : Parser (Option Bytes)
-  entry (Blank ∷ Word l ∷ ts) = Some (Some l, ts)
-  entry ts = Some (None, ts)
-
-  unfoldable pub end_after : Parser Stmt
-  end_after ts = bind (entry ts) (λ l rest. Some (End l, skip rest))
+  unfoldable pub after_end : Parser Stmt
+  after_end ts = if word_spaced ts then bind (label (tail ts)) (λ l rest. Some (End l, skip rest)) else Some (End None, skip ts)
 
   unfoldable pub statement : Parser Stmt
-  statement (Word s ∷ ts) = if bytes_eq s end_word then end_after ts else plain_after (Some s) ts
-  statement ts = plain_after None ts
+  statement ts = if sees_word end_word ts then after_end (tail ts) else bind (label ts) after_label
 
 -- the one tree of all the tokens
 unfoldable pub stmt : List Tok → Option Stmt

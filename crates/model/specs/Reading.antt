@@ -178,10 +178,15 @@ table_at entry bytes = do
   n ← count_at most bytes
   entries_from entry [] n.0 n.1
 
+-- a length, and that many bytes
+unfoldable pub text_at : List ℕ → Result (List ℕ × List ℕ) Miss
+text_at bytes = do
+  n ← number_at w32 bytes
+  bytes_at n.0 n.1
+
 unfoldable pub string_at : List (List ℕ) → List ℕ → Result (List ℕ × List ℕ) Miss
 string_at front bytes = do
-  n ← number_at w32 bytes
-  s ← bytes_at n.0 n.1
+  s ← text_at bytes
   checked (is_new front s.0) BadTable bytes s
 
 abbrev pub labelled : ℕ → ℕ → Label

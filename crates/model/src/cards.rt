@@ -3,17 +3,21 @@
 use crate::seq::{Bytes, Seq};
 use thiserror::Error;
 
-/// A statement's text, its number from 1, and the card of its first byte.
+/// A statement as cards give it, before it is cut into tokens.
 #[derive(Debug, Drop)]
 pub struct Statement {
+    /// Its number among the deck's statements, from 1.
     pub number: u32,
+    /// The number of the card that holds its first byte, from 1.
     pub card: u32,
+    /// Its bytes, those of its continuation cards included.
     pub text: Bytes,
 }
 
 /// The statements of a deck in order, END's last.
 #[derive(Debug, Drop)]
 pub struct Deck {
+    /// Numbered from 1 with no gap.
     pub statements: Seq<Statement>,
 }
 
@@ -47,6 +51,8 @@ pub enum CardRule {
 #[derive(Clone, Copy, Debug, PartialEq, Eq, Error)]
 #[error("card {card} {rule}")]
 pub struct CardFault {
+    /// From 1; 0 where the deck as a whole is told, and one more than the cards for a missing END.
     pub card: u32,
+    /// The rule that is broken there.
     pub rule: CardRule,
 }

@@ -51,7 +51,9 @@ pub enum Cause {
 #[derive(Clone, Copy, Debug, PartialEq, Eq, Error)]
 #[error("statement {number} {cause}")]
 pub struct StmtFault {
+    /// The statement's number, from 1.
     pub number: u32,
+    /// The one cause that is told of it.
     pub cause: Cause,
 }
 

@@ -36,21 +36,27 @@ pub enum FormatRule {
 #[derive(Clone, Copy, Debug, PartialEq, Eq, Error)]
 #[error("offset {offset} {rule}")]
 pub struct FormatFault {
+    /// Counts the bytes before it.
     pub offset: usize,
+    /// The rule that is broken there.
     pub rule: FormatRule,
 }
 
 /// A broken rule of the format, and how many bytes are left where it is told.
 #[derive(Clone, Copy)]
 pub struct Miss {
+    /// How many bytes stand from there to the end.
     pub left: usize,
+    /// The rule that is broken there.
     pub rule: FormatRule,
 }
 
 /// Why a field was not read.
 #[derive(Drop)]
 pub enum ReadError {
+    /// A growth of memory was refused.
     Memory,
+    /// The bytes break a rule of the format.
     Fault(Miss),
 }
 
@@ -102,15 +108,19 @@ pub enum ModuleRule {
 #[derive(Clone, Copy, Debug, PartialEq, Eq, Error)]
 #[error("offset {offset} {rule}")]
 pub struct ModuleFault {
+    /// Counts the module's bytes before the instruction, the table entry or the field.
     pub offset: usize,
+    /// The condition that is broken there.
     pub rule: ModuleRule,
 }
 
 /// Why a module is refused.
 #[derive(Clone, Copy, Debug, PartialEq, Eq, Error)]
 pub enum LoadFault {
+    /// The bytes spell no image.
     #[error("{0}")]
     Format(FormatFault),
+    /// The image that they spell isn't well-formed.
     #[error("{0}")]
     Module(ModuleFault),
 }

@@ -3,27 +3,42 @@
 use crate::instr::Instr;
 use crate::seq::{Bytes, Seq};
 
-/// An instruction of a pattern in a module; sets and literals are numbers of strings, distances count instructions.
+/// An instruction of a pattern in a module. Literals and sets of bytes are numbers of strings, and distances count
+/// instructions from the instruction itself.
 #[derive(Clone, Copy)]
 pub enum PatInstr {
+    /// The bytes of a string.
     Lit(u32),
+    /// Goes on, and keeps a choice at that distance.
     Split(i32),
+    /// Goes on at that distance.
     Jmp(i32),
+    /// That many bytes.
     Len(u64),
+    /// No byte, where the cursor stands there.
     Pos(u64),
+    /// No byte, where that many bytes are left.
     RPos(u64),
+    /// The bytes up to that cursor.
     Tab(u64),
+    /// The bytes up to where that many are left.
     RTab(u64),
+    /// One byte of the set.
     Any(u32),
+    /// One byte outside the set.
     NotAny(u32),
+    /// The longest run of bytes of the set, at least one.
     Span(u32),
+    /// The bytes up to the next byte of the set, which must exist.
     Break(u32),
 }
 
-/// A label: the number of the string that is its name, and of its statement.
+/// A label and the statement that it names.
 #[derive(Clone, Copy)]
 pub struct Label {
+    /// The number of the string that is its name.
     pub string: u32,
+    /// The statement's number.
     pub statement: u32,
 }
 
@@ -32,12 +47,16 @@ pub struct Label {
 pub struct Image {
     /// The number of the first statement to run.
     pub entry: u32,
+    /// Names and literals, no two equal.
     pub strings: Seq<Bytes>,
+    /// The labels but END, in the order of their statements.
     pub labels: Seq<Label>,
     /// Each statement's offset.
     pub statements: Seq<u32>,
     /// Each unevaluated expression's offset.
     pub expressions: Seq<u32>,
+    /// Each constant pattern's code.
     pub patterns: Seq<Seq<PatInstr>>,
+    /// The instructions, one after another.
     pub code: Seq<Instr>,
 }

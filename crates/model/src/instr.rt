@@ -6,8 +6,11 @@ use crate::primitives::PrimId;
 /// How a function is left.
 #[derive(Clone, Copy)]
 pub enum ReturnKind {
+    /// With the value of the variable of its name.
     Return,
+    /// As a failure.
     FReturn,
+    /// With the name that the value of the variable of its name converts to.
     NReturn,
 }
 
@@ -24,6 +27,7 @@ pub enum ArithOp {
     Add,
     Subtract,
     Multiply,
+    /// Cut towards zero.
     Divide,
     Power,
 }
@@ -31,53 +35,84 @@ pub enum ArithOp {
 /// An instruction, in the order of the codes that modules have for them; docs/module-format.md tells what each does.
 #[derive(Clone, Copy)]
 pub enum Instr {
+    /// The run ends normally.
     End,
-    /// The offset at which the statement goes on after a failure.
+    /// A statement begins. The offset at which the statement goes on after a failure.
     Begin(u32),
+    /// The statement's body is done; its goto begins.
     Body,
-    /// A statement's number.
+    /// To the statement of that number.
     Goto(u32),
+    /// Out of a function.
     Return(ReturnKind),
+    /// To the label that a value is.
     GotoV,
+    /// A label that isn't defined.
     NoLabel,
-    /// A string's number.
+    /// The string of that number.
     Str(u32),
+    /// An integer.
     Int(i64),
+    /// The null string.
     Null,
-    /// The number of the string that is the variable's name.
+    /// A variable; the number of the string that is its name.
     Var(u32),
+    /// From a name to its value, which may read a record.
     Fetch,
+    /// A keyword's value.
     KeyGet(KeyId),
+    /// An assignment to a keyword.
     KeySet(KeyId),
+    /// Unary `$`.
     Indir,
-    /// How many subscripts.
+    /// A reference; how many subscripts.
     Elem(u16),
+    /// An assignment, which may write a record.
     Assign,
+    /// Unary `.`.
     NameV,
-    /// An expression's number.
+    /// Unary `*`; the expression's number.
     Expr(u32),
-    /// The number of the string that is the function's name, and how many arguments.
+    /// A call for a value: the number of the string that is the function's name, and how many arguments.
     CallV(u32, u16),
+    /// The same for a name.
     CallN(u32, u16),
+    /// A primitive for a value, and how many arguments.
     PrimV(PrimId, u8),
+    /// The same for a name.
     PrimN(PrimId, u8),
+    /// The newest value is dropped.
     Drop,
     /// The offset at which to go on after a failure.
     Try(u32),
+    /// The newest `Try` is over.
     Untry,
+    /// A failure.
     Fail,
+    /// Unary `+` or `-`.
     Sign(SignOp),
+    /// Arithmetic of two values.
     Arith(ArithOp),
+    /// Concatenation.
     Cat,
+    /// `|`.
     Alt,
+    /// Binary `.`.
     Cond,
+    /// Binary `$`.
     Imm,
+    /// Unary `@`.
     Cursor,
-    /// A pattern's number.
+    /// The constant pattern of that number.
     Pat(u32),
+    /// As `Fetch`, and the name stays.
     FetchK,
+    /// A match of a subject and a pattern.
     Match,
+    /// The same for a replacement.
     MatchR,
+    /// The replacement of what matched.
     Splice,
+    /// The end of an unevaluated expression.
     Ret,
 }

@@ -1,7 +1,7 @@
 //! Keywords.
 
 ghost use Rattle.std.specs.Prelude.{◌≡◌};
-ghost use Rattle.model.specs.Names.{key_name, key_named, keys, is_protected};
+ghost use Rattle.model.specs.Names.{is_protected, key_name, key_named};
 
 /// A keyword, in the order of the codes that modules have for them.
 #[derive(Clone, Copy)]

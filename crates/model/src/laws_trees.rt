@@ -1,15 +1,25 @@
 //! What is proved of the trees of token lists.
 
+ghost use Rattle.model.specs.FaultRows.{FaultRows};
 ghost use Rattle.model.specs.TreeLaws.{OneExpr, OneTree};
+ghost use Rattle.model.specs.TreeRows.{TreeRows};
 
 /// A token list has at most one expression, and the parser function finds it.
-pub fn one_expr()
+pub fn each_expression_is_one()
     ensures { OneExpr }
-{
-}
+{}
 
 /// A token list has at most one statement, and the parser function finds it.
-pub fn one_tree()
+pub fn each_statement_is_one()
     ensures { OneTree }
-{
-}
+{}
+
+/// The worked cases of trees.
+pub fn worked_trees()
+    ensures { TreeRows }
+{}
+
+/// The worked cases of faults.
+pub fn worked_faults()
+    ensures { FaultRows }
+{}

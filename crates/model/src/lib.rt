@@ -7,12 +7,12 @@ mod format;
 mod image;
 mod instr;
 mod keys;
-mod laws_trees;
 mod laws_cards;
 mod laws_tokens;
 mod laws_bytes;
 mod laws_names;
 mod laws_patterns;
+mod laws_trees;
 mod primitives;
 mod run;
 mod seq;
@@ -33,8 +33,9 @@ pub use laws_patterns::{
     answers_come_later, answers_stay, code_means_its_pattern, ends_are_permitted,
     first_end_is_found, steps_stay_within,
 };
+pub use laws_trees::{each_expression_is_one, each_statement_is_one, worked_faults, worked_trees};
 pub use primitives::PrimId;
-pub use run::{Ending, ErrorCode, UnitFault};
+pub use run::{Ending, ErrorCode, Status, Stop, UnitFault};
 pub use seq::{Bytes, Seq};
 pub use tokens::{Mark, Token, TokenKind};
 pub use trees::{Argument, Binary, Body, Expr, Goto, Place, Program, Stmt, Unary};

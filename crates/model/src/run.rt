@@ -58,11 +58,20 @@ pub enum ErrorCode {
 /// How a run ends.
 #[derive(Clone, Copy, Debug, PartialEq, Eq)]
 pub enum Ending {
+    /// END was reached.
     Normal,
-    /// The error, and `&STNO` when it came.
-    Error { code: ErrorCode, statement: i64 },
-    /// The statement that would have begun.
-    StLimit { statement: u32 },
+    /// An error came.
+    Error {
+        /// Which one.
+        code: ErrorCode,
+        /// `&STNO` when it came.
+        statement: i64,
+    },
+    /// `&STLIMIT` statements were begun.
+    StLimit {
+        /// The statement that would have begun.
+        statement: u32,
+    },
 }
 
 /// Why a unit refused a call.
@@ -71,11 +80,40 @@ pub enum UnitFault {
     /// The unit isn't open that way.
     #[error("U1")]
     NotOpen,
+    /// The record that was asked for could not be read.
     #[error("U2")]
     ReadFailed,
+    /// The record was not written.
     #[error("U3")]
     WriteFailed,
     /// A growth of memory was refused.
     #[error("U4")]
     Memory,
+}
+
+/// Why a run was broken off.
+#[derive(Clone, Copy, Debug, PartialEq, Eq, Error)]
+pub enum Stop {
+    /// A unit refused a call.
+    #[error("unit {unit} {cause}")]
+    Unit {
+        /// The unit's number.
+        unit: u8,
+        /// What it refused the call for.
+        cause: UnitFault,
+    },
+    /// A growth of memory was refused.
+    #[error("no memory")]
+    NoMemory,
+}
+
+/// How far a run has come.
+#[derive(Clone, Copy, Debug, PartialEq, Eq)]
+pub enum Status {
+    /// The steps that were allowed are done, and the run may go on.
+    Running,
+    /// The run ended.
+    Ended(Ending),
+    /// The run was broken off.
+    Stopped(Stop),
 }

@@ -58,11 +58,15 @@ pub enum TokenKind {
     Mark(Mark),
 }
 
-/// A token: its kind, the span of its bytes in the statement's text, and those bytes.
+/// A token of a statement's text.
 #[derive(Clone, Copy, Debug)]
 pub struct Token<'a> {
+    /// What it is.
     pub kind: TokenKind,
+    /// The index of its first byte in the statement's text.
     pub start: usize,
+    /// One more than the index of its last byte.
     pub end: usize,
+    /// Its bytes.
     pub text: &'a [u8],
 }

@@ -48,7 +48,9 @@ pub enum Binary {
 #[cycle(trees)]
 #[derive(Drop)]
 pub enum Expr {
+    /// A variable, by its name.
     Name(Vec<u8>),
+    /// An integer literal.
     Integer(i64),
     /// The bytes between the quotes.
     Literal(Vec<u8>),
@@ -58,7 +60,9 @@ pub enum Expr {
     Call(Vec<u8>, Vec<Argument>),
     /// `A<..>`; no subscript is absent.
     Reference(Vec<u8>, Vec<Argument>),
+    /// An operator and its operand.
     Unary(Unary, Box<Expr>),
+    /// An operator, its left operand and its right one.
     Binary(Binary, Box<Expr>, Box<Expr>),
 }
 
@@ -66,7 +70,9 @@ pub enum Expr {
 #[cycle(trees)]
 #[derive(Drop)]
 pub enum Argument {
+    /// Nothing stands there; it counts as the null string.
     Absent,
+    /// An expression stands there.
     Given(Expr),
 }
 
@@ -82,9 +88,13 @@ pub enum Place {
 /// The goto part of a statement.
 #[derive(Drop)]
 pub enum Goto {
+    /// None: to the next statement.
     Next,
+    /// `:(place)`
     Always(Place),
+    /// `:S(place)`
     OnSuccess(Place),
+    /// `:F(place)`
     OnFailure(Place),
     /// The place after success, then that after failure.
     Both(Place, Place),
@@ -93,7 +103,9 @@ pub enum Goto {
 /// What a statement does. An absent object is `None`.
 #[derive(Drop)]
 pub enum Body {
+    /// A label, a goto or both alone.
     Nothing,
+    /// A subject alone.
     Evaluate(Expr),
     /// Subject and pattern.
     Match(Expr, Expr),
@@ -106,19 +118,25 @@ pub enum Body {
 /// A statement.
 #[derive(Drop)]
 pub enum Stmt {
+    /// Every statement but END.
     Plain {
+        /// The label that it gives, if any.
         label: Option<Vec<u8>>,
+        /// What it does.
         body: Body,
+        /// Where execution goes on.
         goto: Goto,
     },
-    /// END, with the label where execution begins.
+    /// The last statement, END.
     End {
+        /// The label where execution begins; without one it begins at the first statement.
         entry: Option<Vec<u8>>,
     },
 }
 
-/// A deck's statements in order, END's last.
+/// A deck without faults, as trees.
 #[derive(Drop)]
 pub struct Program {
+    /// In order, END's last.
     pub statements: Vec<Stmt>,
 }

@@ -2,7 +2,7 @@
 
 use model::{
     CardFault, CardRule, Cause, ErrorCode, FormatFault, FormatRule, LoadFault, ModuleFault,
-    ModuleRule, StmtFault, UnitFault,
+    ModuleRule, StmtFault, Stop, UnitFault,
 };
 use std::fmt::Display;
 use std::process::Abort;
@@ -130,5 +130,10 @@ fn errors_and_units(rt: HostRuntime) -> Result<(), Fail> {
     ] {
         expect_printed(&rt, &fault, code)?;
     }
-    Ok(())
+    let refused = Stop::Unit {
+        unit: 5,
+        cause: UnitFault::NotOpen,
+    };
+    expect_printed(&rt, &refused, "unit 5 U1")?;
+    expect_printed(&rt, &Stop::NoMemory, "no memory")
 }

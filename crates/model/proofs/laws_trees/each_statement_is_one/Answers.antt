@@ -1,6 +1,6 @@
 use Rattle.model.proofs.StatementSound.{stmt_sound}
 use Rattle.model.proofs.StatementComplete.{stmt_full}
-use Rattle.model.proofs.laws_trees.one_tree.Goals as goal
+use Rattle.model.proofs.laws_trees.each_statement_is_one.Goals as goal
 
 pub returns : goal.returns
 returns c = record {

@@ -1,6 +1,6 @@
 use Rattle.model.proofs.ParseComplete.{expr_full}
 use Rattle.model.proofs.ParseExact.{expr_sound}
-use Rattle.model.proofs.laws_trees.one_expr.Goals as goal
+use Rattle.model.proofs.laws_trees.each_expression_is_one.Goals as goal
 
 pub returns : goal.returns
 returns c = record {

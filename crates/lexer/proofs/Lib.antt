@@ -1,0 +1,4 @@
+pub mod Fronts
+pub mod Lexing
+pub mod Scanning
+pub mod Values

@@ -1,0 +1,62 @@
+//! Tokens of a statement's text, or the least of the causes L1 to L5.
+#![tactic(auto)]
+
+ghost use Rattle.std.specs.Prelude.{◌≡◌, ◌≢◌, length, IfOk, IfErr, OnOk, None, Some};
+ghost use Rattle.model.specs.declared.causes.Cause.TheVariants as cause;
+ghost use Rattle.model.specs.Cut.{Cut, least_lexical};
+ghost use Rattle.model.specs.Pieces.{pieces};
+ghost use Rattle.lexer.specs.Lexed.{AreTokens, pieces_of, Spans};
+
+mod class;
+mod limits;
+mod scan;
+
+use crate::limits::Limits;
+use crate::scan::{Scanned, scan};
+use model::{Cause, Token};
+use std::alloc::Global;
+
+// The tokens of the text, and what they break of L3 to L5.
+fn cut_text<'a>(alloc: Global, text: &'a [u8]) -> Result<(Vec<Token<'a>>, Limits), Cause>
+    ensures tokens { IfOk result (λ p. AreTokens text.now p.0.items p.1) }
+    ensures cause { IfErr result (λ c. c ≢ cause.Memory → least_lexical (pieces text.now) ≡ Some c) }
+{
+    let mut tokens = Vec::new(alloc);
+    let mut limits = Limits::new();
+    let mut start = 0;
+    while let Some(found) = scan(&text[start..]) {
+        let (kind, len) = match found {
+            Scanned::Token(kind, len) => (kind, len),
+            Scanned::Stray => return Err(Cause::StrayByte),
+            Scanned::Unclosed => return Err(Cause::UnclosedLiteral),
+        };
+        let end = start + len;
+        let bytes = &text[start..end];
+        limits.see(kind, bytes);
+        let token = Token {
+            kind,
+            start,
+            end,
+            text: bytes,
+        };
+        let Ok(()) = tokens.push(token) else {
+            return Err(Cause::Memory);
+        };
+        start = end;
+    }
+    Ok((tokens, limits))
+}
+
+/// The tokens that the text is cut into, or the least of L1 to L5 that its pieces break.
+pub fn lex(alloc: Global, text: &[u8]) -> Result<Vec<Token<'_>>, Cause>
+    ensures cut { IfOk result (λ tokens. Cut text.now (pieces_of tokens.items)) }
+    ensures spans { IfOk result (λ tokens. Spans 0 (length text.now) text.now tokens.items) }
+    ensures fair { OnOk result (least_lexical (pieces text.now) ≡ None) }
+    ensures cause { IfErr result (λ c. c ≢ cause.Memory → least_lexical (pieces text.now) ≡ Some c) }
+{
+    let (tokens, limits) = cut_text(alloc, text)?;
+    match limits.least() {
+        Some(cause) => Err(cause),
+        None => Ok(tokens),
+    }
+}

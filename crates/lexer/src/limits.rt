@@ -1,0 +1,129 @@
+//! What tokens may break beside their spelling: an integer's size, brackets open at once, marks in a row.
+
+ghost use Rattle.std.specs.Prelude.{◌≡◌, ◌+◌, ◌<◌, [], nat_lt};
+ghost use Rattle.model.specs.Cut as cut;
+ghost use Rattle.model.specs.Digits.{value};
+ghost use Rattle.lexer.specs.Limits.{none, after, told};
+
+use model::{Cause, Mark, TokenKind};
+
+/// The largest integer.
+const LARGEST: u64 = 9_223_372_036_854_775_807;
+/// The most brackets that may be open at once.
+const MOST_OPEN: usize = 64;
+/// The most marks of unary operators that may stand in a row.
+const MOST_IN_ROW: usize = 16;
+
+/// What the tokens so far have broken, and what counts for the next.
+#[derive(Clone, Copy)]
+pub(crate) struct Limits {
+    large: bool,
+    open_brackets: usize,
+    deep: bool,
+    row: usize,
+    long: bool,
+}
+
+// Whether the number that these digits stand for is over the largest integer.
+fn is_large(digits: &[u8]) -> bool
+    ensures { result ≡ nat_lt 9223372036854775807 (value digits.now) }
+{
+    let mut number: u64 = 0;
+    for d in digits {
+        let digit = u64::from(d.saturating_sub(b'0'));
+        if number > (LARGEST - digit) / 10 {
+            return true;
+        }
+        number = 10 * number + digit;
+    }
+    false
+}
+
+fn open_after(brackets: usize, kind: TokenKind) -> usize
+    requires { brackets + 1 < 18446744073709551616 }
+    ensures { (text : _) → result ≡ cut.open_after brackets (cut.Token kind text) }
+{
+    match kind {
+        TokenKind::Mark(Mark::Open | Mark::Less) => brackets + 1,
+        TokenKind::Mark(Mark::Close | Mark::Greater) => brackets.saturating_sub(1),
+        _ => brackets,
+    }
+}
+
+// Whether a mark is that of a unary operator.
+fn may_be_unary(mark: Mark) -> bool
+    ensures { result ≡ cut.may_be_unary mark }
+{
+    matches!(
+        mark,
+        Mark::Star
+            | Mark::Plus
+            | Mark::Minus
+            | Mark::Dot
+            | Mark::Dollar
+            | Mark::At
+            | Mark::Question
+            | Mark::Ampersand
+            | Mark::Tilde
+    )
+}
+
+fn row_after(row: usize, kind: TokenKind) -> usize
+    requires { row + 1 < 18446744073709551616 }
+    ensures { (text : _) → result ≡ cut.row_after row (cut.Token kind text) }
+{
+    match kind {
+        TokenKind::Mark(mark) if may_be_unary(mark) => row + 1,
+        _ => 0,
+    }
+}
+
+fn is_large_integer(kind: TokenKind, text: &[u8]) -> bool
+    ensures { result ≡ cut.is_too_large (cut.Token kind text.now) }
+{
+    matches!(kind, TokenKind::Integer) && is_large(text)
+}
+
+impl Limits {
+    pub(crate) fn new() -> Limits
+        ensures { result ≡ none }
+    {
+        Limits {
+            large: false,
+            open_brackets: 0,
+            deep: false,
+            row: 0,
+            long: false,
+        }
+    }
+
+    /// Counts the next token.
+    #[tactic(auto, unfolding(crate::specs::Limits::after))]
+    pub(crate) fn see(&mut self, kind: TokenKind, text: &[u8])
+        requires open { self.old.open_brackets + 1 < 18446744073709551616 }
+        requires row { self.old.row + 1 < 18446744073709551616 }
+        ensures { self.new ≡ after self.old (cut.Token kind text.now) }
+    {
+        self.large = self.large || is_large_integer(kind, text);
+        self.open_brackets = open_after(self.open_brackets, kind);
+        self.deep = self.deep || self.open_brackets > MOST_OPEN;
+        self.row = row_after(self.row, kind);
+        self.long = self.long || self.row > MOST_IN_ROW;
+    }
+
+    /// The least of the causes that the tokens so far give.
+    #[tactic(auto, unfolding(crate::specs::Limits::told))]
+    pub(crate) fn least(self) -> Option<Cause>
+        ensures { result ≡ told self [] }
+    {
+        if self.large {
+            Some(Cause::IntegerTooLarge)
+        } else if self.deep {
+            Some(Cause::TooManyBrackets)
+        } else if self.long {
+            Some(Cause::TooManyMarks)
+        } else {
+            None
+        }
+    }
+}

@@ -1,0 +1,77 @@
+//! From bytes to the image that they spell.
+
+ghost use Rattle.std.specs.Prelude.{◌≡◌, length, IfOk, Ok};
+ghost use Rattle.model.specs.declared.image.Image.{Image};
+ghost use Rattle.model.specs.Reading.{Gives, image_at, image_of};
+ghost use Rattle.model.specs.Spelling.{spelling, IsImage};
+ghost use Rattle.module_format.specs.Faults.{IsAnswer};
+
+use crate::code::read_code;
+use crate::fields::{miss, past_magic, past_version};
+use crate::strings::read_strings;
+use crate::tables::{Expressions, Labels, Patterns, Statements, read_table};
+use code_format::read_u32;
+use model::{FormatFault, FormatRule, Image, ReadError};
+use std::alloc::Global;
+
+#[tactic(auto, unfolding(model::specs::Reading::image_at))]
+fn image_in_front(alloc: Global, bytes: &[u8]) -> Result<(Image, &[u8]), ReadError>
+    ensures { Gives (λ x. (x.0, x.1.now)) result (image_at bytes.now) }
+{
+    let rest = past_magic(bytes)?;
+    let rest = past_version(rest)?;
+    let (entry, rest) = read_u32(rest)?;
+    let (strings, rest) = read_strings(alloc, rest)?;
+    let (labels, rest) = read_table::<Labels>(alloc, rest)?;
+    let (statements, rest) = read_table::<Statements>(alloc, rest)?;
+    let (expressions, rest) = read_table::<Expressions>(alloc, rest)?;
+    let (patterns, rest) = read_table::<Patterns>(alloc, rest)?;
+    let (code, rest) = read_code(alloc, rest)?;
+    let image = Image {
+        entry,
+        strings,
+        labels,
+        statements,
+        expressions,
+        patterns,
+        code,
+    };
+    Ok((image, rest))
+}
+
+#[tactic(auto, unfolding(model::specs::Reading::image_of))]
+fn whole_image(alloc: Global, bytes: &[u8]) -> Result<Image, ReadError>
+    ensures { Gives (λ x. x) result (image_of bytes.now) }
+{
+    let (image, rest) = image_in_front(alloc, bytes)?;
+    if !rest.is_empty() {
+        return Err(ReadError::Fault(miss(FormatRule::TrailingBytes, rest)));
+    }
+    Ok(image)
+}
+
+fn answer(alloc: Global, bytes: &[u8]) -> Result<Image, FormatFault>
+    ensures { IsAnswer result (image_of bytes.now) (length bytes.now) }
+{
+    match whole_image(alloc, bytes) {
+        Ok(image) => Ok(image),
+        Err(ReadError::Memory) => Err(FormatFault {
+            offset: 0,
+            rule: FormatRule::Memory,
+        }),
+        Err(ReadError::Fault(miss)) => Err(FormatFault {
+            offset: bytes.len().saturating_sub(miss.left),
+            rule: miss.rule,
+        }),
+    }
+}
+
+/// The image that the bytes spell, or the first fault and its offset. Where a growth was refused that is told in place of
+/// any other answer.
+pub fn read_image(alloc: Global, bytes: &[u8]) -> Result<Image, FormatFault>
+    ensures exact { IsAnswer result (image_of bytes.now) (length bytes.now) }
+    ensures found { IfOk result (λ m. IsImage m × (bytes.now ≡ spelling m)) }
+    ensures only { (m : Image) → IsImage m → bytes.now ≡ spelling m → IsAnswer result (Ok m) (length bytes.now) }
+{
+    answer(alloc, bytes)
+}

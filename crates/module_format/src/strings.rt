@@ -1,0 +1,39 @@
+//! The table of strings, no two equal.
+
+ghost use Rattle.std.specs.Prelude.{◌≡◌};
+ghost use Rattle.model.specs.Reading.{Gives, Reads, table_at, string_at, text_at};
+
+use crate::fields::{MOST, miss, read_bytes, read_count};
+use code_format::read_u32;
+use indexmap::IndexSet;
+use model::{Bytes, FormatRule, Miss, ReadError, Seq};
+use std::alloc::Global;
+
+/// A length, and that many bytes.
+#[tactic(auto, unfolding(model::specs::Reading::text_at))]
+fn read_text(bytes: &[u8]) -> Result<(&[u8], &[u8]), Miss>
+    ensures { Reads (λ x. (x.0.now, x.1.now)) result (text_at bytes.now) }
+{
+    let (n, rest) = read_u32(bytes)?;
+    read_bytes(n as usize, rest)
+}
+
+/// The table of strings, and the bytes behind it.
+#[tactic(auto, unfolding(model::specs::Reading::table_at))]
+pub(crate) fn read_strings(alloc: Global, bytes: &[u8]) -> Result<(Seq<Bytes>, &[u8]), ReadError>
+    ensures { Gives (λ x. (x.0, x.1.now)) result (table_at string_at bytes.now) }
+{
+    let (n, after) = read_count(MOST, bytes)?;
+    let mut items = Vec::new(alloc);
+    let mut seen = IndexSet::new(alloc);
+    let mut rest = after;
+    for _ in 0..n {
+        let (text, behind) = read_text(rest)?;
+        if !seen.insert(text)? {
+            return Err(ReadError::Fault(miss(FormatRule::BadTable, rest)));
+        }
+        items.push(Seq::from_vec(Vec::from_slice(alloc, text)?))?;
+        rest = behind;
+    }
+    Ok((Seq::from_vec(items), rest))
+}

@@ -1,0 +1,147 @@
+//! Tables: a count, and that many entries.
+
+ghost use Rattle.std.specs.Prelude.{ℕ, List, Result};
+ghost use Rattle.model.specs.declared.format.Miss.{Miss};
+ghost use Rattle.model.specs.Reading.{Gives, Reads, table_at, label_at, statement_at, offset_at, pat_instr_at, pattern_at};
+
+use crate::fields::{MOST, miss, read_count};
+use code_format::{first_pat_instr, read_u32};
+use model::{FormatRule, Label, Miss, PatInstr, ReadError, Seq};
+use std::alloc::Global;
+
+/// A kind of table.
+pub(crate) trait Table {
+    type Entry: Drop;
+
+    /// What an entry's bytes are read as behind the entries before it.
+    ghost entry: { List Self.Entry → List ℕ → Result (Self.Entry × List ℕ) Miss };
+
+    /// An entry, and the bytes behind it.
+    fn read_entry<'a>(
+        alloc: Global,
+        earlier: &[Self::Entry],
+        bytes: &'a [u8],
+    ) -> Result<(Self::Entry, &'a [u8]), ReadError>
+        ensures { Gives (λ x. (x.0, x.1.now)) result (entry earlier.now bytes.now) };
+}
+
+/// A table of one kind, and the bytes behind it. Nothing is reserved for the count.
+#[tactic(auto, unfolding(model::specs::Reading::table_at))]
+pub(crate) fn read_table<T: Table>(
+    alloc: Global,
+    bytes: &[u8],
+) -> Result<(Seq<T::Entry>, &[u8]), ReadError>
+    ensures { Gives (λ x. (x.0, x.1.now)) result (table_at T.entry bytes.now) }
+{
+    let (n, after) = read_count(MOST, bytes)?;
+    let mut items = Vec::new(alloc);
+    let mut rest = after;
+    for _ in 0..n {
+        let (item, behind) = T::read_entry(alloc, items.as_slice(), rest)?;
+        items.push(item)?;
+        rest = behind;
+    }
+    Ok((Seq::from_vec(items), rest))
+}
+
+/// Labels, whose statements rise.
+pub(crate) struct Labels;
+
+impl Table for Labels {
+    type Entry = Label;
+
+    ghost entry = { label_at };
+
+    #[tactic(auto, unfolding(model::specs::Reading::label_at))]
+    fn read_entry<'a>(
+        _alloc: Global,
+        earlier: &[Label],
+        bytes: &'a [u8],
+    ) -> Result<(Label, &'a [u8]), ReadError> {
+        let (string, rest) = read_u32(bytes)?;
+        let (statement, rest) = read_u32(rest)?;
+        match earlier.last() {
+            Some(newest) if statement <= newest.statement => Err(miss(
+                FormatRule::BadTable,
+                bytes,
+            ))?,
+            _ => Ok((Label { string, statement }, rest)),
+        }
+    }
+}
+
+/// The offsets of statements, which rise.
+pub(crate) struct Statements;
+
+impl Table for Statements {
+    type Entry = u32;
+
+    ghost entry = { statement_at };
+
+    #[tactic(auto, unfolding(model::specs::Reading::statement_at))]
+    fn read_entry<'a>(
+        _alloc: Global,
+        earlier: &[u32],
+        bytes: &'a [u8],
+    ) -> Result<(u32, &'a [u8]), ReadError> {
+        let (n, rest) = read_u32(bytes)?;
+        match earlier.last() {
+            Some(newest) if n <= *newest => Err(miss(FormatRule::BadTable, bytes))?,
+            _ => Ok((n, rest)),
+        }
+    }
+}
+
+/// The offsets of expressions, in any order.
+pub(crate) struct Expressions;
+
+impl Table for Expressions {
+    type Entry = u32;
+
+    ghost entry = { offset_at };
+
+    #[tactic(auto, unfolding(model::specs::Reading::offset_at))]
+    fn read_entry<'a>(
+        _alloc: Global,
+        _earlier: &[u32],
+        bytes: &'a [u8],
+    ) -> Result<(u32, &'a [u8]), ReadError> {
+        Ok(read_u32(bytes)?)
+    }
+}
+
+/// The instructions of one pattern.
+struct Pattern;
+
+impl Table for Pattern {
+    type Entry = PatInstr;
+
+    ghost entry = { pat_instr_at };
+
+    #[tactic(auto, unfolding(model::specs::Reading::pat_instr_at))]
+    fn read_entry<'a>(
+        _alloc: Global,
+        _earlier: &[PatInstr],
+        bytes: &'a [u8],
+    ) -> Result<(PatInstr, &'a [u8]), ReadError> {
+        Ok(first_pat_instr(bytes)?)
+    }
+}
+
+/// Patterns, each a table itself.
+pub(crate) struct Patterns;
+
+impl Table for Patterns {
+    type Entry = Seq<PatInstr>;
+
+    ghost entry = { pattern_at };
+
+    #[tactic(auto, unfolding(model::specs::Reading::pattern_at))]
+    fn read_entry<'a>(
+        alloc: Global,
+        _earlier: &[Seq<PatInstr>],
+        bytes: &'a [u8],
+    ) -> Result<(Seq<PatInstr>, &'a [u8]), ReadError> {
+        read_table::<Pattern>(alloc, bytes)
+    }
+}

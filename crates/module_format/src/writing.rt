@@ -1,0 +1,139 @@
+//! From an image to the bytes that spell it.
+
+ghost use Rattle.std.specs.Prelude.{◌≡◌, ◌<◌, ◌≤◌, ◌^◌, ◌++◌, ℕ, List, length, OnOk, IfOk, All};
+ghost use Rattle.model.specs.Spelling.{u32 as u32_bytes, u16 as u16_bytes, counted, magic, string, label, pattern, pat_instr, code_bytes, spelling, IsImage, most};
+
+use crate::fields::{MAGIC, VERSION};
+use code_format::{put_instr, put_pat_instr, put_u32};
+use model::{Bytes, Image, Instr, Label, PatInstr, Seq};
+use std::alloc::{AllocError, Global};
+
+/// What stands in a table.
+trait Entry {
+    ghost spell: { Self → List ℕ };
+
+    /// What has a spelling.
+    ghost fits: { Self → Type 0 };
+
+    /// Puts the entry at the end.
+    fn put(&self, out: &mut Vec<u8>) -> Result<(), AllocError>
+        requires { fits self.now }
+        ensures { OnOk result (out.new.items ≡ out.old.items ++ spell self.now) };
+}
+
+fn put_count(out: &mut Vec<u8>, n: usize) -> Result<(), AllocError>
+    requires { n < 2 ^ 32 }
+    ensures { OnOk result (out.new.items ≡ out.old.items ++ u32_bytes n) }
+{
+    put_u32(out, n as u32)
+}
+
+fn put_string(out: &mut Vec<u8>, bytes: &[u8]) -> Result<(), AllocError>
+    requires { length bytes.now < 2 ^ 32 }
+    ensures { OnOk result (out.new.items ≡ out.old.items ++ string bytes.now) }
+{
+    put_count(out, bytes.len())?;
+    out.extend_from_slice(bytes)
+}
+
+/// A count, and that many entries.
+fn put_table<T: Entry>(out: &mut Vec<u8>, entries: &[T]) -> Result<(), AllocError>
+    requires few { length entries.now ≤ most }
+    requires fit { All T.fits entries.now }
+    ensures { OnOk result (out.new.items ≡ out.old.items ++ counted T.spell entries.now) }
+{
+    put_count(out, entries.len())?;
+    for entry in entries {
+        entry.put(out)?;
+    }
+    Ok(())
+}
+
+impl Entry for Bytes {
+    ghost spell = { string };
+
+    ghost fits = { λ s. length s < 2 ^ 32 };
+
+    fn put(&self, out: &mut Vec<u8>) -> Result<(), AllocError> {
+        put_string(out, self.as_slice())
+    }
+}
+
+impl Entry for Label {
+    ghost spell = { label };
+
+    ghost fits = { λ _. Unit {0} };
+
+    fn put(&self, out: &mut Vec<u8>) -> Result<(), AllocError> {
+        put_u32(out, self.string)?;
+        put_u32(out, self.statement)
+    }
+}
+
+impl Entry for u32 {
+    ghost spell = { u32_bytes };
+
+    ghost fits = { λ _. Unit {0} };
+
+    fn put(&self, out: &mut Vec<u8>) -> Result<(), AllocError> {
+        put_u32(out, *self)
+    }
+}
+
+impl Entry for PatInstr {
+    ghost spell = { pat_instr };
+
+    ghost fits = { λ _. Unit {0} };
+
+    fn put(&self, out: &mut Vec<u8>) -> Result<(), AllocError> {
+        put_pat_instr(self, out)
+    }
+}
+
+impl Entry for Seq<PatInstr> {
+    ghost spell = { pattern };
+
+    ghost fits = { λ p. length p ≤ most };
+
+    fn put(&self, out: &mut Vec<u8>) -> Result<(), AllocError> {
+        put_table(out, self.as_slice())
+    }
+}
+
+/// The instructions' bytes.
+fn code_of(alloc: Global, code: &[Instr]) -> Result<Vec<u8>, AllocError>
+    ensures { IfOk result (λ bytes. bytes.items ≡ code_bytes code.now) }
+{
+    let mut bytes = Vec::new(alloc);
+    for i in code {
+        put_instr(i, &mut bytes)?;
+    }
+    Ok(bytes)
+}
+
+/// What stands before the tables.
+#[tactic(auto, unfolding(model::specs::Spelling::u16))]
+fn put_head(out: &mut Vec<u8>, entry: u32) -> Result<(), AllocError>
+    ensures { OnOk result (out.new.items ≡ out.old.items ++ (u32_bytes magic ++ (u16_bytes 1 ++ u32_bytes entry))) }
+{
+    put_u32(out, MAGIC)?;
+    out.extend_from_slice(&VERSION.to_be_bytes())?;
+    put_u32(out, entry)
+}
+
+/// The bytes that spell the image.
+pub fn write_image(alloc: Global, image: &Image) -> Result<Vec<u8>, AllocError>
+    requires { IsImage image.now }
+    ensures { IfOk result (λ bytes. bytes.items ≡ spelling image.now) }
+{
+    let mut out = Vec::new(alloc);
+    put_head(&mut out, image.entry)?;
+    put_table(&mut out, image.strings.as_slice())?;
+    put_table(&mut out, image.labels.as_slice())?;
+    put_table(&mut out, image.statements.as_slice())?;
+    put_table(&mut out, image.expressions.as_slice())?;
+    put_table(&mut out, image.patterns.as_slice())?;
+    let code = code_of(alloc, image.code.as_slice())?;
+    put_string(&mut out, code.as_slice())?;
+    Ok(out)
+}

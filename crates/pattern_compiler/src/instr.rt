@@ -1,0 +1,74 @@
+//! The instructions of pattern code.
+
+use strings::Text;
+
+/// What can be assigned to.
+#[derive(Drop)]
+pub enum Name {
+    Variable(Text),
+    /// An element of an array by its place, or a field of a record.
+    Element { object: usize, index: usize },
+    /// The value that a table has for an integer.
+    IntegerKey { object: usize, key: i64 },
+    /// The value that a table has for a string.
+    StringKey { object: usize, key: Text },
+}
+
+/// A part without parts and without effect.
+#[derive(Drop)]
+pub enum Basic {
+    Lit(Text),
+    Len(u64),
+    Pos(u64),
+    RPos(u64),
+    Tab(u64),
+    RTab(u64),
+    Any(Text),
+    NotAny(Text),
+    Span(Text),
+    Break(Text),
+    Rem,
+    Arb,
+    Bal,
+    Fail,
+}
+
+/// The kinds whose argument may be deferred.
+#[derive(Clone, Copy)]
+pub enum Kind {
+    Len,
+    Pos,
+    RPos,
+    Tab,
+    RTab,
+    Any,
+    NotAny,
+    Span,
+    Break,
+}
+
+/// An instruction of pattern code. Distances count instructions from the instruction itself; an expression is its
+/// number.
+#[derive(Drop)]
+pub enum Instr {
+    Do(Basic),
+    /// Goes on, and keeps a choice to go on at the distance.
+    Split(i32),
+    Jmp(i32),
+    /// Matches null, and again on each return.
+    Succeed,
+    Abort,
+    Fence,
+    /// Notes the cursor.
+    Open,
+    /// A conditional assignment of what stands since the noted cursor.
+    Close(Name),
+    /// An immediate assignment of what stands since the noted cursor.
+    Say(Name),
+    /// An assignment of the cursor.
+    At(Name),
+    /// Asks for a pattern and enters it.
+    Eval(u32),
+    /// Asks for the argument of the kind.
+    EvalBasic(Kind, u32),
+}
