@@ -20,27 +20,32 @@ printing (l ∷ ls) = prints l ∷ printing ls
 -- where a text stands among others, or how many they are
 abbrev pub place_of : Bytes → List Bytes → ℕ
 place_of t [] = 0
-place_of t (s ∷ ss) = if bytes_eq s t then 0 else suc (place_of t ss)
+place_of t (s ∷ ss) = if bytes_eq t s then 0 else suc (place_of t ss)
 
 -- a text, put last unless it is there
 abbrev pub with_text : Bytes → List Bytes → List Bytes
 with_text t [] = t ∷ []
-with_text t (s ∷ ss) = if bytes_eq s t then s ∷ ss else s ∷ with_text t ss
+with_text t (s ∷ ss) = if bytes_eq t s then s ∷ ss else s ∷ with_text t ss
 
--- the texts of statements, by first use
+-- the texts with those of a statement
+abbrev pub with_texts : Bytes → List Bytes → List Bytes
+with_texts l ts = with_text l (with_text output ts)
+
+-- the texts with those of statements, by first use
 abbrev pub texts : List Bytes → List Bytes → List Bytes
 texts ts [] = ts
-texts ts (l ∷ ls) = texts (with_text l (with_text output ts)) ls
+texts ts (l ∷ ls) = texts (with_texts l ts) ls
 
--- the code of a statement at an offset, 17 bytes
+-- the code of a statement at an offset, 17 bytes, where these are the texts
 abbrev pub statement_code : List Bytes → ℕ → Bytes → List Instr
 statement_code ts at l = op.Begin (at + 17) ∷ op.Var (place_of output ts) ∷ op.Str (place_of l ts) ∷ op.Assign ∷ op.Body ∷ []
 
--- the code of these statements and of END
+-- the code of these statements and of END, where these are the texts before them
 abbrev pub code_of : List Bytes → ℕ → List Bytes → List Instr
 code_of ts at [] = op.End ∷ []
-code_of ts at (l ∷ ls) = statement_code ts at l ++ code_of ts (at + 17) ls
+code_of ts at (l ∷ ls) = statement_code (with_texts l ts) at l ++ code_of (with_texts l ts) (at + 17) ls
 
+-- the offsets of these statements and of END
 abbrev pub offsets_of : ℕ → List Bytes → List ℕ
 offsets_of at [] = at ∷ []
 offsets_of at (l ∷ ls) = at ∷ offsets_of (at + 17) ls
@@ -53,5 +58,5 @@ image_of ls = record {
   statements = offsets_of 0 ls;
   expressions = [];
   patterns = [];
-  code = code_of (texts [] ls) 0 ls;
+  code = code_of [] 0 ls;
 }

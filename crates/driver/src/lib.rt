@@ -1,12 +1,13 @@
 //! Whole calls: from a deck to a module, from a module to what it prints, and the words of the program `sno`.
 #![tactic(auto)]
 
+mod fragment;
+mod generating;
 mod refusal;
-mod status;
+mod strings;
 mod telling;
 mod words;
 
 pub use refusal::Refusal;
-pub use status::{Status, Stop};
 pub use telling::{Told, WriteFault, report};
 pub use words::{Job, read_words};

@@ -1,8 +1,7 @@
 //! What the program tells on standard error, and its exit status.
 
 use crate::refusal::Refusal;
-use crate::status::{Status, Stop};
-use model::{Ending, LoadFault};
+use model::{Ending, LoadFault, Status, Stop};
 use std::io::{self, Write};
 
 /// What the program has to tell at its end.
