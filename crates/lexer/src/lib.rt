@@ -4,6 +4,7 @@
 ghost use Rattle.std.specs.Prelude.{◌≡◌, ◌≢◌, length, IfOk, IfErr, OnOk, None, Some};
 ghost use Rattle.model.specs.declared.causes.Cause.TheVariants as cause;
 ghost use Rattle.model.specs.Cut.{Cut, least_lexical};
+ghost use Rattle.model.specs.Lexed.{Lexed};
 ghost use Rattle.model.specs.Pieces.{pieces};
 ghost use Rattle.lexer.specs.Lexed.{AreTokens, pieces_of, Spans};
 
@@ -52,6 +53,7 @@ pub fn lex(alloc: Global, text: &[u8]) -> Result<Vec<Token<'_>>, Cause>
     ensures cut { IfOk result (λ tokens. Cut text.now (pieces_of tokens.items)) }
     ensures spans { IfOk result (λ tokens. Spans 0 (length text.now) text.now tokens.items) }
     ensures fair { OnOk result (least_lexical (pieces text.now) ≡ None) }
+    ensures lexed { IfOk result (λ tokens. Lexed tokens.items) }
     ensures cause { IfErr result (λ c. c ≢ cause.Memory → least_lexical (pieces text.now) ≡ Some c) }
 {
     let (tokens, limits) = cut_text(alloc, text)?;

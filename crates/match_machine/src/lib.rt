@@ -1,13 +1,13 @@
-// A library with one function.
+//! The matcher: pattern code on a subject, step by step.
 #![tactic(auto)]
 
-ghost use Rattle.std.specs.Prelude.{◌≡◌};
-ghost use Rattle.match_machine.specs.Echo.{echo_of};
+mod act;
+mod ends;
+mod event;
+mod matcher;
+mod run;
+mod state;
+mod step;
 
-// The `ensures` clause is the contract: what `echo` returns is `echo_of` of its argument, a definition
-// in `specs/Echo.antt`, which a caller's clause can cite too.
-pub fn echo(x: usize) -> usize
-    ensures { result ≡ echo_of x }
-{
-    x
-}
+pub use event::{Answer, Assignment, Event, Told, Want};
+pub use matcher::Matcher;

@@ -118,7 +118,7 @@ sign_written_by b m =
     (sign_here b 63 mark.Question m _ refl (sign_here b 38 mark.Ampersand m _ refl (sign_here b 124 mark.Bar m _ refl (sign_here b 126 mark.Tilde m _ refl
     (λ e. absurd (cc)))))))))))))))))
 
-otherwise : (t : Bool) (c next w : Class) → (c ≡ w → ⊥) → (if t then c else next) ≡ w → next ≡ w
+pub otherwise : (t : Bool) (c next w : Class) → (c ≡ w → ⊥) → (if t then c else next) ≡ w → next ≡ w
 otherwise true c next w none e = absurd (none e)
 otherwise false c next w none e = e
 
@@ -132,7 +132,7 @@ unfolding class
 plain_class b w s l d q e = otherwise _ Quote _ w q (otherwise _ Digit _ w d (otherwise _ Letter _ w l (otherwise _ Space _ w s e)))
 
 -- the class of a sign is a sign or none
-sign_only : (b : ℕ) (w : Class) → ((m : Mark) → Sign m ≡ w → ⊥) → (Other ≡ w → ⊥) → class_of_sign b ≡ w → ⊥
+pub sign_only : (b : ℕ) (w : Class) → ((m : Mark) → Sign m ≡ w → ⊥) → (Other ≡ w → ⊥) → class_of_sign b ≡ w → ⊥
 sign_only b w none next e =
     next (otherwise _ _ _ w (none mark.Tilde) (otherwise _ _ _ w (none mark.Bar) (otherwise _ _ _ w (none mark.Ampersand) (otherwise _ _ _ w (none mark.Question)
     (otherwise _ _ _ w (none mark.At) (otherwise _ _ _ w (none mark.Dollar) (otherwise _ _ _ w (none mark.Minus) (otherwise _ _ _ w (none mark.Plus)

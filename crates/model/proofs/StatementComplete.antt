@@ -8,7 +8,7 @@ use Rattle.model.specs.declared.tokens.Mark.TheVariants as mark
 use Rattle.model.specs.Tokens.{Tok, Blank, Word, Sign}
 use Rattle.model.specs.Trees.{Bytes, Expr, Place, Computed, Goto, Always, OnSuccess, OnFailure, Both, Body, Assign, Replace, Stmt, Plain, End}
 use Rattle.model.specs.Grammar.{gap, IsElement, IsExpr}
-use Rattle.model.specs.Statements.{on_success, on_failure, end_word, IsPlace, label, computed, InBrackets, brackets, IsExits, always, success, failure, success_first, failure_first, IsGoto, next, leaves, IsObject, absent, present, IsBody, nothing, evaluate, match, assign, replace, IsLabel, unlabelled, labelled, IsEntry, first, entry, Tree, plain, end}
+use Rattle.model.specs.Statements.{on_success, on_failure, end_word, IsPlace, label, computed, InBrackets, brackets, IsExits, always, success, failure, success_first, failure_first, IsGoto, next, leaves, IsObject, absent, present, IsBody, nothing, evaluate, match, assign, replace, IsLabel, unlabelled, labelled, IsEntry, first, entry, Tree, plain, end, HasNoTree}
 use Rattle.model.specs.Parse.{Parser, Ends, bind, skip, starts, tok_starts, sees_tok, sees, expect, element, whole, finish}
 use Rattle.model.specs.Parse as parse
 use Rattle.model.specs.ParseStatements as spec
@@ -277,3 +277,6 @@ module _ (d : ℕ) where
 pub stmt_full : (ts : List Tok) (s : Stmt) → Tree s ts → stmt ts ≡ Some s
 unfolding stmt
 stmt_full ts s t = ap finish (statement_full (length ts) t (omega arith))
+
+pub no_tree : (ts : List Tok) → stmt ts ≡ None → HasNoTree ts
+no_tree ts none s t = let some = stmt_full ts s t in absurd (cc)

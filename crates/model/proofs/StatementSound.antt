@@ -253,7 +253,7 @@ module _ (d : ℕ) where
       subst (λ y. Tree y (Word end_word ∷ ts)) (ap (λ p. p.0) last)
         (subst (λ y. Tree (End l) (Word end_word ∷ y)) {x = ls ++ gap last_gap.0} text (end l ls last_gap.0 i))
 
-  end_sound : (ts : List Tok) (s : Stmt) → spec.after_end d ts ≡ Some (s, []) → Tree s (Word end_word ∷ ts)
+  end_sound : (ts : List Tok) (s : Stmt) → spec.after_end ts ≡ Some (s, []) → Tree s (Word end_word ∷ ts)
   unfolding spec.after_end
   end_sound ts s h = elim (if_is (word_spaced ts) (bind (spec.label (tail ts)) to_end) (Some (End None, skip ts)) (Some (s, [])) h) [
       inl c ↦
@@ -274,7 +274,7 @@ module _ (d : ℕ) where
 
   statement_sound : (ts : List Tok) (s : Stmt) → spec.statement d ts ≡ Some (s, []) → Tree s ts
   unfolding spec.statement
-  statement_sound ts s h = elim (if_is (sees_word end_word ts) (spec.after_end d (tail ts)) (bind (spec.label ts) (spec.after_label d)) (Some (s, [])) h) [
+  statement_sound ts s h = elim (if_is (sees_word end_word ts) (spec.after_end (tail ts)) (bind (spec.label ts) (spec.after_label d)) (Some (s, [])) h) [
       inl c ↦ subst (λ x. Tree s x) (sym (sees_word_is end_word ts c.0)) (end_sound (tail ts) s c.1)
     | inr c ↦ label_sound ts s c.0 c.1 ]
 

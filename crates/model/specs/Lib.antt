@@ -2,6 +2,7 @@ pub mod Cards
 pub mod CardRows
 pub mod Cut
 pub mod CutRows
+pub mod DeckLaws
 pub mod Digits
 pub mod NameLaws
 pub mod Io
@@ -26,6 +27,7 @@ pub mod Steps
 pub mod PatternCode
 pub mod Stands
 pub mod PatternLaws
+pub mod MatchStates
 pub mod PatternCases
 pub mod Codes
 pub mod Spelling
@@ -47,7 +49,11 @@ pub mod Modules
 pub mod Placed
 pub mod Alike
 pub mod Agreement
+pub mod MatchLaws
 pub mod Faults
 pub mod FaultRows
 pub mod TreeRows
 pub mod Lexed
+pub mod RulesUsed
+pub mod Flow
+pub mod WellFormed

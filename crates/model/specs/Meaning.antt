@@ -53,7 +53,6 @@ pub data Query : Type 0 where
   QArgs : Args → Query
   QBody : Body → Query
   QExec : ℕ → Query
-  QCall : Bytes → List Val → Query
   QMatch : (subject : Bytes) → Pattern → (left : ℕ) → Script → Query
 
 -- what a match found
@@ -68,7 +67,6 @@ Ans (QName e) = target.Name
 Ans (QArgs args) = List Val
 Ans (QBody b) = record {}
 Ans (QExec k) = ReturnKind
-Ans (QCall f vs) = Given'
 Ans (QMatch s p left t) = Span
 
 -- what a search comes to
@@ -132,15 +130,6 @@ value_and_name x y w op = ask (QVal x) w (λ a w1. ask (QName y) w1 (λ n w2. do
 abbrev pub key_rule : Option KeyId → W → Rule Val
 key_rule None w = fault error.WrongType w
 key_rule (Some k) w = doing (keyget_op k w) Ret
-
--- what a primitive came to
-abbrev pub finish_value : Outcome Pattern Expr → W → Rule Val
-finish_value (Returns g) w = doing (as_value g w) Ret
-finish_value (Calls f vs) w = ask (QCall f vs) w (λ g w1. doing (as_value g w1) Ret)
-
-abbrev pub finish_name : Outcome Pattern Expr → W → Rule target.Name
-finish_name (Returns g) w = doing (as_name g w) Ret
-finish_name (Calls f vs) w = ask (QCall f vs) w (λ g w1. doing (as_name g w1) Ret)
 
 -- a primitive, or a function of the program's own
 abbrev pub function_op : Option PrimId → Bytes → List Val → W → Op W (Outcome Pattern Expr)
@@ -209,24 +198,33 @@ module _ (prog : Program) where
       if over_limit w then Stop (ending.StLimit k) w
       else Ask (QBody b) (enter_stmt k w) (λ _ w1. go_on k (onward_of g) w1) (λ w1. go_on k (other_of g) (count_failure w1))
 
-  -- a call, from its entry label on: k is what it keeps, w the world in it
-  abbrev pub entered : calls.Kept Pattern Expr → Option ReturnKind → Option ℕ → W → Rule Given'
-  entered k (Some r) o w = doing (leave_op r k w) Ret
-  entered k None None w = fault error.UndefinedLabel w
-  entered k None (Some n) w = Ask (QExec n) w (λ r w1. doing (leave_op r k w1) Ret) Fail
+  -- a function from its entry label on, where c is kept for its end and k follows it
+  abbrev pub entered : {A : Type 0} → calls.Kept Pattern Expr → Option ReturnKind → Option ℕ → W → (Given' → W → Rule A) → Rule A
+  entered c (Some r) o w k = doing (leave_op r c w) k
+  entered c None None w k = fault error.UndefinedLabel w
+  entered c None (Some n) w k = Ask (QExec n) w (λ r w1. doing (leave_op r c w1) k) Fail
 
-  abbrev pub call_rule : Bytes → List Val → Option Function → W → Rule Given'
-  call_rule f vs None w = fault error.UndefinedFunction w
-  call_rule f vs (Some (Defined entry xs ys)) w = entered (kept_of f xs ys w) (return_of entry) (prog.label entry) (enter_call f xs ys vs w)
-  call_rule f vs (Some (Constructor fields)) w = doing (construct_op f fields vs w) Ret
-  call_rule f vs (Some Field) w = doing (select_op f vs w) Ret
+  -- a call of a function that isn't primitive, and what follows it
+  abbrev pub call_rule : {A : Type 0} → Bytes → List Val → Option Function → W → (Given' → W → Rule A) → Rule A
+  call_rule f vs None w k = fault error.UndefinedFunction w
+  call_rule f vs (Some (Defined entry xs ys)) w k = entered (kept_of f xs ys w) (return_of entry) (prog.label entry) (enter_call f xs ys vs w) k
+  call_rule f vs (Some (Constructor fields)) w k = doing (construct_op f fields vs w) k
+  call_rule f vs (Some Field) w k = doing (select_op f vs w) k
+
+  -- what a primitive came to, and what follows it
+  abbrev pub finish : {A : Type 0} → Outcome Pattern Expr → W → (Given' → W → Rule A) → Rule A
+  finish (Returns g) w k = k g w
+  finish (Calls f vs) w k = call_rule f vs (w.plain.functions f) w k
+
+  abbrev pub function_rule : {A : Type 0} → Bytes → Args → W → (Given' → W → Rule A) → Rule A
+  function_rule f args w k = ask (QArgs args) w (λ vs w1. doing (function_op (prim_named f) f vs w1) (λ r w2. finish r w2 k))
 
   abbrev pub rule : (q : Query) → W → Rule (Ans q)
   rule (QVal (Name x)) w = doing (fetch_op (Variable x) w) Ret
   rule (QVal (Integer z)) w = Ret (Int z) w
   rule (QVal (Literal s)) w = Ret (Str s) w
   rule (QVal (Keyword s)) w = key_rule (key_named s) w
-  rule (QVal (Call f args)) w = ask (QArgs args) w (λ vs w1. doing (function_op (prim_named f) f vs w1) finish_value)
+  rule (QVal (Call f args)) w = function_rule f args w (λ g w1. doing (as_value g w1) Ret)
   rule (QVal (Reference x args)) w = doing (fetch_op (Variable x) w) (λ a w1. ask (QArgs args) w1 (λ vs w2. doing (element_op a vs w2) (λ n w3. doing (fetch_op n w3) Ret)))
   rule (QVal (Apply u.NameOf e)) w = ask (QName e) w (λ n w1. Ret (Nam n) w1)
   rule (QVal (Apply u.Indirect e)) w = ask (QVal e) w (λ v w1. doing (indir_op v w1) (λ n w2. doing (fetch_op n w2) Ret))
@@ -248,7 +246,7 @@ module _ (prog : Program) where
   rule (QName (Name x)) w = Ret (Variable x) w
   rule (QName (Apply u.Indirect e)) w = ask (QVal e) w (λ v w1. doing (indir_op v w1) Ret)
   rule (QName (Reference x args)) w = doing (fetch_op (Variable x) w) (λ a w1. ask (QArgs args) w1 (λ vs w2. doing (element_op a vs w2) Ret))
-  rule (QName (Call f args)) w = ask (QArgs args) w (λ vs w1. doing (function_op (prim_named f) f vs w1) finish_name)
+  rule (QName (Call f args)) w = function_rule f args w (λ g w1. doing (as_name g w1) Ret)
   rule (QName e) w = fault error.NotAName w
   rule (QArgs Nil) w = Ret [] w
   rule (QArgs (More Absent args)) w = ask (QArgs args) w (λ vs w1. Ret (Str [] ∷ vs) w1)
@@ -262,7 +260,6 @@ module _ (prog : Program) where
       ask (QName x) w (λ n w1. doing (fetch_op n w1) (λ u w2. ask (QVal p) w2 (λ v w3. doing (match_op trees u v w3) (λ g w4.
       ask (QMatch g.subject g.pattern g.left []) w4 (λ r w5. object_rule o w5 (λ a w6. doing (splice_op n g.subject r.start r.end a w6) Ret))))))
   rule (QExec k) w = exec_rule k (prog.at k) w
-  rule (QCall f vs) w = call_rule f vs (w.plain.functions f) w
   rule (QMatch s p left t) w = Seek (λ n. told_at (scan s n p left 0 t)) w (match_rule s p left t w)
 
 -- ---- meaning

@@ -64,7 +64,7 @@ statement_of ss (e ∷ es) l other = if is_text (slice_get ss e.string) l then S
 
 -- END labels the last statement
 abbrev pub end_of : List ℕ → Bytes → Option ℕ
-end_of os l = if bytes_eq l end_label then Some (length os) else None
+end_of os l = if bytes_eq end_label l then Some (length os) else None
 
 -- ---- patterns
 

@@ -50,6 +50,10 @@ abbrev pub label : Parser (Option Bytes)
 label (Word l ∷ ts) = Some (Some l, ts)
 label ts = Some (None, ts)
 
+-- the entry of END, and blanks
+unfoldable pub after_end : Parser Stmt
+after_end ts = if word_spaced ts then bind (label (tail ts)) (λ l rest. Some (End l, skip rest)) else Some (End None, skip ts)
+
 -- the goto with the place that stands first, and with the other where there is one
 abbrev pub from_success : Place → Option Place → Goto
 from_success p None = OnSuccess p
@@ -103,9 +107,6 @@ module _ (d : ℕ) where
   -- ---- statements
   unfoldable pub after_label : Option Bytes → Parser Stmt
   after_label l ts = bind (body ts) (λ b rest. bind (goto rest) (λ g end. Some (Plain l b g, skip end)))
-
-  unfoldable pub after_end : Parser Stmt
-  after_end ts = if word_spaced ts then bind (label (tail ts)) (λ l rest. Some (End l, skip rest)) else Some (End None, skip ts)
 
   unfoldable pub statement : Parser Stmt
   statement ts = if sees_word end_word ts then after_end (tail ts) else bind (label ts) after_label

@@ -77,3 +77,6 @@ pub data Tree : Stmt → List Tok → Type 0 where
   plain : (l : Option Bytes) (b : Body) (g : Goto) (ts us vs : List Tok) (h : Bool) → IsLabel l ts → IsBody b us → IsGoto g vs
       → Tree (Plain l b g) (ts ++ (us ++ (vs ++ gap h)))
   end : (l : Option Bytes) (ts : List Tok) (h : Bool) → IsEntry l ts → Tree (End l) (Word end_word ∷ (ts ++ gap h))
+
+abbrev pub HasNoTree : List Tok → Type 0
+HasNoTree ts = (s : Stmt) → Tree s ts → ⊥

@@ -223,9 +223,9 @@ abbrev pub AreSound : List ℕ → List Choice → Type 0
 AreSound s [] = Unit {0}
 AreSound s (ch ∷ cs) = IsSoundChoice s ch × AreSound s cs
 
--- an awaited argument is of an instruction that is there
+-- an awaited pattern or argument is of an instruction that is there
 abbrev pub IsPlaced : Waiting → Thread → Type 0
-IsPlaced (ForPattern x) t = Unit {0}
+IsPlaced (ForPattern x) t = t.place < length t.code
 IsPlaced (ForArgument k x) t = t.place < length t.code
 IsPlaced (ForSaid x v) t = Unit {0}
 

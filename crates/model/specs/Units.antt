@@ -50,7 +50,11 @@ Reads unit got before after = (io : Io) × Carries before after io (after_read u
 abbrev pub Writes : ℕ → List ℕ → Option Io → Option Io → Type 0
 Writes unit bytes before after = (io : Io) × Carries before after io (after_write unit bytes io)
 
--- a fault other than that of memory is counted, or the count stands at its last value and stays
+-- a count of failures has grown, or stands at its last value and stays
+abbrev pub HasGrown : ℕ → ℕ → Type 0
+HasGrown old new = (old < new) ⊎ ((old ≡ 18446744073709551615) × (new ≡ old))
+
+-- a fault other than that of memory is counted
 abbrev pub IsCounted : UnitFault → ℕ → ℕ → Type 0
 IsCounted Memory old new = Unit {0}
-IsCounted fault old new = (old < new) ⊎ ((old ≡ 18446744073709551615) × (new ≡ old))
+IsCounted fault old new = HasGrown old new

@@ -1,6 +1,7 @@
 //! The laws of patterns. Each function does nothing; its contract states a law, and who calls it may use the law.
 
 ghost use Rattle.model.specs.PatternLaws.{EndsGrow, SearchStays, ScanStays, EndsPermitted, StepsOfScan, ScanOfSteps, ScanOfFirst, FirstOfScan, AnswersComeLater, StepsAreSound, LiteralsScanned, LiteralScansRight, LiteralsRun, LiteralRunsRight};
+ghost use Rattle.model.specs.MatchStates.{StatesAnswerAsScan, StatesAnswerFirstEnd, StatesAnswerLiterals, StatesCome, StepsLeadOn, AnswersLeadOn};
 ghost use Rattle.model.specs.PatternCases.{ScansMeetCases, StepsMeetCases, ScansMeetQuestions, StepsMeetQuestions, NestedEnds};
 
 /// What is answered at a bound stays at each greater one.
@@ -49,6 +50,21 @@ pub fn literals_are_scanned()
 pub fn literals_are_matched()
     ensures answers { LiteralsRun }
     ensures right { LiteralRunsRight }
+{}
+
+/// At each state of a match, further steps come to the events of the pattern's scan, to its first end if it is plain, and
+/// to a right answer if it is of literals, `|` and blank.
+pub fn match_states_answer()
+    ensures scan { StatesAnswerAsScan }
+    ensures first_end { StatesAnswerFirstEnd }
+    ensures literals { StatesAnswerLiterals }
+    ensures comes { StatesCome }
+{}
+
+/// A state of a match stays one under further steps without an event on the way, and under further answers.
+pub fn match_states_lead_on()
+    ensures steps { StepsLeadOn }
+    ensures answers { AnswersLeadOn }
 {}
 
 /// The worked cases: the scan of each pattern and the steps of its code give the answer that its table tells.

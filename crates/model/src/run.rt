@@ -1,5 +1,9 @@
 //! How runs and units end.
 
+ghost use Rattle.std.specs.Prelude.{◌≡◌};
+ghost use Rattle.model.specs.declared.run.UnitFault.TheVariants.{Memory};
+
+use std::alloc::{AllocError, AllocFailed};
 use thiserror::Error;
 
 /// An error that ends a run.
@@ -89,6 +93,22 @@ pub enum UnitFault {
     /// A growth of memory was refused.
     #[error("U4")]
     Memory,
+}
+
+impl From<AllocError> for UnitFault {
+    ghost from_gives = { λ _ fault. fault ≡ Memory };
+
+    fn from(_e: AllocError) -> UnitFault {
+        UnitFault::Memory
+    }
+}
+
+impl<T: Drop> From<AllocFailed<T>> for UnitFault {
+    ghost from_gives = { λ _ fault. fault ≡ Memory };
+
+    fn from(_e: AllocFailed<T>) -> UnitFault {
+        UnitFault::Memory
+    }
 }
 
 /// Why a run was broken off.

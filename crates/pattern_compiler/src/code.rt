@@ -41,6 +41,16 @@ impl PatCode {
         })
     }
 
+    /// The instructions in order.
+    pub(crate) fn as_slice(&self) -> &[Instr]
+        ensures { code_of result.now ≡ self.now }
+    {
+        match &self.shared {
+            Some(shared) => shared.as_slice(),
+            None => &[],
+        }
+    }
+
     /// How many instructions there are.
     pub fn len(&self) -> usize
         ensures { result ≡ length self.now }

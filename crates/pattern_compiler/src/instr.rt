@@ -1,5 +1,6 @@
 //! The instructions of pattern code.
 
+use std::alloc::AllocError;
 use strings::Text;
 
 /// What can be assigned to.
@@ -53,8 +54,8 @@ pub enum Kind {
 pub enum Instr {
     Do(Basic),
     /// Goes on, and keeps a choice to go on at the distance.
-    Split(i32),
-    Jmp(i32),
+    Split(i64),
+    Jmp(i64),
     /// Matches null, and again on each return.
     Succeed,
     Abort,
@@ -71,4 +72,28 @@ pub enum Instr {
     Eval(u32),
     /// Asks for the argument of the kind.
     EvalBasic(Kind, u32),
+}
+
+impl Clone for Name {
+    ghost use Rattle.std.specs.Prelude.{◌≡◌};
+
+    ghost is_clone = { λ name copy. copy ≡ name };
+
+    fn clone(&self) -> Result<Name, AllocError> {
+        Ok(match self {
+            Name::Variable(text) => Name::Variable(text.clone()?),
+            Name::Element { object, index } => Name::Element {
+                object: *object,
+                index: *index,
+            },
+            Name::IntegerKey { object, key } => Name::IntegerKey {
+                object: *object,
+                key: *key,
+            },
+            Name::StringKey { object, key } => Name::StringKey {
+                object: *object,
+                key: key.clone()?,
+            },
+        })
+    }
 }

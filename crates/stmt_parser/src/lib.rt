@@ -1,13 +1,13 @@
-// A library with one function.
+//! Statements from tokens.
 #![tactic(auto)]
 
-ghost use Rattle.std.specs.Prelude.{◌≡◌};
-ghost use Rattle.stmt_parser.specs.Echo.{echo_of};
+mod bodies;
+mod cursor;
+mod expressions;
+mod gotos;
+mod marks;
+mod parts;
+mod statements;
+mod stop;
 
-// The `ensures` clause is the contract: what `echo` returns is `echo_of` of its argument, a definition
-// in `specs/Echo.antt`, which a caller's clause can cite too.
-pub fn echo(x: usize) -> usize
-    ensures { result ≡ echo_of x }
-{
-    x
-}
+pub use statements::parse_statement;

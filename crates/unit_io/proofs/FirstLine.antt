@@ -1,5 +1,5 @@
 -- The first record of bytes.
-use Rattle.std.proofs.Common.{◌≡◌, ℕ, zero, suc, ◌+◌, ◌-◌, ◌<◌, ◌≤◌, List, [], ◌∷◌, length, take, drop, get_or, Bool, true, false, Option, Some, None, refl, sym, ap, subst, ◌∙◌, arith}
+use Rattle.std.proofs.Common.{◌≡◌, ℕ, zero, suc, ◌+◌, ◌-◌, ◌<◌, List, [], ◌∷◌, length, take, drop, get_or, Bool, true, false, Some, None, refl, sym, ap, subst, ◌∙◌, arith}
 use Rattle.std.specs.Prelude.{◌==◌, slice_range}
 use Rattle.std.proofs.lemmas.List.{drop-drop, take_rest, length-drop, drop_all}
 use Rattle.memchr.specs.Find.{IsFirstByte, is_byte}
@@ -40,9 +40,9 @@ module _ (text : List ℕ) (at : ℕ) (old : List (List ℕ)) (e : records_of (d
       let line : records_of left ≡ take k left ∷ records_of (drop (suc k) left) = first_line left k found.0.high (λ j lt. found.0.before j (omega arith) lt) found.1 in
       let same : at + k - at ≡ k = omega arith in
       let onward : at + (k + 1) ≡ at + suc k = omega arith in
-      let parts = first_and_rest (take k left) (records_of (drop (suc k) left)) old (sym line ∙ e) in
-      ( ap (λ n. Some (take n left)) same ∙ parts.0
-      , ap (λ n. records_of (drop n text)) onward ∙ ap records_of (sym (drop-drop (suc k) at text)) ∙ parts.1
+      let parts = first_and_rest (take k left) (records_of (drop (suc k) left)) old (sym line ∙ e) in (
+        ap (λ n. Some (take n left)) same ∙ parts.0,
+        ap (λ n. records_of (drop n text)) onward ∙ ap records_of (sym (drop-drop (suc k) at text)) ∙ parts.1,
       )
 
   -- no line feed comes

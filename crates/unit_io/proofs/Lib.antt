@@ -1,2 +1,4 @@
 pub mod FirstLine
 pub mod OpenSides
+pub mod Calls
+pub mod Untold

@@ -1,7 +1,10 @@
 -- What units in memory hold.
-use Rattle.std.specs.Prelude.{◌≡◌, ℕ, ◌+◌, ◌<◌, List, [], ◌∷◌, ◌++◌, Option, Some, None, length, map, nat_eq, slice_index_or, set, if◌then◌else◌}
+use Rattle.std.specs.Prelude.{◌≡◌, ℕ, ◌+◌, List, [], ◌∷◌, ◌++◌, Option, Some, None, length, map, nat_eq, ◌⊎◌, slice_index_or, set, if◌then◌else◌}
 use Rattle.model.specs.Io.{Io}
-use Rattle.model.specs.Units.{bytes_on}
+use Rattle.unit_io.specs.Counts.{count_of, one_more}
+use Rattle.model.specs.Units.{bytes_on, first_of, rest_of}
+use Rattle.model.specs.declared.run.UnitFault.{UnitFault}
+use Rattle.model.specs.declared.run.UnitFault.TheVariants.{NotOpen, Memory}
 use Rattle.unit_io.specs.declared.mem.OpenUnit.{OpenUnit}
 use Rattle.unit_io.specs.declared.mem.Side.{Side}
 use Rattle.unit_io.specs.declared.mem.Side.TheVariants.{Input, Output}
@@ -30,11 +33,7 @@ abbrev pub io_of : Held → Io
 io_of h = record { left = λ unit. left_by (side_at unit h.opened); printed = printed_of h.printed }
 
 abbrev pub failures_of : Held → ℕ → ℕ
-failures_of h unit = slice_index_or h.failures unit 0
-
--- one more, but never past the last value of 64 bits
-abbrev pub one_more : ℕ → ℕ
-one_more n = if nat_eq n 18446744073709551615 then n else n + 1
+failures_of h unit = count_of h.failures unit
 
 abbrev pub IsReadable : Option Side → Type 0
 IsReadable (Some (Input records)) = Unit {0}
@@ -48,6 +47,45 @@ IsWritable _ = ⊥
 abbrev pub output_of : Option Side → List ℕ
 output_of (Some (Output bytes)) = bytes
 output_of _ = []
+
+-- where a unit stands in the list of those that are open, whose first has the place k
+abbrev pub place_of : ℕ → ℕ → List OpenUnit → Option ℕ
+place_of k unit [] = None
+place_of k unit (o ∷ os) = if nat_eq unit o.unit then Some k else place_of (k + 1) unit os
+
+-- with another side of a unit
+abbrev pub with_side : ℕ → Side → List OpenUnit → List OpenUnit
+with_side unit side [] = []
+with_side unit side (o ∷ os) = if nat_eq unit o.unit then record { unit = o.unit; side = side } ∷ os else o ∷ with_side unit side os
+
+-- ---- what calls do
+
+-- the first record left on the unit was taken
+abbrev pub IsRead : ℕ → Option (List ℕ) → Held → Held → Type 0
+IsRead unit got old new =
+    (records : List (List ℕ)) × (side_at unit old.opened ≡ Some (Input records)) × (got ≡ first_of records) × (new ≡ record old { opened = with_side unit (Input (rest_of records)) old.opened })
+
+-- the record was written at the end
+abbrev pub IsWritten : ℕ → List ℕ → Held → Held → Type 0
+IsWritten unit bytes old new =
+    (before : List ℕ) × (side_at unit old.opened ≡ Some (Output before)) × (new ≡ record old { opened = with_side unit (Output (before ++ bytes ++ 10 ∷ [])) old.opened; printed = old.printed ++ record { unit = unit; bytes = bytes } ∷ [] })
+
+-- a call was refused
+abbrev pub refused : UnitFault → ℕ → Held → Held
+refused NotOpen unit h = record h { failures = set h.failures unit (one_more (failures_of h unit)) }
+refused fault unit h = h
+
+-- the faults of units in memory
+abbrev pub IsOfMemUnits : UnitFault → Type 0
+IsOfMemUnits fault = (fault ≡ NotOpen) ⊎ (fault ≡ Memory)
+
+-- what was written to a unit that is open for output
+abbrev pub written_by : Option Side → List ℕ → Option (List ℕ)
+written_by (Some (Output bytes)) written = Some written
+written_by _ written = None
+
+abbrev pub written_to : ℕ → Held → Option (List ℕ)
+written_to unit h = written_by (side_at unit h.opened) (bytes_on unit (printed_of h.printed))
 
 -- each unit keeps just what was printed to it
 pub record IsKept (h : Held) : Type 0 where

@@ -2,14 +2,15 @@
 
 ghost use Rattle.std.specs.Prelude.{◌≡◌, ◌↔◌, ◌≤◌, ◌⊎◌, ℕ, [], ◌∷◌, ◌++◌, Some, None, Err, replicate, option_copied, set, IfOk, OnOk, IfErr, OnErr};
 ghost use Rattle.model.specs.Units.{records_of, Reads, Writes, IsCounted};
-ghost use Rattle.unit_io.specs.Held.{side_at, output_of};
+ghost use Rattle.unit_io.specs.Held.{side_at, output_of, place_of, written_to, io_of, failures_of, refused, IsRead, IsWritten, IsReadable, IsWritable, IsOfMemUnits};
 ghost use Rattle.unit_io.specs.declared.mem.Side.TheVariants.{Input, Output};
 
+use crate::counts::Counts;
 use crate::lines::Lines;
 use crate::records::Records;
 use crate::units::Units;
 use model::{Bytes, UnitFault};
-use std::alloc::Global;
+use std::alloc::{AllocError, Global};
 use std::marker::Model;
 use strings::Text;
 
@@ -40,7 +41,7 @@ pub struct MemUnits {
     alloc: Global,
     opened: Vec<OpenUnit>,
     printed: Vec<Written>,
-    failures: [u64; 256],
+    failures: Counts,
 }
 
 impl Model for MemUnits {
@@ -62,7 +63,7 @@ impl MemUnits {
             alloc,
             opened: Vec::new(alloc),
             printed: Vec::new(alloc),
-            failures: [0; 256],
+            failures: Counts::new(),
         }
     }
 
@@ -97,9 +98,124 @@ impl MemUnits {
         ensures err { OnErr result (self.new ≡ self.old) }
         ensures memory { IfErr result (λ fault. fault ≡ UnitFault.Memory) }
     {
-        if self.opened.push(OpenUnit { unit, side }).is_err() {
-            return Err(UnitFault::Memory);
-        }
+        self.opened.push(OpenUnit { unit, side })?;
         Ok(())
     }
+
+    /// What was written to a unit that is open for output: each record, and a line feed after it.
+    pub fn bytes(&self, unit: u8) -> Option<&[u8]>
+        ensures { option_copied result ≡ written_to unit self.now }
+    {
+        let Some(k) = place(&self.opened, unit) else {
+            return None;
+        };
+        match &self.opened[k].side {
+            Side::Input(_) => None,
+            Side::Output(lines) => Some(lines.as_slice()),
+        }
+    }
+
+    /// The records that were written, in order over all units.
+    pub fn printed(&self) -> &[Written]
+        ensures { result.now ≡ self.now.printed }
+    {
+        &self.printed
+    }
+
+    // Counts a failure of a unit that isn't open that way.
+    fn refuse(&mut self, unit: u8) -> UnitFault
+        ensures answer { result ≡ UnitFault.NotOpen }
+        ensures counted { self.new ≡ refused UnitFault.NotOpen unit self.old }
+    {
+        self.failures.add(unit);
+        UnitFault::NotOpen
+    }
+}
+
+impl Units for MemUnits {
+    ghost use Rattle.std.specs.Prelude.{Some};
+    ghost use Rattle.unit_io.specs.Held.{io_of, failures_of};
+
+    ghost told = { λ m. Some (io_of m) };
+
+    ghost failures = { failures_of };
+
+    fn read_record(&mut self, unit: u8) -> Result<Option<Text>, UnitFault>
+        ensures ok { IfOk result (λ got. Reads unit got (Some (io_of self.old)) (Some (io_of self.new))) }
+        ensures err { OnErr result (Some (io_of self.new) ≡ Some (io_of self.old)) }
+        ensures counted { IfErr result (λ fault. IsCounted fault (failures_of self.old unit) (failures_of self.new unit)) }
+        ensures grows { (u : ℕ) → failures_of self.old u ≤ failures_of self.new u }
+        ensures read { IfOk result (λ got. IsRead unit got self.old self.new) }
+        ensures refused { IfErr result (λ fault. self.new ≡ refused fault unit self.old) }
+        ensures unopened { (result ≡ Err UnitFault.NotOpen) ↔ ¬ IsReadable (side_at unit self.old.opened) }
+        ensures never { IfErr result IsOfMemUnits }
+    {
+        let Some(k) = place(&self.opened, unit) else {
+            return Err(self.refuse(unit));
+        };
+        let open = &mut self.opened[k];
+        let Side::Input(records) = &mut open.side else {
+            return Err(self.refuse(unit));
+        };
+        let Ok(got) = records.take_first() else {
+            return Err(UnitFault::Memory);
+        };
+        Ok(got)
+    }
+
+    fn write_record(&mut self, unit: u8, bytes: &[u8]) -> Result<(), UnitFault>
+        ensures ok { OnOk result (Writes unit bytes.now (Some (io_of self.old)) (Some (io_of self.new))) }
+        ensures err { OnErr result (Some (io_of self.new) ≡ Some (io_of self.old)) }
+        ensures counted { IfErr result (λ fault. IsCounted fault (failures_of self.old unit) (failures_of self.new unit)) }
+        ensures grows { (u : ℕ) → failures_of self.old u ≤ failures_of self.new u }
+        ensures written { OnOk result (IsWritten unit bytes.now self.old self.new) }
+        ensures refused { IfErr result (λ fault. self.new ≡ refused fault unit self.old) }
+        ensures unopened { (result ≡ Err UnitFault.NotOpen) ↔ ¬ IsWritable (side_at unit self.old.opened) }
+        ensures never { IfErr result IsOfMemUnits }
+    {
+        let Some(k) = place(&self.opened, unit) else {
+            return Err(self.refuse(unit));
+        };
+        let open = &mut self.opened[k];
+        let Side::Output(lines) = &mut open.side else {
+            return Err(self.refuse(unit));
+        };
+        let Ok(()) = put(self.alloc, &mut self.printed, lines, unit, bytes) else {
+            return Err(UnitFault::Memory);
+        };
+        Ok(())
+    }
+}
+
+// Puts a record at the end of both, or of none.
+fn put(
+    alloc: Global,
+    printed: &mut Vec<Written>,
+    lines: &mut Lines,
+    unit: u8,
+    bytes: &[u8],
+) -> Result<(), AllocError>
+    ensures printed { OnOk result (printed.new.items ≡ printed.old.items ++ record { unit = unit; bytes = bytes.now } ∷ []) }
+    ensures lines { OnOk result (lines.new ≡ lines.old ++ bytes.now ++ 10 ∷ []) }
+    ensures err { OnErr result ((printed.new.items ≡ printed.old.items) × (lines.new ≡ lines.old)) }
+{
+    let copy = Bytes::from_vec(Vec::from_slice(alloc, bytes)?);
+    printed.reserve(1)?;
+    lines.write(bytes)?;
+    match printed.push(Written { unit, bytes: copy }) {
+        Ok(()) => Ok(()),
+        Err(_) => unreachable!(),
+    }
+}
+
+// Where a unit stands among those that are open.
+fn place(opened: &[OpenUnit], unit: u8) -> Option<usize>
+    ensures { result ≡ place_of 0 unit opened.now }
+{
+    for k in 0..opened.len() {
+        if opened[k].unit == unit {
+            return Some(k);
+        }
+    }
+    None
 }

@@ -4,8 +4,9 @@ ghost use Rattle.std.specs.Prelude.{◌≡◌, IfOk, OnErr, IfErr};
 ghost use Rattle.model.specs.Units.{records_of, first_of, rest_of};
 
 use memchr::memchr;
+use model::UnitFault;
 use std::marker::Model;
-use strings::{StrFault, Text};
+use strings::Text;
 
 /// The records of a text that are left to be read. They share its bytes.
 #[derive(Drop)]
@@ -34,26 +35,24 @@ impl Records {
     }
 
     /// Takes the first record that is left, if there is one.
-    pub fn take_first(&mut self) -> Result<Option<Text>, StrFault>
+    pub fn take_first(&mut self) -> Result<Option<Text>, UnitFault>
         ensures ok { IfOk result (λ got. (got ≡ first_of self.old) × (self.new ≡ rest_of self.old)) }
         ensures err { OnErr result (self.new ≡ self.old) }
+        ensures memory { IfErr result (λ fault. fault ≡ UnitFault.Memory) }
     {
         let bytes = self.text.as_slice();
         let len = bytes.len();
         if self.at == len {
             return Ok(None);
         }
-        match memchr(b'\n', &bytes[self.at..]) {
-            Some(k) => {
-                let record = self.text.sub(self.at, self.at + k)?;
-                self.at += k + 1;
-                Ok(Some(record))
-            }
-            None => {
-                let record = self.text.sub(self.at, len)?;
-                self.at = len;
-                Ok(Some(record))
-            }
-        }
+        let (end, after) = match memchr(b'\n', &bytes[self.at..]) {
+            Some(k) => (self.at + k, self.at + k + 1),
+            None => (len, len),
+        };
+        let Ok(record) = self.text.sub(self.at, end) else {
+            return Err(UnitFault::Memory);
+        };
+        self.at = after;
+        Ok(Some(record))
     }
 }

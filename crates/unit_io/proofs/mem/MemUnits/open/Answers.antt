@@ -1,4 +1,4 @@
-use Rattle.std.proofs.Common.{◌≡◌, ℕ, ◌∙◌, List, [], ◌∷◌, ◌++◌, subst, sym, rules}
+use Rattle.std.proofs.Common.{◌≡◌, [], ◌∷◌, ◌++◌, subst, sym, rules}
 use Rattle.unit_io.proofs.OpenSides.{still_kept}
 use Rattle.unit_io.specs.Held.{Held, IsKept}
 use Rattle.unit_io.specs.declared.mem.OpenUnit.{OpenUnit}

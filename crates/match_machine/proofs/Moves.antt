@@ -1,0 +1,115 @@
+-- How the kept state moves.
+use Rattle.std.proofs.Common.{◌≡◌, ℕ, zero, suc, ◌+◌, ◌-◌, ◌<◌, ◌≤◌, List, [], ◌∷◌, ◌++◌, map, reverse, length, refl, sym, ◌∙◌, ap, subst, arith, add-one, ◌⊎◌, inl, inr, Option, Some, None, Bool, true, false}
+use Rattle.std.specs.Prelude.{slice_get, get_or, drop}
+use Rattle.std.proofs.lemmas.List.{reverse-append, map-append}
+use Rattle.std.proofs.lemmas.Option.{slice_get_cases, slice_get_past}
+use Rattle.model.specs.Pattern.{Instr, Pending, Event, Running, Failed, Asks, Matched}
+use Rattle.model.specs.Basic.{from_up}
+use Rattle.model.specs.Steps as s
+use Rattle.model.specs.Steps.{Code, settled}
+use Rattle.match_machine.specs.declared.state.Note.{Note}
+use Rattle.match_machine.specs.declared.state.Note.TheVariants as note
+use Rattle.match_machine.specs.declared.state.Choice.{Choice}
+use Rattle.match_machine.specs.View.{note_of, notes_of, inside, choice_of, choices_of, is_running}
+
+-- ---- entered patterns
+settled_left : (ns : List s.Note) (code code' : Code) (p p' c : ℕ) (a : Pending) → length code ≤ p → settled (s.Left code' p' ∷ ns) code p c a ≡ settled ns code' p' c a
+settled_left ns code code' p p' c a h =
+    ap (λ (o : Option Instr). elim o [ None ↦ settled ns code' p' c a | Some i ↦ record { code = code; place = p; cursor = c; notes = s.Left code' p' ∷ ns; pending = a } ]) (slice_get_past code p h)
+
+pub settled_pop : (xs ys : List Note) (code code' : Code) (p p' c : ℕ) (a : Pending) → xs ≡ ys ++ note.Left code' p' ∷ [] → length code ≤ p → settled (notes_of xs) code p c a ≡ settled (notes_of ys) code' p' c a
+settled_pop xs ys code code' p p' c a e h =
+    ap (λ z. settled (notes_of z) code p c a) e ∙ ap (λ z. settled (map note_of z) code p c a) (reverse-append ys (note.Left code' p' ∷ []))
+    ∙ settled_left (notes_of ys) code code' p p' c a h
+
+pub settled_within : (ns : List s.Note) (code : Code) (p c : ℕ) (a : Pending) → p < length code → settled ns code p c a ≡ record { code = code; place = p; cursor = c; notes = ns; pending = a }
+settled_within [] code p c a h = refl
+settled_within (s.Opened b ∷ ns) code p c a h = refl
+settled_within (s.Left code' p' ∷ ns) code p c a h = go (slice_get_cases code p).1
+  where
+    go : ((x : Instr) × (p < length code) × (slice_get code p ≡ Some x) × (get_or code p x ≡ x)) ⊎ ((length code ≤ p) × (slice_get code p ≡ None)) → settled (s.Left code' p' ∷ ns) code p c a ≡ record { code = code; place = p; cursor = c; notes = s.Left code' p' ∷ ns; pending = a }
+    go (inl (x, l, e, g)) = ap (λ (o : Option Instr). elim o [ None ↦ settled ns code' p' c a | Some i ↦ record { code = code; place = p; cursor = c; notes = s.Left code' p' ∷ ns; pending = a } ]) e
+    go (inr (l, e)) = absurd (omega (arith, h, l))
+
+pub settled_outside : (ns : List s.Note) (code : Code) (p c : ℕ) (a : Pending) → inside ns ≡ false → settled ns code p c a ≡ record { code = code; place = p; cursor = c; notes = ns; pending = a }
+settled_outside [] code p c a h = refl
+settled_outside (s.Opened b ∷ ns) code p c a h = refl
+settled_outside (s.Left code' p' ∷ ns) code p c a h = cc
+
+-- ---- on at a place
+go_at : (t : s.Thread) (cs : List s.Choice) (b left : ℕ) (o : Option Instr) → s.at_place t ≡ o → s.go t cs b left [] ≡ elim o [ None ↦ s.Over (s.Won b t.cursor t.pending) | Some i ↦ s.Going t cs b left [] ]
+go_at t cs b left o e = ap (λ (x : Option Instr). elim x [ None ↦ s.Over (s.Won b t.cursor t.pending) | Some i ↦ s.Going t cs b left [] ]) e
+
+pub go_within : (t : s.Thread) (cs : List s.Choice) (b left : ℕ) → t.place < length t.code → s.go t cs b left [] ≡ s.Going t cs b left []
+go_within t cs b left h = go (slice_get_cases t.code t.place).1
+  where
+    go : ((x : Instr) × (t.place < length t.code) × (slice_get t.code t.place ≡ Some x) × (get_or t.code t.place x ≡ x)) ⊎ ((length t.code ≤ t.place) × (slice_get t.code t.place ≡ None)) → s.go t cs b left [] ≡ s.Going t cs b left []
+    go (inl (x, l, e, g)) = go_at t cs b left (Some x) e
+    go (inr (l, e)) = absurd (omega (arith, h, l))
+
+pub go_past : (t : s.Thread) (cs : List s.Choice) (b left : ℕ) → length t.code ≤ t.place → s.go t cs b left [] ≡ s.Over (s.Won b t.cursor t.pending)
+go_past t cs b left h = go_at t cs b left None (slice_get_past t.code t.place h)
+
+-- ---- choices
+pub choices_push : (u : List ℕ) (xs : List Choice) (x : Choice) → choices_of u (xs ++ x ∷ []) ≡ choice_of u x ∷ choices_of u xs
+choices_push u xs x = ap (map (choice_of u)) (reverse-append xs (x ∷ []))
+
+-- ---- ARB
+from_up_head : (c n : ℕ) → from_up c n ≡ c ∷ drop 1 (from_up c n)
+from_up_head c zero = refl
+from_up_head c (suc n) = refl
+
+pub arb_more : (u : List ℕ) (c : ℕ) → c < length u → from_up c (length u - c) ≡ c ∷ (c + 1) ∷ drop 1 (from_up (c + 1) (length u - (c + 1)))
+arb_more u c h =
+    let e : length u - c ≡ suc (length u - (c + 1)) = omega arith in
+    ap (from_up c) e ∙ ap (λ z. c ∷ z) (from_up_head (c + 1) (length u - (c + 1)))
+
+pub arb_last : (u : List ℕ) (c : ℕ) → length u ≤ c → from_up c (length u - c) ≡ c ∷ []
+arb_last u c h = let e : length u - c ≡ 0 = omega arith in ap (from_up c) e
+
+-- ---- copies
+map_reverse : {A B : Type 0} (f : A → B) (xs : List A) → map f (reverse xs) ≡ reverse (map f xs)
+map_reverse f [] = refl
+map_reverse f (x ∷ xs) =
+    ap (map f) (reverse-append (x ∷ []) xs) ∙ map-append f (reverse xs) (x ∷ []) ∙ ap (λ ys. ys ++ f x ∷ []) (map_reverse f xs)
+    ∙ sym (reverse-append (f x ∷ []) (map f xs))
+
+pub same_notes : (xs ys : List Note) → map note_of xs ≡ map note_of ys → notes_of xs ≡ notes_of ys
+same_notes xs ys h = map_reverse note_of xs ∙ ap reverse h ∙ sym (map_reverse note_of ys)
+
+-- ---- steps
+steps_suc : (u : List ℕ) (code : Code) (n : ℕ) (st : s.State) → s.steps u code (suc n) st ≡ s.step u code (s.steps u code n st)
+steps_suc u code zero st = refl
+steps_suc u code (suc n) st = steps_suc u code n (s.step u code st)
+
+pub steps_after : (u : List ℕ) (code : Code) (n : ℕ) (st : s.State) → s.steps u code (n + 1) st ≡ s.step u code (s.steps u code n st)
+steps_after u code n st = rw add-one (steps_suc u code n st)
+
+pub running_is : (e : Event ℕ) → is_running e ≡ true → e ≡ Running
+running_is Running h = refl
+running_is Failed h = cc
+running_is (Asks v) h = cc
+running_is (Matched b e a) h = cc
+
+pub running_not : (e : Event ℕ) → is_running e ≡ false → e ≡ Running → ⊥
+running_not e h w = go (ap is_running w)
+  where
+    go : is_running e ≡ true → ⊥
+    go g = cc
+
+pub one_more : (f : ℕ → Event ℕ) (n : ℕ) → ((k : ℕ) → k < n → f k ≡ Running) → f n ≡ Running → (k : ℕ) → k < n + 1 → f k ≡ Running
+one_more f n h e k l = go (before_or_at k n l)
+  where
+    before_or_at : (k n : ℕ) → k < n + 1 → (k < n) ⊎ (k ≡ n)
+    before_or_at zero zero l = inr refl
+    before_or_at zero (suc n) l = inl (omega arith)
+    before_or_at (suc k) zero l = absurd (omega (arith, l))
+    before_or_at (suc k) (suc n) l = next (before_or_at k n (omega (arith, l)))
+      where
+        next : (k < n) ⊎ (k ≡ n) → (suc k < suc n) ⊎ (suc k ≡ suc n)
+        next (inl g) = inl (omega (arith, g))
+        next (inr g) = inr (ap suc g)
+
+    go : (k < n) ⊎ (k ≡ n) → f k ≡ Running
+    go (inl g) = h k g
+    go (inr g) = ap f g ∙ e

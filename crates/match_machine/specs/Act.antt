@@ -1,0 +1,22 @@
+-- What an instruction does, in the definitions.
+use Rattle.std.specs.Prelude.{ℕ, ◌+◌, List, Some}
+use Rattle.model.specs.Pattern as p
+use Rattle.model.specs.Steps as s
+use Rattle.model.specs.Steps.{onward, Moves}
+use Rattle.pattern_compiler.specs.View.{name_of}
+use Rattle.match_machine.specs.declared.act.Act.{Act}
+use Rattle.match_machine.specs.declared.act.Act.TheVariants as act
+use Rattle.match_machine.specs.View.{kept_of, waiting_of}
+
+-- on the subject u, for the attempt t
+abbrev pub act_of : List ℕ → s.Thread → Act → s.Act
+act_of u t (act.Goes c) = Moves (s.Goes (onward t (t.place + 1) c))
+act_of u t (act.Jumps q) = Moves (s.Goes (onward t q t.cursor))
+act_of u t (act.Forks c k) = Moves (s.Forks (onward t (t.place + 1) c) (kept_of u k t))
+act_of u t act.Fails = Moves s.Fails
+act_of u t act.Aborts = s.Aborts
+act_of u t act.Opens = s.act u (Some p.Open) t
+act_of u t (act.Closes x) = s.act u (Some (p.Close (name_of x))) t
+act_of u t (act.Says x) = s.act u (Some (p.Say (name_of x))) t
+act_of u t (act.Tells x) = s.act u (Some (p.AtCursor (name_of x))) t
+act_of u t (act.Asks w) = s.Asking (waiting_of w) t

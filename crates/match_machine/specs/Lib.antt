@@ -1,0 +1,4 @@
+pub mod View
+pub mod Held
+pub mod Balance
+pub mod Act

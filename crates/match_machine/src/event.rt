@@ -1,0 +1,59 @@
+//! What a match asks and tells, and the answers that it takes.
+
+use pattern_compiler::{Name, PatCode};
+use strings::Text;
+
+/// What the value of an expression is converted to.
+#[derive(Clone, Copy)]
+pub enum Want {
+    Pattern,
+    /// An integer that isn't negative.
+    Count,
+    /// A string that isn't null.
+    Bytes,
+}
+
+/// What is assigned within a match.
+#[derive(Drop)]
+pub enum Told {
+    Text(Text),
+    /// A cursor.
+    Number(u64),
+}
+
+/// An assignment that is made after the match.
+#[derive(Drop)]
+pub struct Assignment {
+    pub name: Name,
+    pub value: Text,
+}
+
+/// What a match has come to.
+#[derive(Drop)]
+pub enum Event {
+    /// Nothing yet.
+    Running,
+    /// The value of this expression is asked for.
+    Ask { expr: u32, want: Want },
+    /// An assignment is asked for.
+    Say { name: Name, value: Told },
+    /// The first success, with its assignments in order.
+    Matched {
+        start: usize,
+        end: usize,
+        pending: Vec<Assignment>,
+    },
+    Failed,
+}
+
+/// The answer to a question.
+#[derive(Drop)]
+pub enum Answer {
+    Pattern(PatCode),
+    Count(u64),
+    Bytes(Text),
+    /// The evaluation failed.
+    Failed,
+    /// The assignment is made.
+    Said,
+}

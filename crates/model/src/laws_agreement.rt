@@ -1,0 +1,21 @@
+//! The laws of the meaning and of the machine. Each function does nothing; its contract states a law, and who calls it may use the law.
+
+ghost use Rattle.model.specs.Agreement.{AgreesWherePlaced, EndingStays, PrintedGrows};
+ghost use Rattle.model.specs.MatchLaws.{MatchRuns, MatchComes};
+
+/// A module does what its program does, wherever the code of each statement stands.
+pub fn agreement()
+    ensures { AgreesWherePlaced }
+{}
+
+/// While it runs, a match of the machine is the steps of its code.
+pub fn matches_step()
+    ensures runs { MatchRuns }
+    ensures comes { MatchComes }
+{}
+
+/// Going deeper, an ending of a deck's meaning stays and what it has printed is only added to.
+pub fn meaning_stays()
+    ensures ending { EndingStays }
+    ensures printed { PrintedGrows }
+{}

@@ -1,0 +1,150 @@
+-- Turns of the loops.
+use Rattle.std.proofs.Common.{◌≡◌, refl, sym, ◌∙◌, ap, subst, ℕ, zero, suc, ◌+◌, ◌-◌, ◌<◌, ◌≤◌, ◌==◌, true, false, List, [], ◌∷◌, ◌++◌, length, arith}
+use Rattle.std.specs.Prelude.{Option, Some, None, is_some, if◌then◌else◌}
+use Rattle.model.specs.declared.tokens.Mark.TheVariants as mark
+use Rattle.model.specs.declared.trees.Argument.{Argument}
+use Rattle.model.specs.declared.trees.Binary.{Binary}
+use Rattle.model.specs.declared.trees.Binary.TheVariants as binary
+use Rattle.model.specs.Grammar.{grade}
+use Rattle.model.specs.Parse.{Parser, bind, Next, Ends, Sees, next, on, lefts, rights, graded, one, several, sees, tail}
+use Rattle.model.specs.Tokens.{Tok}
+use Rattle.model.specs.Trees.{Expr, Combine, Arg, Args, Nil, More}
+use Rattle.model.specs.TreeViews.{arg_of, args_of}
+use Rattle.model.proofs.ParseComplete.{on_go}
+use Rattle.model.proofs.ParseSound.{pow_only}
+use Rattle.stmt_parser.specs.Powers.{powers}
+use Rattle.stmt_parser.specs.Views.{Misses, Operated}
+use Rattle.stmt_parser.proofs.Powers.{powers_last}
+
+pub one_more : {X : Type 0} {x : X} (f : ℕ → X) (n at : ℕ) → at < n → x ≡ f (n - at) → x ≡ f (suc (n - (at + 1)))
+one_more f n at below e = let turn : n - at ≡ suc (n - (at + 1)) = omega arith in e ∙ ap f turn
+
+pub no_more : {X : Type 0} {x : X} (f : ℕ → X) (n at : ℕ) → n ≤ at → x ≡ f (n - at) → x ≡ f 0
+no_more f n at done e = let none : n - at ≡ 0 = omega arith in e ∙ ap f none
+
+on_miss : {A : Type 0} (x : Next) (k : ℕ) (stop : A) (go : Binary → List Tok → A) → Misses k x → on x k stop go ≡ stop
+unfolding on
+on_miss Ends k stop go p = refl
+on_miss (Sees op ts) k stop go p = let miss : (grade op == k) ≡ false = grind (arith, p) in rw miss refl
+
+-- whether an operator was taken
+pub stopped : (k : ℕ) (ts rest : List Tok) (o : Option Binary) → Operated k ts o rest → is_some o ≡ false → Misses k (next ts) × (rest ≡ ts)
+stopped k ts rest None h i = h
+stopped k ts rest (Some op) h i = absurd (cc)
+
+pub went_on : (k : ℕ) (ts rest : List Tok) (o : Option Binary) → Operated k ts o rest → is_some o ≡ true → (op : Binary) × (next ts ≡ Sees op rest) × (grade op ≡ k)
+went_on k ts rest None h i = absurd (cc)
+went_on k ts rest (Some op) h i = (op, h.0, h.1)
+
+-- ---- operators that group to the left
+module _ (operand : Parser Expr) (k n : ℕ) (e : Expr) (ts : List Tok) where
+  abbrev go_on : Binary → List Tok → Option (Expr × List Tok)
+  go_on op after = bind (operand after) (λ f rest. lefts operand k n (Combine op e f) rest)
+
+  pub lefts_stop : Misses k (next ts) → lefts operand k (suc n) e ts ≡ Some (e, ts)
+  unfolding lefts
+  lefts_stop m = on_miss (next ts) k (Some (e, ts)) go_on m
+
+  pub lefts_none : (op : Binary) (after : List Tok) → next ts ≡ Sees op after → grade op ≡ k → operand after ≡ None → lefts operand k (suc n) e ts ≡ None
+  unfolding lefts bind
+  lefts_none op after s g h = on_go (next ts) k (Some (e, ts)) go_on op after s g ∙ ap (λ r. bind r (λ f rest. lefts operand k n (Combine op e f) rest)) h
+
+  pub lefts_go : (op : Binary) (after : List Tok) (f : Expr) (rest : List Tok) → next ts ≡ Sees op after → grade op ≡ k → operand after ≡ Some (f, rest)
+      → lefts operand k (suc n) e ts ≡ lefts operand k n (Combine op e f) rest
+  unfolding lefts bind
+  lefts_go op after f rest s g h = on_go (next ts) k (Some (e, ts)) go_on op after s g ∙ ap (λ r. bind r (λ x end. lefts operand k n (Combine op e x) end)) h
+
+  pub lefts_end : lefts operand k zero e ts ≡ Some (e, ts)
+  unfolding lefts
+  lefts_end = refl
+
+pub graded_left : (atom : Parser Expr) (k j : ℕ) → k ≡ suc j → (j == 1) ≡ false → (ts : List Tok) (e : Expr) (rest : List Tok) → graded atom j ts ≡ Some (e, rest)
+    → graded atom k ts ≡ lefts (graded atom j) k (length rest) e rest
+unfolding graded bind
+graded_left atom k j h miss ts e rest found =
+    subst (λ n. graded atom n ts ≡ lefts (graded atom j) n (length rest) e rest) (sym h) (rw miss (ap (λ r. bind r (λ x end. lefts (graded atom j) (suc j) (length end) x end)) found))
+
+-- ---- `**`, which groups to the right
+abbrev pub onto : List Expr → Option (Expr × List Tok) → Option (Expr × List Tok)
+onto xs None = None
+onto xs (Some p) = Some (powers xs p.0, p.1)
+
+onto_nil : (o : Option (Expr × List Tok)) → o ≡ onto [] o
+onto_nil None = refl
+onto_nil (Some p) = refl
+
+module _ (operand : Parser Expr) (n : ℕ) (ts : List Tok) (xs : List Expr) where
+  abbrev go_right : Expr → Binary → Parser Expr
+  go_right e op after = bind (rights operand 2 n after) (λ f end. Some (Combine op e f, end))
+
+  abbrev after_operand : Expr → Parser Expr
+  after_operand e rest = on (next rest) 2 (Some (e, rest)) (go_right e)
+
+  pub rights_none : operand ts ≡ None → onto xs (rights operand 2 (suc n) ts) ≡ None
+  unfolding rights bind
+  rights_none h = ap (λ r. onto xs (bind r after_operand)) h
+
+  pub rights_stop : (e : Expr) (rest : List Tok) → operand ts ≡ Some (e, rest) → Misses 2 (next rest) → onto xs (rights operand 2 (suc n) ts) ≡ Some (powers xs e, rest)
+  unfolding rights bind
+  rights_stop e rest h m = ap (λ r. onto xs (bind r after_operand)) h ∙ ap (onto xs) (on_miss (next rest) 2 (Some (e, rest)) (go_right e) m)
+
+  pub rights_go : (e : Expr) (rest : List Tok) (op : Binary) (after : List Tok) → operand ts ≡ Some (e, rest) → next rest ≡ Sees op after → grade op ≡ 2
+      → onto xs (rights operand 2 (suc n) ts) ≡ onto (xs ++ e ∷ []) (rights operand 2 n after)
+  unfolding rights bind
+  rights_go e rest op after h s g =
+      ap (λ r. onto xs (bind r after_operand)) h
+      ∙ ap (onto xs) (on_go (next rest) 2 (Some (e, rest)) (go_right e) op after s g)
+      ∙ into (rights operand 2 n after) (pow_only op (grind (arith, g)))
+    where
+      into : (o : Option (Expr × List Tok)) → op ≡ binary.Power → onto xs (bind o (λ f end. Some (Combine op e f, end))) ≡ onto (xs ++ e ∷ []) o
+      into None i = refl
+      into (Some p) i = rw i (ap (λ y. Some (y, p.1)) (sym (powers_last xs e p.0)))
+
+pub rights_start : (operand : Parser Expr) (n m : ℕ) (ts : List Tok) → n ≡ m → rights operand 2 n ts ≡ onto [] (rights operand 2 m ts)
+rights_start operand n m ts h = ap (λ k. rights operand 2 k ts) h ∙ onto_nil (rights operand 2 m ts)
+
+pub rights_end : (operand : Parser Expr) (ts : List Tok) (xs : List Expr) → onto xs (rights operand 2 zero ts) ≡ None
+unfolding rights
+rights_end operand ts xs = refl
+
+-- ---- arguments
+abbrev pub join : Args → Args → Args
+join Nil bs = bs
+join (More a args) bs = More a (join args bs)
+
+join_assoc : (a b c : Args) → join (join a b) c ≡ join a (join b c)
+join_assoc Nil b c = refl
+join_assoc (More x a) b c = ap (λ y. More x y) (join_assoc a b c)
+
+abbrev pub prepend : Args → Option (Args × List Tok) → Option (Args × List Tok)
+prepend a None = None
+prepend a (Some p) = Some (join a p.0, p.1)
+
+args_last : (xs : List Argument) (x : Argument) → args_of (xs ++ x ∷ []) ≡ join (args_of xs) (More (arg_of x) Nil)
+unfolding args_of
+args_last [] x = refl
+args_last (y ∷ xs) x = ap (λ a. More (arg_of y) a) (args_last xs x)
+
+module _ (inner : Parser Expr) (n : ℕ) (ts rest : List Tok) (found : List Argument) (x : Argument) where
+  abbrev after_one : Arg → Parser Args
+  after_one arg end = if sees mark.Comma end then bind (several inner n (tail end)) (λ args last. Some (More arg args, last)) else Some (More arg Nil, end)
+
+  pub several_go : one inner ts ≡ Some (arg_of x, rest) → sees mark.Comma rest ≡ true → prepend (args_of found) (several inner (suc n) ts) ≡ prepend (args_of (found ++ x ∷ [])) (several inner n (tail rest))
+  unfolding several bind
+  several_go o s = ap (λ r. prepend (args_of found) (bind r after_one)) o ∙ rw s (into (several inner n (tail rest)))
+    where
+      into : (o : Option (Args × List Tok)) → prepend (args_of found) (bind o (λ args last. Some (More (arg_of x) args, last))) ≡ prepend (args_of (found ++ x ∷ [])) o
+      into None = refl
+      into (Some p) = rw (args_last found x) (ap (λ y. Some (y, p.1)) (sym (join_assoc (args_of found) (More (arg_of x) Nil) p.0)))
+
+  pub several_end : one inner ts ≡ Some (arg_of x, rest) → sees mark.Comma rest ≡ false → prepend (args_of found) (several inner (suc n) ts) ≡ Some (args_of (found ++ x ∷ []), rest)
+  unfolding several bind
+  several_end o s = ap (λ r. prepend (args_of found) (bind r after_one)) o ∙ rw (s, args_last found x) refl
+
+prepend_nil : (o : Option (Args × List Tok)) → o ≡ prepend Nil o
+prepend_nil None = refl
+prepend_nil (Some p) = refl
+
+pub several_start : (inner : Parser Expr) (n m : ℕ) (ts : List Tok) (found : List Argument) → found ≡ [] → n ≡ m → several inner n ts ≡ prepend (args_of found) (several inner m ts)
+unfolding args_of
+several_start inner n m ts found e h = rw (e, h) (prepend_nil (several inner m ts))

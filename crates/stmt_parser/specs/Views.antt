@@ -1,0 +1,77 @@
+-- What the code reads, beside what the definitions read.
+use Rattle.std.specs.Prelude.{◌≡◌, ◌≤◌, ℕ, ⊤, List, [], ◌∷◌, length, drop, Option, Some, None, Result, Ok, Err}
+use Rattle.model.specs.declared.tokens.Token.{Token}
+use Rattle.model.specs.declared.trees.Binary.{Binary}
+use Rattle.model.specs.Grammar.{grade}
+use Rattle.model.specs.Parse as spec
+use Rattle.model.specs.Parse.{Next, Ends, Sees, next}
+use Rattle.model.specs.Tokens.{Tok, Blank, tok}
+use Rattle.model.specs.Trees as tree
+use Rattle.model.specs.Trees.{Args}
+use Rattle.model.specs.declared.trees.Place.{Place}
+use Rattle.model.specs.declared.trees.Stmt.{Stmt}
+use Rattle.model.specs.TreeViews.{args_of, place_of, stmt_of}
+use Rattle.model.specs.declared.trees.Argument.{Argument}
+use Rattle.std.specs.declared.alloc.Global.{Global}
+use Rattle.std.specs.declared.vec.Vec.{Vec}
+use Rattle.stmt_parser.specs.declared.marks.Role.{Role}
+use Rattle.stmt_parser.specs.declared.marks.Role.TheVariants as r
+use Rattle.stmt_parser.specs.declared.stop.Stop.{Stop}
+use Rattle.stmt_parser.specs.declared.stop.Stop.TheVariants as stop
+
+abbrev pub role_of : Role → spec.Role
+role_of r.Opens = spec.Opens
+role_of r.Refers = spec.Refers
+role_of (r.Prefix u) = spec.Prefix u
+role_of (r.Either u op) = spec.Either u op
+role_of (r.Infix op) = spec.Infix op
+role_of r.Neither = spec.Neither
+
+-- the first token, which stays
+abbrev pub Front : List Tok → Option Token → Type 0
+Front ts None = ts ≡ []
+Front ts (Some t) = (rest : List Tok) × (ts ≡ tok t ∷ rest)
+
+-- the first token, and the tokens after it
+abbrev pub Taken : List Tok → Option Token → List Tok → Type 0
+Taken ts None rest = (ts ≡ []) × (rest ≡ [])
+Taken ts (Some t) rest = ts ≡ tok t ∷ rest
+
+-- an operator that comes next, and how many tokens it takes
+abbrev pub Seen : List Tok → Option Binary → ℕ → Type 0
+Seen ts None n = next ts ≡ Ends
+Seen ts (Some op) n = (next ts ≡ Sees op (drop n ts)) × (n ≤ length ts)
+
+abbrev pub SeenAfter : Tok → List Tok → Option Binary → ℕ → Type 0
+SeenAfter t ts o n = Seen (Blank ∷ t ∷ ts) o n
+
+-- no operator of this grade comes next
+abbrev pub Misses : ℕ → Next → Type 0
+Misses k Ends = ⊤
+Misses k (Sees op ts) = grade op ≡ k → ⊥
+
+-- an operator of this grade, where one comes next, and the tokens after it
+abbrev pub Operated : ℕ → List Tok → Option Binary → List Tok → Type 0
+Operated k ts None rest = Misses k (next ts) × (rest ≡ ts)
+Operated k ts (Some op) rest = (next ts ≡ Sees op rest) × (grade op ≡ k)
+
+abbrev pub Fails : {A : Type 0} → Stop → Option A → Type 0
+Fails stop.NoTree found = found ≡ None
+Fails stop.Memory found = ⊤
+
+-- what is read is what the definitions read, unless memory runs out
+abbrev pub Reads : {A B : Type 0} → (B → A) → Option (A × List Tok) → Result B Stop → List Tok → Type 0
+Reads view found (Ok x) rest = found ≡ Some (view x, rest)
+Reads view found (Err s) rest = Fails s found
+
+abbrev pub arguments_of : Vec Argument Global → Args
+arguments_of v = args_of v.items
+
+abbrev pub other_place_of : Option Place → Option tree.Place
+other_place_of None = None
+other_place_of (Some p) = Some (place_of p)
+
+-- what all tokens come to
+abbrev pub Parses : Option tree.Stmt → Result Stmt Stop → Type 0
+Parses found (Ok s) = found ≡ Some (stmt_of s)
+Parses found (Err s) = Fails s found

@@ -1,0 +1,100 @@
+//! Gotos.
+
+ghost use Rattle.std.specs.Prelude.{◌≡◌};
+ghost use Rattle.model.specs.ParseStatements as spec;
+ghost use Rattle.model.specs.TreeViews.{goto_of, place_of};
+ghost use Rattle.stmt_parser.specs.Views.{Reads, other_place_of};
+
+use crate::cursor::Cursor;
+use crate::expressions::element;
+use crate::stop::Stop;
+use model::{Goto, Mark, Place, Token, TokenKind};
+use std::alloc::Global;
+
+/// `[B goto]`
+#[tactic(auto, unfolding(model::specs::ParseStatements::goto))]
+pub(crate) fn goto(alloc: Global, cursor: &mut Cursor<'_>, depth: usize) -> Result<Goto, Stop>
+    ensures { Reads goto_of (spec.goto depth cursor.old) result cursor.new }
+{
+    if !cursor.eat_spaced(Mark::Colon) {
+        return Ok(Goto::Next);
+    }
+    cursor.skip();
+    exits(alloc, cursor, depth)
+}
+
+/// What stands after `:` and blanks.
+#[tactic(auto, unfolding(model::specs::ParseStatements::exits, model::specs::Parse::bind))]
+fn exits(alloc: Global, cursor: &mut Cursor<'_>, depth: usize) -> Result<Goto, Stop>
+    ensures { Reads goto_of (spec.exits depth cursor.old) result cursor.new }
+{
+    if cursor.eat_word(b"S") {
+        let success = in_brackets(alloc, cursor, depth)?;
+        return match second(alloc, cursor, depth, b"F")? {
+            None => Ok(Goto::OnSuccess(success)),
+            Some(failure) => Ok(Goto::Both(success, failure)),
+        };
+    }
+    if cursor.eat_word(b"F") {
+        let failure = in_brackets(alloc, cursor, depth)?;
+        return match second(alloc, cursor, depth, b"S")? {
+            None => Ok(Goto::OnFailure(failure)),
+            Some(success) => Ok(Goto::Both(success, failure)),
+        };
+    }
+    Ok(Goto::Always(in_brackets(alloc, cursor, depth)?))
+}
+
+/// The place after blanks and this word, where the word comes next.
+#[tactic(auto, unfolding(model::specs::ParseStatements::second, model::specs::Parse::bind))]
+fn second(
+    alloc: Global,
+    cursor: &mut Cursor<'_>,
+    depth: usize,
+    word: &[u8],
+) -> Result<Option<Place>, Stop>
+    ensures { Reads other_place_of (spec.second depth word.now cursor.old) result cursor.new }
+{
+    if !cursor.eat_word_past_blanks(word) {
+        return Ok(None);
+    }
+    Ok(Some(in_brackets(alloc, cursor, depth)?))
+}
+
+/// A place in round brackets.
+#[tactic(auto, unfolding(model::specs::ParseStatements::in_brackets, model::specs::Parse::bind, model::specs::Parse::expect))]
+fn in_brackets(alloc: Global, cursor: &mut Cursor<'_>, depth: usize) -> Result<Place, Stop>
+    ensures { Reads place_of (spec.in_brackets depth cursor.old) result cursor.new }
+{
+    if !cursor.eat(Mark::Open) {
+        return Err(Stop::NoTree);
+    }
+    cursor.skip();
+    let place = place(alloc, cursor, depth)?;
+    cursor.skip();
+    if cursor.eat(Mark::Close) {
+        Ok(place)
+    } else {
+        Err(Stop::NoTree)
+    }
+}
+
+/// A label, or `$` directly before an element.
+#[tactic(auto, unfolding(model::specs::ParseStatements::place, model::specs::Parse::bind))]
+fn place(alloc: Global, cursor: &mut Cursor<'_>, depth: usize) -> Result<Place, Stop>
+    ensures { Reads place_of (spec.place depth cursor.old) result cursor.new }
+{
+    if cursor.eat(Mark::Dollar) {
+        return Ok(Place::Computed(element(alloc, cursor, depth)?));
+    }
+    match cursor.take() {
+        Some(
+            Token {
+                kind: TokenKind::Name,
+                text,
+                ..
+            },
+        ) => Ok(Place::Label(Vec::from_slice(alloc, text)?)),
+        _ => Err(Stop::NoTree),
+    }
+}

@@ -1,0 +1,97 @@
+//! Statements.
+
+ghost use Rattle.std.specs.Prelude.{◌≡◌, ◌⊎◌, IfErr, IfOk};
+ghost use Rattle.model.specs.Lexed.{Lexed};
+ghost use Rattle.model.specs.ParseStatements as spec;
+ghost use Rattle.model.specs.Statements.{HasNoTree, Tree};
+ghost use Rattle.model.specs.Tokens.{toks};
+ghost use Rattle.model.specs.TreeViews.{label_of, stmt_of};
+ghost use Rattle.model.specs.declared.causes.Cause.TheVariants as cause;
+ghost use Rattle.stmt_parser.specs.Views.{Parses, Reads};
+
+use crate::bodies::body;
+use crate::cursor::Cursor;
+use crate::gotos::goto;
+use crate::stop::Stop;
+use model::{Cause, Stmt, Token, TokenKind};
+use std::alloc::Global;
+
+/// The one statement that has these tokens.
+pub fn parse_statement(alloc: Global, tokens: &[Token<'_>]) -> Result<Stmt, Cause>
+    requires { Lexed tokens.now }
+    ensures tree { IfOk result (λ s. Tree (stmt_of s) (toks tokens.now)) }
+    // No other cause than that there is none, or no memory.
+    ensures cause { IfErr result (λ c. (c ≡ cause.Memory) ⊎ ((c ≡ cause.NoTree) × HasNoTree (toks tokens.now))) }
+{
+    match all(alloc, tokens) {
+        Ok(statement) => Ok(statement),
+        Err(Stop::NoTree) => Err(Cause::NoTree),
+        Err(Stop::Memory) => Err(Cause::Memory),
+    }
+}
+
+#[tactic(auto, unfolding(model::specs::ParseStatements::stmt))]
+fn all(alloc: Global, tokens: &[Token<'_>]) -> Result<Stmt, Stop>
+    requires { Lexed tokens.now }
+    ensures { Parses (spec.stmt (toks tokens.now)) result }
+{
+    let mut cursor = Cursor::new(tokens);
+    let found = statement(alloc, &mut cursor, tokens.len())?;
+    match cursor.take() {
+        None => Ok(found),
+        Some(_) => Err(Stop::NoTree),
+    }
+}
+
+#[tactic(auto, unfolding(model::specs::ParseStatements::statement, model::specs::Parse::bind))]
+fn statement(alloc: Global, cursor: &mut Cursor<'_>, depth: usize) -> Result<Stmt, Stop>
+    ensures { Reads stmt_of (spec.statement depth cursor.old) result cursor.new }
+{
+    if cursor.eat_word(b"END") {
+        return after_end(alloc, cursor);
+    }
+    let label = label(alloc, cursor)?;
+    after_label(alloc, cursor, depth, label)
+}
+
+#[tactic(auto, unfolding(model::specs::ParseStatements::after_label, model::specs::Parse::bind))]
+fn after_label(
+    alloc: Global,
+    cursor: &mut Cursor<'_>,
+    depth: usize,
+    label: Option<Vec<u8>>,
+) -> Result<Stmt, Stop>
+    ensures { Reads stmt_of (spec.after_label depth (label_of label) cursor.old) result cursor.new }
+{
+    let body = body(alloc, cursor, depth)?;
+    let goto = goto(alloc, cursor, depth)?;
+    cursor.skip();
+    Ok(Stmt::Plain { label, body, goto })
+}
+
+/// `[B name] [B]`
+#[tactic(auto, unfolding(model::specs::ParseStatements::after_end, model::specs::Parse::bind))]
+fn after_end(alloc: Global, cursor: &mut Cursor<'_>) -> Result<Stmt, Stop>
+    ensures { Reads stmt_of (spec.after_end cursor.old) result cursor.new }
+{
+    let entry = if cursor.enter_name() {
+        label(alloc, cursor)?
+    } else {
+        None
+    };
+    cursor.skip();
+    Ok(Stmt::End { entry })
+}
+
+/// A name, where one comes next.
+fn label(alloc: Global, cursor: &mut Cursor<'_>) -> Result<Option<Vec<u8>>, Stop>
+    ensures { Reads label_of (spec.label cursor.old) result cursor.new }
+{
+    if !cursor.starts_word() {
+        return Ok(None);
+    }
+    match cursor.take() {
+        Some(token) => Ok(Some(Vec::from_slice(alloc, token.text)?)),
+        None => Ok(None),
+    }
+}
