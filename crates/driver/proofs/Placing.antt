@@ -89,10 +89,10 @@ all_held ts (l ∷ ls) =
 
 -- ---- code
 
-here : (i : Instr) (rest : List Instr) (p : ℕ) → fetch_from p (i ∷ rest) p ≡ At i (p + bytes i)
+pub here : (i : Instr) (rest : List Instr) (p : ℕ) → fetch_from p (i ∷ rest) p ≡ At i (p + bytes i)
 here i rest p = let e : (p == p) ≡ true = grind arith in rw e refl
 
-past : (i : Instr) (rest : List Instr) (p at : ℕ) → p < at → fetch_from p (i ∷ rest) at ≡ fetch_from (p + bytes i) rest at
+pub past : (i : Instr) (rest : List Instr) (p at : ℕ) → p < at → fetch_from p (i ∷ rest) at ≡ fetch_from (p + bytes i) rest at
 past i rest p at less = let e : (p == at) ≡ false = grind (arith, less) in rw e refl
 
 -- ---- offsets
@@ -233,8 +233,7 @@ next_placed ls (suc k) l body g e = next_offset 0 ls k l body g e
 
 labels_placed : (ls : List Bytes) (l : Bytes) → end_of (offsets_of 0 ls) l ≡ labelled_from 1 (printing ls) l
 labels_placed ls l =
-    ap (λ n. if bytes_eq l end_label then Some n else None) (offsets_length 0 ls ∙ (let e : suc (length ls) ≡ 1 + length ls = omega arith in e))
-    ∙ ap (λ b. if b then Some (1 + length ls) else None) (equal_back l end_label) ∙ sym (label_from 1 ls l)
+    ap (λ n. if bytes_eq end_label l then Some n else None) (offsets_length 0 ls ∙ (let e : suc (length ls) ≡ 1 + length ls = omega arith in e)) ∙ sym (label_from 1 ls l)
 
 gone_to_placed : (ls : List Bytes) (l : Bytes) (k : ℕ) → labelled_from 1 (printing ls) l ≡ Some k → (o : ℕ) × (statement_at (offsets_of 0 ls) k ≡ Some o)
 gone_to_placed ls l k e =
