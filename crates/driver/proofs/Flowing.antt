@@ -14,7 +14,7 @@ use Rattle.driver.proofs.Placing.{here, past}
 -- ---- what stands where
 
 -- from here on the code is that of these statements
-abbrev Tail : Image → ℕ → List Bytes → List Bytes → Type 0
+abbrev pub Tail : Image → ℕ → List Bytes → List Bytes → Type 0
 Tail im o ts ls = (x : ℕ) → o ≤ x → fetch_from 0 im.code x ≡ fetch_from o (code_of ts o ls) x
 
 module _ (ts : List Bytes) (o : ℕ) (l : Bytes) (ls : List Bytes) where
@@ -41,7 +41,7 @@ module _ (ts : List Bytes) (o : ℕ) (l : Bytes) (ls : List Bytes) where
   to_5 x h = to_4 x (omega (arith, h)) ∙ past op.Body r5 (o + 5 + 5 + 5 + 1) x h ∙ ap (λ p. fetch_from p r5 x) (let e : o + 5 + 5 + 5 + 1 + 1 ≡ o + 17 = omega arith in e)
 
 module _ (im : Image) (ts : List Bytes) (o : ℕ) (l : Bytes) (ls : List Bytes) (t : Tail im o ts (l ∷ ls)) where
-  begins : fetch_from 0 im.code o ≡ At (op.Begin (o + 17)) (o + 5)
+  pub begins : fetch_from 0 im.code o ≡ At (op.Begin (o + 17)) (o + 5)
   begins = t o (omega arith) ∙ here (op.Begin (o + 17)) (r1 ts o l ls) o
   names : fetch_from 0 im.code (o + 5) ≡ At (op.Var (place_of output (with_texts l ts))) (o + 10)
   names = t (o + 5) (omega arith) ∙ to_1 ts o l ls (o + 5) (omega arith) ∙ here (op.Var (place_of output (with_texts l ts))) (r2 ts o l ls) (o + 5)
@@ -58,10 +58,10 @@ module _ (im : Image) (ts : List Bytes) (o : ℕ) (l : Bytes) (ls : List Bytes) 
   leaves_body = let e : o + 5 + 5 + 5 + 1 ≡ o + 16 = omega arith in let f : o + 5 + 5 + 5 + 1 + 1 ≡ o + 17 = omega arith in
       subst (λ p. fetch_from 0 im.code p ≡ At op.Body (o + 17)) e
         (t (o + 5 + 5 + 5 + 1) (omega arith) ∙ to_4 ts o l ls (o + 5 + 5 + 5 + 1) (omega arith) ∙ here op.Body (r5 ts o l ls) (o + 5 + 5 + 5 + 1) ∙ ap (At op.Body) f)
-  tail_next : Tail im (o + 17) (with_texts l ts) ls
+  pub tail_next : Tail im (o + 17) (with_texts l ts) ls
   tail_next x h = t x (omega (arith, h)) ∙ to_5 ts o l ls x (omega (arith, h))
 
-ends : (im : Image) (ts : List Bytes) (o : ℕ) → Tail im o ts [] → fetch_from 0 im.code o ≡ At op.End (o + 1)
+pub ends : (im : Image) (ts : List Bytes) (o : ℕ) → Tail im o ts [] → fetch_from 0 im.code o ≡ At op.End (o + 1)
 ends im ts o t = t o (omega arith) ∙ here op.End [] o
 
 -- ---- where the code comes to, and what it leaves there

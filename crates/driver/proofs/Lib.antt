@@ -1,3 +1,4 @@
 pub mod Placing
 pub mod TextPlaces
 pub mod Flowing
+pub mod Parts

@@ -57,11 +57,11 @@ stays_in ts [] k s h = h
 stays_in ts (l ∷ ls) k s h = stays_in (with_texts l ts) ls k s (stays_at l (with_text output ts) k s (stays_at output ts k s h))
 
 -- both texts of a statement are there after it, and stay
-Has : List Bytes → Bytes → List Bytes → Type 0
+abbrev pub Has : List Bytes → Bytes → List Bytes → Type 0
 Has all t ts = slice_get all (place_of t ts) ≡ Some t
 
 -- `all` has each text where the statements' code has it
-AllHeld : List Bytes → List Bytes → List Bytes → Type 0
+abbrev pub AllHeld : List Bytes → List Bytes → List Bytes → Type 0
 AllHeld all ts [] = Unit {0}
 AllHeld all ts (l ∷ ls) = Has all l (with_texts l ts) × Has all output (with_texts l ts) × AllHeld all (with_texts l ts) ls
 
@@ -77,8 +77,8 @@ held_place s t (x ∷ xs) h = elim (bytes_eq t x) as (λ b. slice_get (if b then
   ] h
 ]
 
-all_held : (ts ls : List Bytes) → AllHeld (texts ts ls) ts ls
-unfolding AllHeld Has Held
+pub all_held : (ts ls : List Bytes) → AllHeld (texts ts ls) ts ls
+unfolding Held
 all_held ts [] = tt
 all_held ts (l ∷ ls) =
     let both : List Bytes = with_texts l ts in (
@@ -133,7 +133,7 @@ module _ (prog : Program) (img : Module) (all : List Bytes) (strings : (k : ℕ)
   placed_here : (ts : List Bytes) (k at : ℕ) (l : Bytes) (rest : List Instr) → Has all output ts → Has all l ts
       → ((x : ℕ) → at ≤ x → img.fetch x ≡ fetch_from at (statement_code ts at l ++ rest) x)
       → img.stmt (suc k) ≡ Some (at + 17) → img.number at ≡ k → CodeS prog img (λ j. None) k (Some (prints l)) at
-  unfolding Has
+
   placed_here ts k at l rest held_output held_l has next number =
       let r1 = op.Var (place_of output ts) ∷ op.Str (place_of l ts) ∷ op.Assign ∷ op.Body ∷ rest in
       let r2 = op.Str (place_of l ts) ∷ op.Assign ∷ op.Body ∷ rest in
@@ -169,7 +169,7 @@ module _ (prog : Program) (img : Module) (all : List Bytes) (strings : (k : ℕ)
       → ((i : ℕ) → img.stmt (k + i) ≡ slice_get (offsets_of at ls) i)
       → ((i o : ℕ) → slice_get (offsets_of at ls) i ≡ Some o → img.number o ≡ k + i)
       → (i o : ℕ) → slice_get (offsets_of at ls) i ≡ Some o → CodeS prog img (λ j. None) (k + i) (slice_get (printing ls) i) o
-  unfolding AllHeld Has
+
   stands ts k at [] held has offsets numbers zero o e =
       let z : at ≡ o = cc in
       (at + 1, subst (λ x. img.fetch x ≡ At op.End (at + 1)) z (has at (omega arith) ∙ here op.End [] at))
@@ -194,11 +194,11 @@ label_from : (k : ℕ) (ls : List Bytes) (l : Bytes) → labelled_from k (printi
 label_from k [] l = ap (λ n. if bytes_eq end_label l then Some n else None) (let e : k ≡ k + 0 = omega arith in e)
 label_from k (x ∷ ls) l = label_from (suc k) ls l ∙ ap (λ n. if bytes_eq end_label l then Some n else None) (let e : suc k + length ls ≡ k + suc (length ls) = omega arith in e)
 
-offsets_length : (at : ℕ) (ls : List Bytes) → length (offsets_of at ls) ≡ suc (length ls)
+pub offsets_length : (at : ℕ) (ls : List Bytes) → length (offsets_of at ls) ≡ suc (length ls)
 offsets_length at [] = refl
 offsets_length at (l ∷ ls) = ap suc (offsets_length (at + 17) ls)
 
-last_offset : (at : ℕ) (ls : List Bytes) → (o : ℕ) × (slice_get (offsets_of at ls) (length ls) ≡ Some o)
+pub last_offset : (at : ℕ) (ls : List Bytes) → (o : ℕ) × (slice_get (offsets_of at ls) (length ls) ≡ Some o)
 last_offset at [] = (at, refl)
 last_offset at (l ∷ ls) = last_offset (at + 17) ls
 
