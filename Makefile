@@ -62,7 +62,7 @@ check: toolchain ## prove every crate over what earlier checks kept
 
 bench: toolchain ## prove, build and run the benchmark programs
 	@: $(if $(BENCHES),,$(error there are no benchmark programs yet: no crate crates/*_bench))
-	@for crate in $(BENCHES); do echo "bench: $$crate"; (cd $$crate && $(RT) run < /dev/null) || exit 1; done
+	@for crate in $(BENCHES); do echo "bench: $$crate"; (cd $$crate && $(RT) run -- time < /dev/null) || exit 1; done
 
 fmt: toolchain ## lay out every crate's files
 	@for crate in crates/*/; do echo "fmt: $$crate"; (cd $$crate && $(RT) fmt) || exit 1; done

@@ -1,6 +1,7 @@
 -- What a matcher is in the definitions.
-use Rattle.std.specs.Prelude.{ℕ, List, [], Bool}
-use Rattle.model.specs.Steps.{Code, State, Waits}
+use Rattle.std.specs.Prelude.{ℕ, List, Bool}
+use Rattle.model.specs.Pattern.{Event, Asks}
+use Rattle.model.specs.Steps.{Code, State}
 
 pub record Held : Type 0 where
   pub subject : List ℕ
@@ -9,7 +10,7 @@ pub record Held : Type 0 where
   -- memory was refused
   pub refused : Bool
 
--- it stands at a question without an answer
-abbrev pub IsAsked : State → Type 0
-IsAsked (Waits w t cs b left []) = Unit {0}
-IsAsked _ = ⊥
+-- it is a question
+abbrev pub IsQuestion : Event ℕ → Type 0
+IsQuestion (Asks v) = Unit {0}
+IsQuestion _ = ⊥

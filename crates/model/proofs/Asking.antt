@@ -1,23 +1,23 @@
 -- How the machine comes to what a rule asks, from where the code of it stands.
-use Rattle.std.proofs.Common.{⊎_elim, le_trans, le-add_left, le-add_right, ◌≡◌, ℕ, suc, ◌+◌, ◌-◌, ◌≤◌, List, [], ◌∷◌, ◌++◌, length, drop, Bool, Option, Some, None, ◌⊎◌, inl, inr, refl, sym, ap, ◌∙◌, subst, arith, le_refl, append-nil}
+use Rattle.std.proofs.Common.{⊎_elim, le_trans, le-add_left, le-add_right, ◌≡◌, ℕ, suc, ◌+◌, ◌-◌, ◌≤◌, List, [], ◌∷◌, ◌++◌, length, drop, Bool, Option, ◌⊎◌, inl, inr, refl, sym, ap, ◌∙◌, subst, arith, le_refl, append-nil}
 use Rattle.model.specs.declared.instr.Instr.{Instr}
 use Rattle.model.specs.declared.run.ErrorCode.{ErrorCode}
 use Rattle.model.specs.declared.run.ErrorCode.TheVariants as error
 use Rattle.model.specs.declared.run.Ending.{Ending}
 use Rattle.model.specs.declared.run.Ending.TheVariants as ending
-use Rattle.model.specs.Trees.{Bytes, Expr, Args}
+use Rattle.model.specs.Trees.{Expr, Args}
 use Rattle.model.specs.Target.{Name}
 use Rattle.model.specs.Programs.{Program}
 use Rattle.model.specs.Values.{Pattern}
 use Rattle.model.specs.Conversions.{Op}
 use Rattle.model.specs.Operators.{Begun}
-use Rattle.model.specs.Meaning.{Val, W, QVal, QName, QArgs, QMatch, Span, Rule, Ret, Fail, Stop, Ask, Seek, ask, fault, doing}
-use Rattle.model.specs.Machine.{PCode, MVal, MW, Fetched, At, Module, Operand, OV, ON, OR, Matching, Frame, InCall, InEval, found_as, Handler, OnBegin, OnTry, State, Run, InMatch, Over, cut, error_at, fail_to, after_op, pop_many, act, step_at, step, steps}
+use Rattle.model.specs.Meaning.{Val, W, QVal, QName, QArgs, QMatch, Span, Rule, Ret, Fail, Stop, Ask, Seek, fault, doing}
+use Rattle.model.specs.Machine.{PCode, MVal, MW, Module, Operand, OV, ON, Frame, InCall, InEval, found_as, Handler, OnBegin, OnTry, State, Run, InMatch, Over, cut, error_at, fail_to, after_op, pop_many, act, step_at, steps}
 use Rattle.model.specs.Placed.{Is, CodeV, CodeN, CodeA, Placed}
 use Rattle.model.specs.Alike.{VR, VRs, WR}
 use Rattle.model.specs.Steps as S
 use Rattle.model.specs.Stands as St
-use Rattle.model.proofs.Following.{Base, MatchHere, Fit, Here, push_all, failed_at, Stopped, Still, rank, Follows, steps_add}
+use Rattle.model.proofs.Following.{Base, Fit, Here, push_all, failed_at, Stopped, Still, rank, Follows, steps_add}
 use Rattle.model.proofs.OperationsAlike.{OpR, gives, refuses, faults, keys_same, BegunR, Any}
 
 pub fit_more : (hs : List Handler) (o : Operand) (ops : List Operand) → Fit hs ops → Fit hs (o ∷ ops)
@@ -237,6 +237,7 @@ module _ (prog : Program) (img : Module) (trees_at : ℕ → Option Expr) (place
 
   pub fail_two : (h : Here) {n : ℕ} {A : Type 0} {Q : A → W → State → Type 0} (o o' : Operand) (w : W) (m : MW) → R w m → Fw n (fail_to h.hs (o ∷ o' ∷ h.ops) h.fs m) Q (Fv h) (Fail w)
   fail_two h o o' w m wr = fails 0 (m, wr, fail_more h.hs o (o' ∷ h.ops) h.fs m (fit_more h.hs o' h.ops h.fit) ∙ fail_more h.hs o' h.ops h.fs m h.fit)
+
   -- a match from its beginning
   pub ask_match : {A : Type 0} {n : ℕ} {w : W} {m : MW} {Q : A → W → State → Type 0} {F : W → State → Type 0} {k : Span → W → Rule A} {f : W → Rule A} (h : Here) (g : Begun Pattern) (g' : Begun PCode) (keep : Bool) → BegunR trees_at g g' → R w m → 1 ≤ n
       → ((r : Span) (w1 : W) (m1 : MW) → R w1 m1 → Fw n (Run h.q (found_as keep g'.subject r.start r.end h.ops) h.hs h.fs m1) Q F (k r w1))
@@ -247,8 +248,16 @@ module _ (prog : Program) (img : Module) (trees_at : ℕ → Option Expr) (place
       0,
       record {
         g = record { subject = g'.subject; code = g'.pattern; place = h.q; ops = h.ops; hs = h.hs; keep = keep };
-        fs = h.fs; fit = h.fit; subject = hg.subject; stands = hg.stands; answers = []; alike = St.none; st = S.Starting 0 g'.left []; so_far = 0;
-        at = ap (λ z. S.Starting 0 z []) (sym hg.left); runs = refl;
+        fs = h.fs;
+        fit = h.fit;
+        subject = hg.subject;
+        stands = hg.stands;
+        answers = [];
+        alike = St.none;
+        st = S.Starting 0 g'.left [];
+        so_far = 0;
+        at = ap (λ z. S.Starting 0 z []) (sym hg.left);
+        runs = refl;
       },
       m,
       refl,

@@ -1,5 +1,5 @@
 -- The machine follows calls, primitives and references.
-use Rattle.std.proofs.Common.{◌≡◌, ℕ, suc, ◌+◌, ◌*◌, ◌≤◌, List, [], ◌∷◌, length, Option, Some, None, Bool, inr, refl, sym, ap, ◌∙◌, arith, le_refl}
+use Rattle.std.proofs.Common.{◌≡◌, ℕ, suc, ◌≤◌, List, [], ◌∷◌, length, Option, Some, None, Bool, inr, refl, sym, ap, ◌∙◌, arith, le_refl}
 use Rattle.model.specs.declared.instr.Instr.{Instr}
 use Rattle.model.specs.declared.instr.Instr.TheVariants as op
 use Rattle.model.specs.declared.instr.ReturnKind.{ReturnKind}
@@ -12,11 +12,11 @@ use Rattle.model.specs.Programs.{Program}
 use Rattle.model.specs.Values.{Pattern, Function, Defined, Constructor, Field}
 use Rattle.model.specs.Operators.{fetch_op}
 use Rattle.model.specs.Aggregates.{element_op}
-use Rattle.model.specs.Calls.{Kept, return_of, kept_of, enter_call}
-use Rattle.model.specs.Primitives.{Outcome, Returns, Calls, prim_op}
-use Rattle.model.specs.Meaning.{Val, W, Given', QArgs, Rule, ask, doing, function_op, entered, call_rule, finish, function_rule}
+use Rattle.model.specs.Calls.{Kept, return_of, kept_of}
+use Rattle.model.specs.Primitives.{Outcome, prim_op}
+use Rattle.model.specs.Meaning.{Val, W, Back, QArgs, Rule, ask, doing, function_op, entered, call_rule, finish, function_rule}
 use Rattle.model.specs.Machine as machine
-use Rattle.model.specs.Machine.{PCode, codes_of, MVal, MW, MGiven, Module, Operand, OV, ON, Frame, InCall, Caller, State, Run, fail_to, resume, to_stmt, to_known, to_return, load, pop, pop_many, call, calls, primitive, put_name, act, steps}
+use Rattle.model.specs.Machine.{PCode, codes_of, MVal, MW, MBack, Module, Operand, OV, ON, Frame, InCall, Caller, State, Run, fail_to, resume, to_stmt, to_known, to_return, load, pop, pop_many, call, calls, primitive, put_name, act, steps}
 use Rattle.model.specs.Placed.{Is, TextAt, CallAt, CodeA, Placed}
 use Rattle.model.specs.Alike.{VR, VRs, GR, WR}
 use Rattle.model.proofs.Following.{Here, push_all, rank}
@@ -29,9 +29,9 @@ module _ (prog : Program) (img : Module) (trees_at : ℕ → Option Expr) (place
   R = WR trees_at
 
   -- a function from its entry label on
-  entered_follows : {A : Type 0} {n : ℕ} {Q : A → W → State → Type 0} {F : W → State → Type 0} {w : W} {m : MW} (c : Caller) (fs : List Frame) (k : Kept Pattern Expr) (k' : Kept PCode ℕ) (f : Given' → W → Rule A) (entry : Bytes) (r : Option ReturnKind)
+  entered_follows : {A : Type 0} {n : ℕ} {Q : A → W → State → Type 0} {F : W → State → Type 0} {w : W} {m : MW} (c : Caller) (fs : List Frame) (k : Kept Pattern Expr) (k' : Kept PCode ℕ) (f : Back → W → Rule A) (entry : Bytes) (r : Option ReturnKind)
       → KeptR trees_at k k' → R w m → 1 ≤ n
-      → ((g : Given') (g' : MGiven) (w1 : W) (m1 : MW) → GR trees_at g g' → R w1 m1 → Fw prog img trees_at placed n (resume c fs g' m1) Q F (f g w1))
+      → ((g : Back) (g' : MBack) (w1 : W) (m1 : MW) → GR trees_at g g' → R w1 m1 → Fw prog img trees_at placed n (resume c fs g' m1) Q F (f g w1))
       → ((w1 : W) (m1 : MW) → R w1 m1 → F w1 (fail_to c.hs c.ops fs m1))
       → Fw prog img trees_at placed n (to_return img entry r (InCall k' c ∷ fs) m) Q F (entered prog k r (prog.label entry) w f)
   entered_follows c fs k k' f entry (Some r) hk wr le hg hf = op_follows prog img trees_at placed (GR trees_at) c.hs c.ops fs f (λ g w1. resume c fs g w1) (leave_same trees_at r hk wr) (λ g g' w1 m1 x r1. hg g g' w1 m1 x r1) hf
@@ -57,9 +57,9 @@ module _ (prog : Program) (img : Module) (trees_at : ℕ → Option Expr) (place
             );
           })
 
-  call_follows : {A : Type 0} {n : ℕ} {Q : A → W → State → Type 0} {F : W → State → Type 0} {w : W} {m : MW} {vs : List Val} {ms : List MVal} (c : Caller) (fs : List Frame) (k : Given' → W → Rule A) (f : Bytes) (d : Option Function)
+  call_follows : {A : Type 0} {n : ℕ} {Q : A → W → State → Type 0} {F : W → State → Type 0} {w : W} {m : MW} {vs : List Val} {ms : List MVal} (c : Caller) (fs : List Frame) (k : Back → W → Rule A) (f : Bytes) (d : Option Function)
       → VRs trees_at vs ms → R w m → 1 ≤ n
-      → ((g : Given') (g' : MGiven) (w1 : W) (m1 : MW) → GR trees_at g g' → R w1 m1 → Fw prog img trees_at placed n (resume c fs g' m1) Q F (k g w1))
+      → ((g : Back) (g' : MBack) (w1 : W) (m1 : MW) → GR trees_at g g' → R w1 m1 → Fw prog img trees_at placed n (resume c fs g' m1) Q F (k g w1))
       → ((w1 : W) (m1 : MW) → R w1 m1 → F w1 (fail_to c.hs c.ops fs m1))
       → Fw prog img trees_at placed n (call img f ms d c fs m) Q F (call_rule prog f vs d w k)
   call_follows c fs k f None hs wr le hg hf = faulted prog img trees_at placed error.UndefinedFunction wr
@@ -69,9 +69,9 @@ module _ (prog : Program) (img : Module) (trees_at : ℕ → Option Expr) (place
   call_follows c fs k f (Some Field) hs wr le hg hf = op_follows prog img trees_at placed (GR trees_at) c.hs c.ops fs k (λ g w1. resume c fs g w1) (select_same trees_at f hs wr) (λ g g' w1 m1 x r1. hg g g' w1 m1 x r1) hf
 
   -- what a primitive came to
-  finish_follows : {A : Type 0} {n : ℕ} {Q : A → W → State → Type 0} {F : W → State → Type 0} {w : W} {m : MW} {r : Outcome Pattern Expr} {r' : Outcome PCode ℕ} (c : Caller) (fs : List Frame) (k : Given' → W → Rule A)
+  finish_follows : {A : Type 0} {n : ℕ} {Q : A → W → State → Type 0} {F : W → State → Type 0} {w : W} {m : MW} {r : Outcome Pattern Expr} {r' : Outcome PCode ℕ} (c : Caller) (fs : List Frame) (k : Back → W → Rule A)
       → OutcomeR trees_at r r' → R w m → 1 ≤ n
-      → ((g : Given') (g' : MGiven) (w1 : W) (m1 : MW) → GR trees_at g g' → R w1 m1 → Fw prog img trees_at placed n (resume c fs g' m1) Q F (k g w1))
+      → ((g : Back) (g' : MBack) (w1 : W) (m1 : MW) → GR trees_at g g' → R w1 m1 → Fw prog img trees_at placed n (resume c fs g' m1) Q F (k g w1))
       → ((w1 : W) (m1 : MW) → R w1 m1 → F w1 (fail_to c.hs c.ops fs m1))
       → Fw prog img trees_at placed n (machine.finish img r' c fs m) Q F (finish prog r w k)
   finish_follows c fs k (returns x) wr le hg hf = hg _ _ _ _ x wr
@@ -82,11 +82,11 @@ module _ (prog : Program) (img : Module) (trees_at : ℕ → Option Expr) (place
   caller_at h want = record { ops = h.ops; hs = h.hs; place = h.q; want_name = want }
 
   -- a function with its arguments
-  pub function_follows : {A : Type 0} {j : ℕ} {Q : A → W → State → Type 0} {w : W} {m : MW} (want : Bool) (h : Here) (f : Bytes) (args : Args) (k : Given' → W → Rule A) (prim : PrimId → ℕ → Instr) (call' : ℕ → ℕ → Instr)
+  pub function_follows : {A : Type 0} {j : ℕ} {Q : A → W → State → Type 0} {w : W} {m : MW} (want : Bool) (h : Here) (f : Bytes) (args : Args) (k : Back → W → Rule A) (prim : PrimId → ℕ → Instr) (call' : ℕ → ℕ → Instr)
       → ((x : PrimId) (n p : ℕ) (ops : List Operand) (m : MW) → act img (prim x n) h.q p ops h.hs h.fs m ≡ pop_many n ops [] m (λ vs rest. primitive img want (prim_op codes_of x vs m) h.q rest h.hs h.fs))
       → ((i n p : ℕ) (ops : List Operand) (m : MW) → act img (call' i n) h.q p ops h.hs h.fs m ≡ load (img.string i) m (λ f. calls img want f n h.q ops h.hs h.fs m))
       → (r n : ℕ) → CodeA prog img trees_at args n h.p r → CallAt prog img trees_at prim call' (prim_named f) f n r h.q → R w m → suc (rank (QArgs args)) ≤ j
-      → ((g : Given') (g' : MGiven) (w1 : W) (m1 : MW) → GR trees_at g g' → R w1 m1 → Fw prog img trees_at placed j (resume (caller_at h want) h.fs g' m1) Q (Fv prog img trees_at placed h) (k g w1))
+      → ((g : Back) (g' : MBack) (w1 : W) (m1 : MW) → GR trees_at g g' → R w1 m1 → Fw prog img trees_at placed j (resume (caller_at h want) h.fs g' m1) Q (Fv prog img trees_at placed h) (k g w1))
       → Fw prog img trees_at placed j (Run h.p h.ops h.hs h.fs m) Q (Fv prog img trees_at placed h) (function_rule prog f args w k)
   function_follows {A} {j} {Q} want h f args k prim call' does_prim does_call r n code at wr le hg =
       ask_args prog img trees_at placed (at_place h h.p r) 0 n code refl wr le (λ us w1 xs m1 hu len r1. go us w1 xs m1 hu len r1 (prim_named f) at) (fail_here prog img trees_at placed h)
@@ -102,15 +102,15 @@ module _ (prog : Program) (img : Module) (trees_at : ℕ → Option Expr) (place
       go us w1 xs m1 hu len r1 (Some x) is =
           from prog img trees_at placed 1
           (one prog img trees_at placed r h.q (prim x n) (push_all xs h.ops) h.hs h.fs m1 is ∙ does_prim x n r (push_all xs h.ops) m1
-              ∙ ap (λ n. pop_many n (push_all xs h.ops) [] m1 (λ vs rest. primitive img want (prim_op codes_of x vs m1) h.q rest h.hs h.fs)) (sym len)
-              ∙ pop_pushed xs h.ops m1 (λ vs rest. primitive img want (prim_op codes_of x vs m1) h.q rest h.hs h.fs))
+          ∙ ap (λ n. pop_many n (push_all xs h.ops) [] m1 (λ vs rest. primitive img want (prim_op codes_of x vs m1) h.q rest h.hs h.fs)) (sym len)
+          ∙ pop_pushed xs h.ops m1 (λ vs rest. primitive img want (prim_op codes_of x vs m1) h.q rest h.hs h.fs))
           (op_follows prog img trees_at placed (OutcomeR trees_at) h.hs h.ops h.fs _ _ (prim_same trees_at x hu r1) (λ a b w2 m2 ho r2. finish_follows (caller_at h want) h.fs k ho r2 one_or_more hg fails) fails)
       go us w1 xs m1 hu len r1 None (i, str, is) =
           from prog img trees_at placed 1
           (one prog img trees_at placed r h.q (call' i n) (push_all xs h.ops) h.hs h.fs m1 is ∙ does_call i n r (push_all xs h.ops) m1
-              ∙ ap (λ o. load o m1 (λ f. calls img want f n h.q (push_all xs h.ops) h.hs h.fs m1)) str
-              ∙ ap (λ n. calls img want f n h.q (push_all xs h.ops) h.hs h.fs m1) (sym len)
-              ∙ pop_pushed xs h.ops m1 (λ vs rest. call img f vs (m1.plain.functions f) (record { ops = rest; hs = h.hs; place = h.q; want_name = want }) h.fs m1))
+          ∙ ap (λ o. load o m1 (λ f. calls img want f n h.q (push_all xs h.ops) h.hs h.fs m1)) str
+          ∙ ap (λ n. calls img want f n h.q (push_all xs h.ops) h.hs h.fs m1) (sym len)
+          ∙ pop_pushed xs h.ops m1 (λ vs rest. call img f vs (m1.plain.functions f) (record { ops = rest; hs = h.hs; place = h.q; want_name = want }) h.fs m1))
           (finish_follows (caller_at h want) h.fs k (calling f hu) r1 one_or_more hg fails)
 
   -- the name of a variable, put on the stack
@@ -128,8 +128,8 @@ module _ (prog : Program) (img : Module) (trees_at : ℕ → Option Expr) (place
       (λ a y w1 m1 ha r1. ask_args prog img trees_at placed (more h s t (OV y)) 0 n code refl r1 le
       (λ us w2 zs m2 hus len r2. from prog img trees_at placed 1
       (one prog img trees_at placed t e (op.Elem n) (push_all zs (OV y ∷ h.ops)) h.hs h.fs m2 elem
-          ∙ ap (λ n. pop_many n (push_all zs (OV y ∷ h.ops)) [] m2 (λ vs r1. pop r1 m2 (λ a rest. put_name img (element_op a vs m2) e rest h.hs h.fs))) (sym len)
-          ∙ pop_pushed zs (OV y ∷ h.ops) m2 (λ vs r1. pop r1 m2 (λ a rest. put_name img (element_op a vs m2) e rest h.hs h.fs)))
+      ∙ ap (λ n. pop_many n (push_all zs (OV y ∷ h.ops)) [] m2 (λ vs r1. pop r1 m2 (λ a rest. put_name img (element_op a vs m2) e rest h.hs h.fs))) (sym len)
+      ∙ pop_pushed zs (OV y ∷ h.ops) m2 (λ vs r1. pop r1 m2 (λ a rest. put_name img (element_op a vs m2) e rest h.hs h.fs)))
       (op_follows prog img trees_at placed ◌≡◌ h.hs h.ops h.fs k (λ a w1. Run e (ON a ∷ h.ops) h.hs h.fs w1) (element_same trees_at ha hus r2)
       (λ z z' w3 m3 hz r3. from prog img trees_at placed 0 (ap (λ x. Run e (ON x ∷ h.ops) h.hs h.fs m3) (sym hz)) (hk z w3 m3 r3)) (λ w3 m3 r3. (m3, r3, refl))))
       (fail_one prog img trees_at placed h (OV y)))

@@ -1,11 +1,10 @@
 -- Worked cases: rules used.
-use Rattle.std.proofs.Common.{◌≡◌, List, [], ◌∷◌, ◌++◌, Option, None, Some, codes, refl}
-use Rattle.model.specs.declared.trees.Binary.TheVariants as b
-use Rattle.model.specs.Trees.{Literal, Call, Combine, Match, Next}
+use Rattle.std.proofs.Common.{◌≡◌, [], ◌∷◌, codes, refl}
+use Rattle.model.specs.Trees.{Literal, Call, Match, Next}
 use Rattle.model.specs.Names.{prim_named, named}
 use Rattle.model.specs.Meaning.{meaning}
 use Rattle.model.specs.RulesUsed.{count, rules_used}
-use Rattle.model.proofs.RowDecks.{deck, num, args, does, out, no_inputs}
+use Rattle.model.proofs.RowDecks.{deck, args, does, out, no_inputs}
 
 -- ` OUTPUT = 'HI'`: two statements and two nodes; 6 steps
 one_line : rules_used 10 (deck (out (Literal (codes "HI")) ∷ [])) no_inputs ≡ 4

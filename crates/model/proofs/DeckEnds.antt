@@ -17,7 +17,7 @@ use Rattle.model.specs.Statements.{end_word, IsGoto, next, leaves, IsBody, nothi
 use Rattle.model.specs.Tokens.{Tok, Blank, Word}
 use Rattle.model.specs.Trees.{Bytes, Goto, Body, Stmt, Plain, End}
 use Rattle.model.proofs.Cutting.{cut_is, pieces_step, otherwise, sign_only}
-use Rattle.model.proofs.DeckVerdicts.{accepts, Have, read_is}
+use Rattle.model.proofs.DeckVerdicts.{accepts, by_cards, Have, read_is}
 use Rattle.model.proofs.ParseSteps.{if_is}
 use Rattle.model.proofs.StatementSound.{stmt_sound}
 
@@ -120,7 +120,7 @@ IsPiece (Token k text) = IsToken k text
 IsPiece (Stray b) = ⊤
 IsPiece (Unclosed text) = ⊤
 
-piece_is : (text : List ℕ) (p : Piece) → First text p → IsPiece p
+pub piece_is : (text : List ℕ) (p : Piece) → First text p → IsPiece p
 piece_is _ _ (longest text k token begins most) = begins.is
 piece_is _ _ (unclosed b bs q none) = tt
 piece_is _ _ (stray b bs q none) = tt
@@ -236,4 +236,5 @@ ended_has_end cs used h = first_has_end (beginnings cs) used h
 pub end_last : (text : List ℕ) (ss : List Stmt) → verdict text ≡ Accepted ss → EndsOnce ss
 end_last text ss h =
     let a = accepts text ss h in
-    kept_ends 1 (pieces_of a.used) ss (ended_has_end (cards text) a.used a.to_end) a.have
+    let b = by_cards text a.statements a.given in
+    kept_ends 1 (pieces_of b.used) ss (ended_has_end (cards text) b.used b.to_end) (subst (λ x. Have x ss) b.are a.have)

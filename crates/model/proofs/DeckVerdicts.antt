@@ -24,11 +24,9 @@ Have (s ∷ ss) [] = ⊥
 Have (s ∷ ss) (t ∷ ts) = (read s.text ≡ Ok t) × Have ss ts
 
 pub record Accepts (text : List ℕ) (ss : List Stmt) : Type 0 where
-  pub short : length text ≤ 1048576
-  pub used : List Card
-  pub to_end : ended (cards text) ≡ Some used
-  pub clean : faults_of used ≡ []
-  pub have : Have (statements_of used) ss
+  pub statements : List Statement
+  pub given : deck text ≡ Ok statements
+  pub have : Have statements ss
 
 pub none_left : {A : Type 0} (xs ys : List A) → xs ++ ys ≡ [] → xs ≡ []
 none_left [] ys h = refl
@@ -110,10 +108,8 @@ by_deck : (text : List ℕ) (ss : List Stmt) (r : Result (List Statement) CardFa
 unfolding faults
 by_deck text ss (Err f) e h = absurd (cc)
 by_deck text ss (Ok statements) e h =
-    let a = by_cards text statements e in
     let v = by_faults (faults statements) (trees statements) ss h in
-    let have = have_trees [] (labels statements) statements v.0 in
-    record { short = a.short; used = a.used; to_end = a.to_end; clean = a.clean; have = subst (λ x. Have x ss) a.are (subst (λ x. Have statements x) v.1 have) }
+    record { statements = statements; given = e; have = subst (λ x. Have statements x) v.1 (have_trees [] (labels statements) statements v.0) }
 
 pub accepts : (text : List ℕ) (ss : List Stmt) → verdict text ≡ Accepted ss → Accepts text ss
 unfolding verdict

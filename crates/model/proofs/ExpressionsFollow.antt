@@ -1,5 +1,5 @@
 -- The machine follows the rules of expressions.
-use Rattle.std.proofs.Common.{◌≡◌, ℕ, suc, ◌+◌, ◌*◌, ◌≤◌, List, [], ◌∷◌, length, Option, Some, None, true, false, refl, sym, ap, ◌∙◌, arith, le_refl}
+use Rattle.std.proofs.Common.{◌≡◌, ℕ, suc, ◌≤◌, List, [], ◌∷◌, length, Option, Some, None, true, false, refl, sym, ap, ◌∙◌, arith, le_refl}
 use Rattle.model.specs.declared.instr.Instr.{Instr}
 use Rattle.model.specs.declared.instr.Instr.TheVariants as op
 use Rattle.model.specs.declared.instr.ArithOp.TheVariants as a
@@ -8,17 +8,16 @@ use Rattle.model.specs.declared.instr.SignOp.TheVariants as sign
 use Rattle.model.specs.declared.keys.KeyId.{KeyId}
 use Rattle.model.specs.declared.trees.Unary.TheVariants as u
 use Rattle.model.specs.declared.trees.Binary.TheVariants as b
-use Rattle.model.specs.Trees.{Bytes, Expr, Name, Integer, Literal, Keyword, Call, Reference, Apply, Combine, Args, Nil, More, Absent, Given}
+use Rattle.model.specs.Trees.{Expr, Name, Integer, Literal, Keyword, Call, Reference, Apply, Combine, Args, Nil, More, Absent, Given}
 use Rattle.model.specs.Target as target
 use Rattle.model.specs.Names.{key_named}
 use Rattle.model.specs.Programs.{Program}
 use Rattle.model.specs.Values.{Str, Int, Pat, Nam, Exp, trees}
 use Rattle.model.specs.Conversions.{Op}
 use Rattle.model.specs.Operators.{arith_op, sign_op, cat_op, alt_op, cond_op, imm_op}
-use Rattle.model.specs.Calls.{as_value, as_name}
 use Rattle.model.specs.Meaning.{Val, W, QVal, QName, QArgs, Ret, ask, doing, two_values, value_and_name, key_rule, rule}
-use Rattle.model.specs.Machine.{codes_of, MVal, MW, Module, Operand, OV, ON, OnTry, State, Run, after_op, load, act, steps}
-use Rattle.model.specs.Placed.{Is, TextAt, KeyAt, CodeV, CodeN, CodeA, Placed}
+use Rattle.model.specs.Machine.{codes_of, MVal, MW, Module, OV, ON, OnTry, State, Run, after_op, load, act, steps}
+use Rattle.model.specs.Placed.{Is, KeyAt, CodeV, CodeN, CodeA, Placed}
 use Rattle.model.specs.Alike.{VR, rstr, rint, rpat, rnam, rexp, VRs, rnil, rcons, WR}
 use Rattle.model.proofs.Following.{Here, push_all, rank}
 use Rattle.model.proofs.OperationsAlike.{OpR, arith_same, sign_same, cat_same, alt_same, cond_same, imm_same, indir_same, fetch_same, keyget_same}

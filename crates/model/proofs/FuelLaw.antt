@@ -1,11 +1,11 @@
 -- Going deeper, an ending stays and printed records only come on.
-use Rattle.std.proofs.Common.{◌≡◌, ℕ, zero, suc, ◌+◌, [], ◌++◌, Option, Some, None, refl, sym, ap, ◌∙◌, subst, append-nil, append_assoc}
+use Rattle.std.proofs.Common.{◌≡◌, zero, suc, ◌+◌, [], ◌++◌, Option, Some, None, sym, ap, ◌∙◌, subst, append-nil, append_assoc}
 use Rattle.model.specs.declared.run.Ending.{Ending}
 use Rattle.model.specs.Programs.{Program, program}
 use Rattle.model.specs.Values.{printed_of}
 use Rattle.model.specs.Meaning.{W, Res, Done, Fails, Ends, Open, run_rule, run, meaning}
 use Rattle.model.specs.Agreement.{Records, IsBeginning, seen_of, first_w, mean, EndingStays, PrintedGrows}
-use Rattle.model.proofs.MeaningGrows.{Before, before_refl, Goes_on, Later, later, Grows, same, open_to, Settled, at_depth, grows, follow_grows, follow_stays, zero_and, suc_and}
+use Rattle.model.proofs.MeaningGrows.{before_refl, Goes_on, Later, later, Grows, same, open_to, Settled, grows, follow_grows, follow_stays, zero_and, suc_and}
 use Rattle.model.proofs.MeaningPrints.{on}
 
 settled_of : (r : Res (record {})) (e : Ending) → (seen_of r).ending ≡ Some e → Settled r

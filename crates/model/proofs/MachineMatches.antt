@@ -20,6 +20,7 @@ module _ (s : List ℕ) (code : Code) where
     where
       over : (e : Pt.Event ℕ) → S.event_of x ≡ e → IsOver s code e → S.event_of x ≡ Running
       over e q o = ap S.event_of (sym (all_stays s code l x (subst (IsOver s code) (sym q) o))) ∙ h
+
       go : (e : Pt.Event ℕ) → S.event_of x ≡ e → S.event_of x ≡ Running
       go Running q = q
       go Failed q = over Failed q tt
@@ -43,6 +44,7 @@ module _ (s : List ℕ) (code : Code) where
   IsAsk : Pt.Event ℕ → Type 0
   IsAsk (Asks v) = Unit {0}
   IsAsk _ = ⊥
+
   pub asks_more : (z : Answer Code) (x : S.State) (v : Ask ℕ) → S.event_of x ≡ Asks v → S.event_of (S.with_more (z ∷ []) x) ≡ Running
   unfolding IsAsk
   asks_more z (Starting b left u) v h = refl
@@ -86,6 +88,7 @@ module _ (img : Module) (g : Matching) (fs : List Frame) (m : MW) where
     where
       now : (e : Pt.Event ℕ) → S.event_of (K 1 st) ≡ e → IsOver g.subject g.code e → Came st
       now e q h = record { i = 0; at = refl; over = subst (IsOver g.subject g.code) (sym q) h; last = r }
+
       go : (S.event_of (K 1 st) ≡ Running → Came (K 1 st)) → (e : Pt.Event ℕ) → S.event_of (K 1 st) ≡ e → Came st
       go f Running q = let c = f q in record { i = suc c.i; at = ap (λ e. steps img (suc c.i) (on_event img e g (K 1 st) fs m)) q ∙ c.at; over = c.over; last = c.last }
       go f Failed q = now Failed q tt

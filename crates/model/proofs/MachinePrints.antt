@@ -9,15 +9,15 @@ use Rattle.model.specs.Target.{Name}
 use Rattle.model.specs.Values.{Function, Defined, Constructor, Field, printed_of, enter_stmt, count_failure}
 use Rattle.model.specs.Conversions.{Op, Conv, Got, Bad, to_label, answer_of}
 use Rattle.model.specs.Operators.{told_value}
-use Rattle.model.specs.Calls.{Kept, return_of, kept_of, enter_call}
+use Rattle.model.specs.Calls.{return_of, kept_of, enter_call}
 use Rattle.model.specs.Primitives.{Outcome, Returns, Calls}
 use Rattle.model.specs.Pattern as p
 use Rattle.model.specs.Pattern.{Running, Failed, Asks, Matched, AskFor, SayThat}
 use Rattle.model.specs.Steps as s
 use Rattle.model.specs.Meaning.{over_limit}
-use Rattle.model.specs.Machine.{PCode, MVal, MW, MGiven, codes_of, Fetched, Nowhere, At, Module, Operand, OV, ON, OR, Matching, Frame, InCall, InEval, Handler, OnBegin, OnTry, Caller, State, Run, InMatch, Over, Stuck, fail_to, after_op, resume_as, return_to, pop, pop_name, pop_span, pop_many, untry, unbegin, load, supplied, ret, match_from, to_stmt, to_known, to_return, to_text_label, call, finish, on_event, put, put_name, put_none, calls, primitive, act, step_at, step, steps, world_of}
+use Rattle.model.specs.Machine.{PCode, MVal, MW, MBack, codes_of, Fetched, Nowhere, At, Module, Operand, OV, ON, OR, Matching, Frame, InCall, InEval, Handler, OnBegin, OnTry, Caller, State, Run, InMatch, Over, Stuck, fail_to, after_op, resume_as, return_to, pop, pop_name, pop_span, pop_many, untry, unbegin, load, supplied, ret, match_from, to_stmt, to_known, to_return, to_text_label, call, finish, on_event, put, put_name, put_none, calls, primitive, act, step_at, step, steps, world_of}
 use Rattle.model.proofs.MeaningGrows.{Before, before_refl, before_trans}
-use Rattle.model.proofs.OperationsPrint.{OpOn, gon, ron, fon, same_printed, conv_on, arith_on, sign_on, cat_on, alt_on, cond_on, imm_on, indir_on, fetch_on, assign_on, assign_all_on, splice_on, keyset_on, match_on, element_on, prim_on, enter_on, leave_on, as_value_on, as_name_on, construct_on, select_on}
+use Rattle.model.proofs.OperationsPrint.{OpOn, gon, ron, fon, same_printed, arith_on, sign_on, cat_on, alt_on, cond_on, imm_on, indir_on, fetch_on, assign_on, assign_all_on, splice_on, keyset_on, match_on, element_on, prim_on, enter_on, leave_on, as_value_on, as_name_on, construct_on, select_on}
 
 -- the state after goes on from the world before
 record On (m : MW) (s : State) : Type 0 where
@@ -41,7 +41,7 @@ op_on hs ops fs k (fon b) h = record { is = b }
 on_trans : (m v : MW) (s : State) → Before m v → On v s → On m s
 on_trans m v s b o = record { is = before_trans m v (world_of s) b o.is }
 
-resume_on : (want : Bool) (c : Caller) (fs : List Frame) (g : MGiven) (m : MW) → On m (resume_as want c fs g m)
+resume_on : (want : Bool) (c : Caller) (fs : List Frame) (g : MBack) (m : MW) → On m (resume_as want c fs g m)
 resume_on true c fs g m = op_on c.hs c.ops fs _ (as_name_on g m) (λ n v b. record { is = b })
 resume_on false c fs g m = op_on c.hs c.ops fs _ (as_value_on g m) (λ n v b. record { is = b })
 

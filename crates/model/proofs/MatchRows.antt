@@ -1,13 +1,13 @@
 -- Worked cases: matches.
-use Rattle.std.proofs.Common.{◌≡◌, ℕ, List, [], ◌∷◌, ◌++◌, ℤ, pos, Option, None, Some, codes, decimal, if◌then◌else◌, nat_eq, refl}
+use Rattle.std.proofs.Common.{◌≡◌, [], ◌∷◌, Some, codes, decimal, refl}
 use Rattle.model.specs.declared.run.ErrorCode.TheVariants as error
 use Rattle.model.specs.declared.trees.Unary.TheVariants as u
 use Rattle.model.specs.declared.trees.Binary.TheVariants as b
-use Rattle.model.specs.Trees.{Expr, Name, Literal, Keyword, Call, Reference, Apply, Combine, Args, Nil, Label, Body, Nothing, Evaluate, Match, Assign, Replace, Goto, Next, Always, OnSuccess, OnFailure, Stmt}
+use Rattle.model.specs.Trees.{Name, Literal, Keyword, Call, Apply, Combine, Label, Match, Assign, Replace, Next, Always, OnSuccess, OnFailure}
 use Rattle.model.specs.Names.{prim_named, key_named, named}
 use Rattle.model.specs.Meaning.{meaning}
-use Rattle.model.specs.Agreement.{mean, Inputs}
-use Rattle.model.proofs.RowDecks.{deck, num, args, OUTPUT, does, at, sets, set, out, no_inputs, runs, ends_normally, ends_with, ends_at_limit}
+use Rattle.model.specs.Agreement.{mean}
+use Rattle.model.proofs.RowDecks.{deck, num, args, OUTPUT, does, at, sets, set, out, no_inputs, runs, ends_normally, ends_with}
 
 -- ` 'BEADS' ('BE' | 'BEA') . OUTPUT`
 longer_alternative : mean 40 (deck (does (Match (Literal (codes "BEADS")) (Combine b.Conditional (Combine b.Alternate (Literal (codes "BE")) (Literal (codes "BEA"))) OUTPUT)) Next ∷ [])) no_inputs ≡ ends_normally (codes "BE" ∷ [])

@@ -1,10 +1,9 @@
 -- The machine follows matches: the steps of pattern code come to what the search of its pattern comes to.
-use Rattle.std.proofs.Common.{⊎_elim, ◌≡◌, ℕ, suc, ◌+◌, ◌≤◌, List, [], ◌∷◌, ◌++◌, Option, Some, None, ◌⊎◌, inl, inr, refl, sym, ap, ◌∙◌, subst, arith, le_refl}
+use Rattle.std.proofs.Common.{⊎_elim, ◌≡◌, ℕ, suc, ◌+◌, ◌≤◌, [], ◌∷◌, ◌++◌, Option, Some, None, ◌⊎◌, inl, inr, refl, sym, ap, ◌∙◌, subst, arith, le_refl}
 use Rattle.std.proofs.lemmas.Bool.{cases_lt}
 use Rattle.model.specs.declared.instr.Instr.TheVariants as op
 use Rattle.model.specs.Trees.{Bytes, Expr}
 use Rattle.model.specs.Programs.{Program}
-use Rattle.model.specs.Values.{Pattern}
 use Rattle.model.specs.Conversions.{Conv}
 use Rattle.model.specs.Pattern as Pt
 use Rattle.model.specs.Pattern.{Answer, Running, Failed, Asks, Matched, AskFor, SayThat}
@@ -30,6 +29,7 @@ module _ (prog : Program) (img : Module) (trees_at : ℕ → Option Expr) (place
 
   next_suc : (n i : ℕ) → suc (n + i) ≡ n + suc i
   next_suc n i = omega arith
+
   alike_end : {t : Script} {u : S.Answers} {y : Answer Pt.Pat} {z : Answer PCode} → Alike trees_at t u → AlikeAnswer trees_at y z → Alike trees_at (t ++ y ∷ []) (u ++ z ∷ [])
   alike_end St.none h = St.more h St.none
   alike_end (St.more k r) h = St.more k (alike_end r h)
@@ -58,14 +58,23 @@ module _ (prog : Program) (img : Module) (trees_at : ℕ → Option Expr) (place
   module _ (s : Bytes) (p : Pt.Pat) (left : ℕ) (u : Script) (t : MatchHere trees_at s p left u) where
     abbrev Qm : Span → W → State → Type 0
     Qm r w c = (w' : MW) × R w w' × (c ≡ Run t.g.place (found_as t.g.keep t.g.subject r.start r.end t.g.ops) t.g.hs t.fs w')
+
     abbrev Fm : W → State → Type 0
     Fm w c = failed_at prog img trees_at t.g.hs t.g.ops t.fs w c
+
     abbrev X : ℕ → S.State
     X n = S.match_steps t.g.subject t.g.code left 0 t.answers n
+
     -- the first event, and the match with one more answer
     more_task : {y : Answer Pt.Pat} {z : Answer PCode} (i : ℕ) (v : Pt.Ask ℕ) → AlikeAnswer trees_at y z → S.event_of (S.steps t.g.subject t.g.code i t.st) ≡ Running → S.event_of (S.steps t.g.subject t.g.code (suc i) t.st) ≡ Asks v → MatchHere trees_at s p left (u ++ y ∷ [])
     more_task {z = z} i v al run is = record {
-      g = t.g; fs = t.fs; fit = t.fit; subject = t.subject; stands = t.stands; answers = t.answers ++ z ∷ []; alike = alike_end t.alike al;
+      g = t.g;
+      fs = t.fs;
+      fit = t.fit;
+      subject = t.subject;
+      stands = t.stands;
+      answers = t.answers ++ z ∷ [];
+      alike = alike_end t.alike al;
       st = S.with_more (z ∷ []) (S.steps t.g.subject t.g.code (suc i) t.st);
       so_far = suc (t.so_far + i);
       at = more_at t.g.subject t.g.code left t.answers z (t.so_far + i) (ap S.event_of (shifted i) ∙ run) ∙ ap (S.with_more (z ∷ [])) (ap X (next_suc t.so_far i) ∙ shifted (suc i));
@@ -74,16 +83,19 @@ module _ (prog : Program) (img : Module) (trees_at : ℕ → Option Expr) (place
       where
         shifted : (j : ℕ) → X (t.so_far + j) ≡ S.steps t.g.subject t.g.code j t.st
         shifted j = steps_more t.g.subject t.g.code t.so_far j (S.Starting 0 left t.answers) ∙ ap (S.steps t.g.subject t.g.code j) t.at
+
     again_follows : {y : Answer Pt.Pat} {z : Answer PCode} {n : ℕ} {w : W} {m : MW} (i : ℕ) (v : Pt.Ask ℕ) → AlikeAnswer trees_at y z → S.event_of (S.steps t.g.subject t.g.code i t.st) ≡ Running → S.event_of (S.steps t.g.subject t.g.code (suc i) t.st) ≡ Asks v → 1 ≤ n → R w m
         → Fw prog img trees_at placed n (InMatch t.g (S.with_more (z ∷ []) (S.steps t.g.subject t.g.code (suc i) t.st)) t.fs m) Qm Fm (again s p left u y w)
     unfolding more_task
     again_follows {n = n} {m = m} i v al run is le wr = record {
       by = (0, more_task i v al run is, m, refl, wr, n, le, inr (le_refl n), (λ r w1 d h. (0, h)), (λ w1 d h. (0, h)));
     }
+
     answer_follows : {c : Conv (Answer Pt.Pat)} {c' : Conv (Answer PCode)} {n : ℕ} {w : W} {m : MW} (i : ℕ) (v : Pt.Ask ℕ) → ConvR (AlikeAnswer trees_at) c c' → S.event_of (S.steps t.g.subject t.g.code i t.st) ≡ Running → S.event_of (S.steps t.g.subject t.g.code (suc i) t.st) ≡ Asks v → 1 ≤ n → R w m
         → Fw prog img trees_at placed n (supplied c' t.g (S.steps t.g.subject t.g.code (suc i) t.st) t.fs m) Qm Fm (answering s p left u c w)
     answer_follows i v (got al) run is le wr = again_follows i v al run is le wr
     answer_follows i v (bad e) run is le wr = faulted prog img trees_at placed e wr
+
     -- what follows each event
     event_follows : {w : W} {m : MW} (i : ℕ) (x : Event) (y : Pt.Event ℕ) → AlikeEvent trees_at x y → S.event_of (S.steps t.g.subject t.g.code i t.st) ≡ Running → S.event_of (S.steps t.g.subject t.g.code (suc i) t.st) ≡ y → R w m
         → (n : ℕ) × Fw prog img trees_at placed n (on_event img y t.g (S.steps t.g.subject t.g.code (suc i) t.st) t.fs m) Qm Fm (match_rule s p left u w x)
@@ -96,23 +108,32 @@ module _ (prog : Program) (img : Module) (trees_at : ℕ → Option Expr) (place
       where
         n : ℕ
         n = suc (rank (QVal e))
+
         st : S.State
         st = S.steps t.g.subject t.g.code (suc i) t.st
+
         go : (p' q' r' : ℕ) × (img.expr l ≡ Some p') × CodeV prog img trees_at e p' q' × Is prog img trees_at q' op.Ret r' → (n : ℕ) × Fw prog img trees_at placed n (on_event img (Asks (AskFor l k)) t.g st t.fs m) Qm Fm (match_rule s p left u w (Asks (AskFor e k)))
-        go (p', q', r', ex, code, ret) =
-            (n, from prog img trees_at placed 0 (ap (λ o. to_stmt img o (InEval t.g k st ∷ t.fs) m) ex)
-            (ask_val prog img trees_at placed (record { p = p'; q = q'; ops = []; hs = []; fs = InEval t.g k st ∷ t.fs; fit = tt }) 0 code refl wr (le_refl n)
-            (λ a w1 x m1 ha r1. from prog img trees_at placed 1 (one prog img trees_at placed q' r' op.Ret (OV x ∷ []) [] (InEval t.g k st ∷ t.fs) m1 ret) (answer_follows i (AskFor l k) (answer_same trees_at k ha) run is (omega arith) r1))
-            (λ w1 m1 r1. again_follows i (AskFor l k) St.failed run is (omega arith) r1)))
+        go (p', q', r', ex, code, ret) = (
+          n,
+          from prog img trees_at placed 0 (ap (λ o. to_stmt img o (InEval t.g k st ∷ t.fs) m) ex)
+              (ask_val prog img trees_at placed (record { p = p'; q = q'; ops = []; hs = []; fs = InEval t.g k st ∷ t.fs; fit = tt }) 0 code refl wr (le_refl n)
+              (λ a w1 x m1 ha r1. from prog img trees_at placed 1 (one prog img trees_at placed q' r' op.Ret (OV x ∷ []) [] (InEval t.g k st ∷ t.fs) m1 ret) (answer_follows i (AskFor l k) (answer_same trees_at k ha) run is (omega arith) r1))
+              (λ w1 m1 r1. again_follows i (AskFor l k) St.failed run is (omega arith) r1)),
+        )
+
     -- the events of the two
     follows_scan : (n : ℕ) → (scan s n p left 0 u ≡ Running → ⊥) → (k : ℕ) × AlikeEvent trees_at (scan s n p left 0 u) (S.event_of (X k))
     follows_scan n = subst (λ z. (scan z n p left 0 u ≡ Running → ⊥) → (k : ℕ) × AlikeEvent trees_at (scan z n p left 0 u) (S.event_of (X k))) t.subject (λ h. steps_of_scan t.g.subject trees_at p t.g.code t.stands n left 0 u t.answers t.alike h)
+
     scan_follows : (k : ℕ) → (S.event_of (X k) ≡ Running → ⊥) → (n : ℕ) × AlikeEvent trees_at (scan s n p left 0 u) (S.event_of (X k))
     scan_follows k = subst (λ z. (S.event_of (X k) ≡ Running → ⊥) → (n : ℕ) × AlikeEvent trees_at (scan z n p left 0 u) (S.event_of (X k))) t.subject (λ h. scan_of_steps t.g.subject trees_at p t.g.code t.stands k left 0 u t.answers t.alike h)
+
     from_there : (j : ℕ) → X (t.so_far + j) ≡ S.steps t.g.subject t.g.code j t.st
     from_there j = steps_more t.g.subject t.g.code t.so_far j (S.Starting 0 left t.answers) ∙ ap (S.steps t.g.subject t.g.code j) t.at
+
     abbrev Is_over : ℕ → Type 0
     Is_over j = IsOver t.g.subject t.g.code (S.event_of (S.steps t.g.subject t.g.code j t.st))
+
     -- where the scan comes to an event, so does the match, and first to that one
     came_at : (m : MW) (n : ℕ) (e : Event) → told_at (scan s n p left 0 u) ≡ Some e → (c : Came img t.g t.fs m t.st) × AlikeEvent trees_at e (S.event_of (S.steps t.g.subject t.g.code (suc c.i) t.st))
     came_at m n e h =
@@ -123,21 +144,26 @@ module _ (prog : Program) (img : Module) (trees_at : ℕ → Option Expr) (place
         let o2 : Is_over k.0 = subst (IsOver t.g.subject t.g.code) (sym there) o in
         let c = come img t.g t.fs m k.0 t.st t.runs o2 in
         (c, subst (AlikeEvent trees_at e) (sym there ∙ one_event t.g.subject t.g.code k.0 (suc c.i) t.st o2 c.over) (subst (λ x. AlikeEvent trees_at x (S.event_of (X k.0))) (told_is (scan s n p left 0 u) e h) k.1))
+
     abbrev G : ℕ → Option Event
     G n = told_at (scan s n p left 0 u)
+
     found : (w : W) (m : MW) → R w m → (n : ℕ) (e : Event) → G n ≡ Some e → (j r' : ℕ) × ((1 ≤ j) ⊎ (r' ≤ 0)) × Follows prog img trees_at r' (steps img j (InMatch t.g t.st t.fs m)) Qm Fm (match_rule s p left u w e)
     found w m wr n e h =
         let c = came_at m n e h in
         let st : S.State = S.steps t.g.subject t.g.code (suc c.0.i) t.st in
         let f = event_follows c.0.i e (S.event_of st) c.1 c.0.last refl wr in
         (suc c.0.i, f.0, inl (omega arith), (from prog img trees_at placed 0 c.0.at f.1).by)
+
     late : (w : W) (m : MW) (wr : R w m) (l : ℕ) → S.event_of (S.steps t.g.subject t.g.code l t.st) ≡ Running → (n : ℕ) (e : Event) (h : G n ≡ Some e) → l ≤ (found w m wr n e h).0
     unfolding found
     late w m wr l run n e h =
         let c = came_at m n e h in
         ⊎_elim (λ lt. absurd (subst (IsOver t.g.subject t.g.code) (sym (later t.g.subject t.g.code (suc c.0.i) l t.st (S.event_of (S.steps t.g.subject t.g.code (suc c.0.i) t.st)) c.0.over (omega arith) refl) ∙ run) c.0.over)) (λ le. le) (cases_lt (suc c.0.i) l)
+
     still_now : (w : W) (m : MW) → R w m → (l : ℕ) → S.event_of (S.steps t.g.subject t.g.code l t.st) ≡ Running → Still prog img trees_at (steps img l (InMatch t.g t.st t.fs m)) w
     still_now w m wr l run = subst (λ s. Still prog img trees_at s w) (sym (busy img t.g t.fs m l t.st run)) (ap (λ p. p.printed) (sym wr.io))
+
     known : (w : W) (m : MW) (wr : R w m) (l : ℕ) → ((n : ℕ) × (e : Event) × (G n ≡ Some e)) ⊎ ((i : ℕ) × (l ≤ i) × Still prog img trees_at (steps img i (InMatch t.g t.st t.fs m)) w × ((n : ℕ) (e : Event) (h : G n ≡ Some e) → l ≤ (found w m wr n e h).0))
     known w m wr l = go (S.event_of (S.steps t.g.subject t.g.code l t.st)) refl
       where
@@ -145,11 +171,12 @@ module _ (prog : Program) (img : Module) (trees_at : ℕ → Option Expr) (place
         is_over y o q =
             let a = scan_follows (t.so_far + l) (λ r. subst (IsOver t.g.subject t.g.code) (sym q ∙ ap S.event_of (sym (from_there l)) ∙ r) o) in
             (a.0, scan s a.0 p left 0 u, alike_runs (scan s a.0 p left 0 u) (S.event_of (X (t.so_far + l))) a.1)
+
         go : (y : Pt.Event ℕ) → S.event_of (S.steps t.g.subject t.g.code l t.st) ≡ y → ((n : ℕ) × (e : Event) × (G n ≡ Some e)) ⊎ ((i : ℕ) × (l ≤ i) × Still prog img trees_at (steps img i (InMatch t.g t.st t.fs m)) w × ((n : ℕ) (e : Event) (h : G n ≡ Some e) → l ≤ (found w m wr n e h).0))
         go Running q = inr (l, le_refl l, still_now w m wr l q, late w m wr l q)
         go Failed q = inl (is_over Failed tt q)
         go (Asks v) q = inl (is_over (Asks v) tt q)
         go (Matched b e a) q = inl (is_over (Matched b e a) tt q)
+
     pub match_local : (w : W) (m : MW) → R w m → Follows prog img trees_at 0 (InMatch t.g t.st t.fs m) Qm Fm (rule prog (QMatch s p left u) w)
     match_local w m wr = (found w m wr, known w m wr, (0, ap (λ p. p.printed) (sym wr.io)))
-

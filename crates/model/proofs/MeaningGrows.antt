@@ -2,7 +2,6 @@
 use Rattle.std.proofs.Common.{◌≡◌, ℕ, zero, suc, ◌+◌, Option, Some, None, List, [], ◌++◌, refl, sym, ap, ◌∙◌, subst, append_assoc, append-nil, arith}
 use Rattle.model.specs.Programs.{Program}
 use Rattle.model.specs.Values.{World, printed_of}
-use Rattle.model.specs.declared.run.Ending.{Ending}
 use Rattle.model.specs.Meaning.{W, Res, Done, Fails, Ends, Open, Query, Ans, Rule, Ret, Fail, Stop, Ask, Seek, Event, sought, rule, after, follow, meaning}
 
 world_in : {A : Type 0} → Res A → W

@@ -1,5 +1,5 @@
 -- Each rule goes on from the world that it is given: nothing printed is taken back.
-use Rattle.std.proofs.Common.{◌≡◌, ℕ, suc, arith, List, [], ◌∷◌, ◌++◌, Option, Some, None, Bool, true, false, if◌then◌else◌, refl, sym, ap, ◌∙◌, subst}
+use Rattle.std.proofs.Common.{◌≡◌, ℕ, suc, arith, List, [], Option, Some, None, Bool, true, false, if◌then◌else◌, refl, sym, ap, ◌∙◌, subst}
 use Rattle.model.specs.declared.instr.ReturnKind.{ReturnKind}
 use Rattle.model.specs.declared.keys.KeyId.{KeyId}
 use Rattle.model.specs.declared.primitives.PrimId.{PrimId}
@@ -8,21 +8,21 @@ use Rattle.model.specs.declared.trees.Unary.TheVariants as u
 use Rattle.model.specs.declared.trees.Binary.TheVariants as b
 use Rattle.model.specs.declared.instr.ArithOp.TheVariants as a
 use Rattle.model.specs.declared.instr.SignOp.TheVariants as sign
-use Rattle.model.specs.Trees.{Bytes, Expr, Name, Integer, Literal, Keyword, Call, Reference, Apply, Combine, Args, Nil, More, Absent, Given, Place, Label, Computed, Goto, Body, Nothing, Evaluate, Match, Assign, Replace, Stmt, Plain, End}
+use Rattle.model.specs.Trees.{Bytes, Expr, Name, Integer, Literal, Keyword, Call, Reference, Apply, Combine, Args, Nil, More, Absent, Given, Place, Label, Computed, Nothing, Evaluate, Match, Assign, Replace, Stmt, Plain, End}
 use Rattle.model.specs.Names.{key_named, prim_named}
 use Rattle.model.specs.Target as target
 use Rattle.model.specs.Programs.{Program}
-use Rattle.model.specs.Values.{Value, Str, Pattern, trees, Function, Defined, Constructor, Field, World, printed_of, enter_stmt, count_failure}
-use Rattle.model.specs.Conversions.{Op, Gives, Refuses, Faults, Conv, Got, Bad, to_label, answer_of}
+use Rattle.model.specs.Values.{Str, Pattern, trees, Function, Defined, Constructor, Field, enter_stmt, count_failure}
+use Rattle.model.specs.Conversions.{Op, Conv, Got, Bad, to_label, answer_of}
 use Rattle.model.specs.Operators.{told_value}
 use Rattle.model.specs.Calls.{Kept, return_of, kept_of, enter_call}
 use Rattle.model.specs.Primitives.{Outcome, Returns, Calls}
 use Rattle.model.specs.Pattern.{Answer, IsSaid, IsFailed, Running, Failed, Asks, Matched, AskFor, SayThat}
 use Rattle.model.specs.Search.{Script, scan}
-use Rattle.model.specs.Meaning.{Val, W, Given', Query, QVal, QName, QArgs, QBody, QExec, QMatch, Rule, Ret, Fail, Stop, Ask, Seek, Event, doing, told_at, again, answering, match_rule, two_values, value_and_name, key_rule, function_op, object_rule, set_key_rule, key_target, assign_rule, onward_of, other_of, over_limit, to_known, to_return, to_text_label, go_on, exec_rule, entered, call_rule, finish, function_rule, rule}
+use Rattle.model.specs.Meaning.{Val, W, Back, Query, QVal, QName, QArgs, QBody, QExec, QMatch, Rule, Ret, Fail, Stop, Ask, Seek, Event, doing, told_at, again, answering, match_rule, two_values, value_and_name, key_rule, function_op, object_rule, set_key_rule, key_target, assign_rule, onward_of, other_of, over_limit, to_known, to_return, to_text_label, go_on, exec_rule, entered, call_rule, finish, function_rule, rule}
 use Rattle.model.proofs.PatternLaws.{scan_stays}
 use Rattle.model.proofs.MeaningGrows.{Before, before_refl, before_trans, Goes_on}
-use Rattle.model.proofs.OperationsPrint.{OpOn, gon, ron, fon, same_printed, op_later, arith_on, sign_on, cat_on, alt_on, cond_on, imm_on, indir_on, fetch_on, assign_on, assign_all_on, splice_on, keyset_on, match_on, element_on, prim_on, enter_on, leave_on, as_value_on, as_name_on, construct_on, select_on}
+use Rattle.model.proofs.OperationsPrint.{OpOn, gon, ron, fon, same_printed, arith_on, sign_on, cat_on, alt_on, cond_on, imm_on, indir_on, fetch_on, assign_on, assign_all_on, splice_on, keyset_on, match_on, element_on, prim_on, enter_on, leave_on, as_value_on, as_name_on, construct_on, select_on}
 
 -- an operation at the end
 last : {A : Type 0} {v : W} {o : Op W A} → OpOn v o → Goes_on v (doing o Ret)
@@ -137,22 +137,22 @@ module _ (prog : Program) where
       go true = first w
       go false = (same_printed w _ refl, (λ _ x h. go_on_on k (onward_of g) x), (λ x h. goes_trans x (count_failure x) (go_on prog k (other_of g) (count_failure x)) (same_printed x _ refl) (go_on_on k (other_of g) (count_failure x))))
 
-  entered_on : {A : Type 0} (c : Kept Pattern Expr) (r : Option ReturnKind) (o : Option ℕ) (w : W) (k : Given' → W → Rule A) → ((g : Given') (x : W) → Goes_on x (k g x)) → Goes_on w (entered prog c r o w k)
+  entered_on : {A : Type 0} (c : Kept Pattern Expr) (r : Option ReturnKind) (o : Option ℕ) (w : W) (k : Back → W → Rule A) → ((g : Back) (x : W) → Goes_on x (k g x)) → Goes_on w (entered prog c r o w k)
   entered_on c (Some r) o w k h = then_from k (leave_on r c w) h
   entered_on c None None w k h = first w
   entered_on c None (Some n) w k h = (first w, (λ r x i. then_from k (leave_on r c x) h), (λ x i. first x))
 
-  call_on : {A : Type 0} (f : Bytes) (vs : List Val) (o : Option Function) (w : W) (k : Given' → W → Rule A) → ((g : Given') (x : W) → Goes_on x (k g x)) → Goes_on w (call_rule prog f vs o w k)
+  call_on : {A : Type 0} (f : Bytes) (vs : List Val) (o : Option Function) (w : W) (k : Back → W → Rule A) → ((g : Back) (x : W) → Goes_on x (k g x)) → Goes_on w (call_rule prog f vs o w k)
   call_on f vs None w k h = first w
   call_on f vs (Some (Defined entry xs ys)) w k h = goes_trans w (enter_call f xs ys vs w) _ (enter_on f xs ys vs w) (entered_on (kept_of f xs ys w) (return_of entry) (prog.label entry) (enter_call f xs ys vs w) k h)
   call_on f vs (Some (Constructor fields)) w k h = then_from k (construct_on f fields vs w) h
   call_on f vs (Some Field) w k h = then_from k (select_on f vs w) h
 
-  finish_on : {A : Type 0} (r : Outcome Pattern Expr) (w : W) (k : Given' → W → Rule A) → ((g : Given') (x : W) → Goes_on x (k g x)) → Goes_on w (finish prog r w k)
+  finish_on : {A : Type 0} (r : Outcome Pattern Expr) (w : W) (k : Back → W → Rule A) → ((g : Back) (x : W) → Goes_on x (k g x)) → Goes_on w (finish prog r w k)
   finish_on (Returns g) w k h = h g w
   finish_on (Calls f vs) w k h = call_on f vs (w.plain.functions f) w k h
 
-  function_rule_on : {A : Type 0} (f : Bytes) (args : Args) (w : W) (k : Given' → W → Rule A) → ((g : Given') (x : W) → Goes_on x (k g x)) → Goes_on w (function_rule prog f args w k)
+  function_rule_on : {A : Type 0} (f : Bytes) (args : Args) (w : W) (k : Back → W → Rule A) → ((g : Back) (x : W) → Goes_on x (k g x)) → Goes_on w (function_rule prog f args w k)
   function_rule_on f args w k h = (first w, (λ vs x i. then_from _ (function_on (prim_named f) f vs x) (λ r z. finish_on r z k h)), (λ x i. first x))
 
   -- ---- all rules

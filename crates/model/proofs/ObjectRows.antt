@@ -1,13 +1,13 @@
 -- Worked cases: arrays, tables, records and units.
-use Rattle.std.proofs.Common.{◌≡◌, ℕ, List, [], ◌∷◌, ◌++◌, ℤ, pos, Option, None, Some, codes, decimal, if◌then◌else◌, nat_eq, refl}
+use Rattle.std.proofs.Common.{◌≡◌, [], ◌∷◌, codes, decimal, if◌then◌else◌, nat_eq, refl}
 use Rattle.model.specs.declared.run.ErrorCode.TheVariants as error
 use Rattle.model.specs.declared.trees.Unary.TheVariants as u
 use Rattle.model.specs.declared.trees.Binary.TheVariants as b
-use Rattle.model.specs.Trees.{Expr, Name, Literal, Keyword, Call, Reference, Apply, Combine, Args, Nil, Label, Body, Nothing, Evaluate, Match, Assign, Replace, Goto, Next, Always, OnSuccess, OnFailure, Stmt}
+use Rattle.model.specs.Trees.{Name, Literal, Keyword, Call, Reference, Apply, Combine, Label, Evaluate, Next, OnSuccess, OnFailure}
 use Rattle.model.specs.Names.{prim_named, key_named, named}
 use Rattle.model.specs.Meaning.{meaning}
-use Rattle.model.specs.Agreement.{mean, Inputs}
-use Rattle.model.proofs.RowDecks.{deck, num, args, OUTPUT, does, at, sets, set, out, no_inputs, runs, ends_normally, ends_with, ends_at_limit}
+use Rattle.model.specs.Agreement.{mean}
+use Rattle.model.proofs.RowDecks.{deck, num, args, OUTPUT, does, at, sets, set, out, no_inputs, ends_normally, ends_with}
 
 -- ` A = ARRAY('3')`, ` B = A`, ` B<1> = 5`, ` OUTPUT = A<1>`, ` OUTPUT = A<99> :S(END)`, ` OUTPUT = 'NO'`
 arrays_are_shared : mean 80 (deck (set (Name (codes "A")) (Call (codes "ARRAY") (args ((Literal (codes "3")) ∷ []))) ∷ set (Name (codes "B")) (Name (codes "A")) ∷ set (Reference (codes "B") (args ((num 1) ∷ []))) (num 5) ∷ out (Reference (codes "A") (args ((num 1) ∷ []))) ∷ does (sets OUTPUT (Reference (codes "A") (args ((num 99) ∷ [])))) (OnSuccess (Label (codes "END"))) ∷ out (Literal (codes "NO")) ∷ [])) no_inputs ≡ ends_normally (decimal 5 ∷ codes "NO" ∷ [])

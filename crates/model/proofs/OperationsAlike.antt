@@ -14,9 +14,9 @@ use Rattle.model.specs.Pattern as p
 use Rattle.model.specs.Pattern.{Basic, Lit, Pending, Answer, IsPattern, IsCount, IsBytes, Want, WantPattern, WantCount, WantBytes, Told, Text, Number, Kind, want_of, with_answer}
 use Rattle.model.specs.PatternCode.{basic_code}
 use Rattle.model.specs.Stands.{Stands, AlikeAnswer, patterns, counts, bytes, failed, said}
-use Rattle.model.specs.Values.{Str, Int, Pat, Nam, Exp, Obj, Pattern, trees, Plain, Key, IntegerAt, StringAt, Entry, Object, ArrayOf, TableOf, RecordOf, set_plain, set_io, set_objects, set_var, keys_of, set_keys, enter_stmt, count_failure}
+use Rattle.model.specs.Values.{Pat, Pattern, trees, Plain, Key, IntegerAt, StringAt, Entry, Object, set_plain, set_io, set_objects, set_var, keys_of, set_keys, enter_stmt, count_failure}
 use Rattle.model.specs.Conversions.{Conv, Got, Bad, Op, Gives, Refuses, Faults, conv, then_conv, then_op, to_text, to_integer, to_pattern, to_name, to_label, to_variable, variable_of, is_null, count_of, set_of, answer_of}
-use Rattle.model.specs.Operators.{arith_of, arith_op, sign_of, sign_op, limited, two_patterns, joined, join_rest, cat_op, alt_op, cond_op, imm_op, indir_op, take_record, fetch_var, same_key, element_of, value_for, entry_of, onto, with_item, with_entry, with_elements, with_element, with_value_for, there, fetch_op, print_text, write_var, put_objects, put_object, assign_op, assign_all, splice_op, key_as_value, keyget_op, keyset_op, kind_op, told_value, Begun, match_op}
+use Rattle.model.specs.Operators.{arith_of, arith_op, sign_of, sign_op, limited, joined, join_rest, cat_op, alt_op, cond_op, imm_op, indir_op, take_record, fetch_var, same_key, element_of, value_for, entry_of, onto, with_item, with_entry, with_elements, with_element, with_value_for, there, fetch_op, print_text, write_var, put_objects, put_object, assign_op, assign_all, splice_op, key_as_value, keyget_op, keyset_op, kind_op, told_value, Begun, match_op}
 use Rattle.model.specs.Meaning.{Val, W}
 use Rattle.model.specs.Machine.{PCode, codes_of, MVal, MW}
 use Rattle.model.specs.Alike.{VR, rstr, rint, rpat, rnam, rexp, robj, VRs, rnil, rcons, EntriesR, enil, econs, ObjectR, rarray, rtable, rrecord, ObjectsR, onil, ocons, WR}

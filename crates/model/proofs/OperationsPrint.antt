@@ -1,5 +1,5 @@
 -- No operation takes back what was printed.
-use Rattle.std.proofs.Common.{◌≡◌, ℕ, zero, suc, List, [], ◌∷◌, ◌++◌, length, take, drop, slice_get, ℤ, pos, negsuc, Option, Some, None, Bool, true, false, nat_lt, if◌then◌else◌, refl, sym, ap, ◌∙◌, append-nil}
+use Rattle.std.proofs.Common.{◌≡◌, ℕ, zero, suc, List, [], ◌∷◌, ◌++◌, take, drop, slice_get, ℤ, pos, negsuc, Option, Some, None, Bool, true, false, if◌then◌else◌, refl, sym, ap, ◌∙◌, append-nil}
 use Rattle.model.specs.declared.run.ErrorCode.{ErrorCode}
 use Rattle.model.specs.declared.instr.ArithOp.{ArithOp}
 use Rattle.model.specs.declared.instr.SignOp.{SignOp}
@@ -10,15 +10,15 @@ use Rattle.model.specs.declared.primitives.PrimId.{PrimId}
 use Rattle.model.specs.declared.primitives.PrimId.TheVariants as p
 use Rattle.model.specs.Trees.{Bytes}
 use Rattle.model.specs.Target.{Name, Variable, Element, IntegerKey, StringKey}
-use Rattle.model.specs.Names.{prim_named, most_args}
-use Rattle.model.specs.Pattern.{Kind, KLen, KPos, KRPos, KTab, KRTab, KAny, KNotAny, KSpan, KBreak, Pending, Answer, want_of}
-use Rattle.model.specs.Values.{Value, Str, Int, Pat, Nam, Exp, Obj, Makes, Bounds, Entry, Object, ArrayOf, TableOf, RecordOf, Function, World, set_var, printed_of, keys_of}
+use Rattle.model.specs.Names.{prim_named}
+use Rattle.model.specs.Pattern.{Kind, KLen, KPos, KRPos, KTab, KRTab, KAny, KNotAny, KSpan, KBreak, Pending, want_of}
+use Rattle.model.specs.Values.{Value, Str, Int, Pat, Nam, Exp, Obj, Makes, Bounds, Entry, Object, ArrayOf, TableOf, RecordOf, World, set_var, printed_of}
 use Rattle.model.specs.Conversions.{Op, Gives, Refuses, Faults, Conv, Got, Bad, conv, then_op, to_text, to_integer, to_pattern, to_name, to_variable, is_null, answer_of}
-use Rattle.model.specs.Operators.{arith_of, arith_op, sign_of, sign_op, limited, two_patterns, joined, join_rest, cat_op, alt_op, cond_op, imm_op, indir_op, take_record, fetch_var, element_of, entry_of, there, fetch_op, print_text, write_var, with_item, with_element, with_value_for, put_objects, put_object, assign_op, assign_all, splice_op, keyget_op, keyset_op, kind_op, match_op}
+use Rattle.model.specs.Operators.{arith_of, arith_op, sign_of, sign_op, two_patterns, joined, join_rest, cat_op, alt_op, cond_op, imm_op, indir_op, take_record, fetch_var, there, fetch_op, print_text, write_var, with_item, put_objects, put_object, assign_op, assign_all, splice_op, keyset_op, kind_op, match_op}
 use Rattle.model.specs.Prototypes.{FunctionPrototype, function_prototype, TypePrototype, type_prototype, array_prototype}
-use Rattle.model.specs.Aggregates.{field_values, new_object, array_op, copy_of, copy_op, all_integers, named_element, key_name, table_element, element_in, element_op, named_field, field_in, field_op, rows_array, row_count, table_array, as_array, place_from, place_of, type_of}
-use Rattle.model.specs.Calls.{Given, AValue, AName, Saved, Kept, bind_arguments, restore, or_no_name, enter_call, leave_op, as_value, as_name, construct_op, select_op, arg_at}
-use Rattle.model.specs.Primitives.{Outcome, holds_if, compare_op, lgt_op, same_value, same_op, size_op, trim_op, repeated, dupl_op, replaced_in, replace_op, remainder, remdr_op, or_fail, converted, set_function, set_fields, data_op, entry_label, define_op, unit_number, unit_op, set_reads, set_writes, input_op, output_op, detach_op, returned, item_op, applied, prim_op}
+use Rattle.model.specs.Aggregates.{field_values, new_object, array_op, copy_of, copy_op, all_integers, named_element, key_name, table_element, element_in, element_op, named_field, field_in, field_op, rows_array, table_array, as_array, place_from, place_of}
+use Rattle.model.specs.Calls.{Returned, AValue, AName, Saved, Kept, bind_arguments, restore, or_no_name, enter_call, leave_op, as_value, as_name, construct_op, select_op, arg_at}
+use Rattle.model.specs.Primitives.{Outcome, holds_if, compare_op, same_value, same_op, repeated, remainder, or_fail, converted, set_fields, data_op, entry_label, define_op, unit_number, unit_op, set_reads, set_writes, returned, item_op, applied, prim_op}
 use Rattle.model.proofs.MeaningGrows.{Before, before_refl, before_trans}
 
 -- each world of an operation comes after this one
@@ -357,11 +357,11 @@ module _ {P E : Type 0} where
   leave_on kind.FReturn c w = ron (same_printed w _ (restore_on c.saved w))
   leave_on kind.NReturn c w = by_conv w (or_no_name (to_name (w.vars c.name))) _ (λ n. gon (same_printed w _ (restore_on c.saved w)))
 
-  pub as_value_on : (g : Given P E) (w : World P E) → OpOn w (as_value g w)
+  pub as_value_on : (g : Returned P E) (w : World P E) → OpOn w (as_value g w)
   as_value_on (AValue v) w = kept w
   as_value_on (AName n) w = fetch_on n w
 
-  pub as_name_on : (g : Given P E) (w : World P E) → OpOn w (as_name g w)
+  pub as_name_on : (g : Returned P E) (w : World P E) → OpOn w (as_name g w)
   as_name_on (AValue v) w = faulted w
   as_name_on (AName n) w = kept w
 

@@ -1,34 +1,31 @@
 -- Primitives and calls of the machine stand for those of the meaning.
-use Rattle.std.proofs.Common.{◌≡◌, ℕ, zero, suc, ◌+◌, ◌*◌, List, [], ◌∷◌, ◌++◌, length, map, replicate, slice_get, ℤ, pos, negsuc, int_le, int_lt, Option, Some, None, Bool, true, false, not, bytes_eq, nat_eq, nat_lt, if◌then◌else◌, refl, sym, ap, ◌∙◌, subst}
-use Rattle.model.specs.declared.run.ErrorCode.{ErrorCode}
+use Rattle.std.proofs.Common.{◌≡◌, ℕ, zero, suc, ◌+◌, ◌*◌, List, [], ◌∷◌, ◌++◌, length, replicate, ℤ, pos, negsuc, int_le, Option, Some, None, Bool, true, false, bytes_eq, nat_eq, nat_lt, if◌then◌else◌, refl, sym, ap, subst}
 use Rattle.model.specs.declared.run.ErrorCode.TheVariants as error
 use Rattle.model.specs.declared.instr.ReturnKind.{ReturnKind}
 use Rattle.model.specs.declared.instr.ReturnKind.TheVariants as kind
 use Rattle.model.specs.declared.primitives.PrimId.{PrimId}
 use Rattle.model.specs.declared.primitives.PrimId.TheVariants as p
 use Rattle.model.specs.Trees.{Bytes, Expr}
-use Rattle.model.specs.Target.{Name, Element}
 use Rattle.model.specs.Names.{prim_named, most_args}
 use Rattle.model.specs.Keywords.{counted, return_name}
 use Rattle.model.specs.Pattern.{KLen, KPos, KRPos, KTab, KRTab, KAny, KNotAny, KSpan, KBreak}
 use Rattle.model.specs.Stands.{Stands}
-use Rattle.model.specs.Values.{Value, Str, Int, Pat, Nam, Exp, Obj, Pattern, trees, Bounds, Key, IntegerAt, StringAt, Entry, Object, ArrayOf, TableOf, RecordOf, Function, Defined, Constructor, Field, Plain, set_plain, set_objects, set_var, keys_of}
-use Rattle.model.specs.Conversions.{Conv, Got, Bad, Op, Gives, Refuses, Faults, conv, then_conv, then_op, to_text, to_integer, to_pattern, to_name, to_label, to_variable, is_null, read_integer}
-use Rattle.model.specs.Operators.{fetch_op}
+use Rattle.model.specs.Values.{Str, Pat, Obj, Pattern, trees, Bounds, Key, IntegerAt, StringAt, Entry, Object, ArrayOf, Function, Defined, Constructor, Field}
+use Rattle.model.specs.Conversions.{Conv, Got, Bad, Op, Gives, then_conv}
 use Rattle.model.specs.Prototypes.{FunctionPrototype, function_prototype, TypePrototype, type_prototype, array_prototype, elements_in}
 use Rattle.model.specs.Aggregates as g
 use Rattle.model.specs.Aggregates.{place_from, place_of, pairs, new_object, array_op, copy_of, copy_op, field_values, all_integers, named_element, table_element, element_in, element_op, named_field, field_in, field_op, object_type, type_of, rows, row_count, rows_array, table_array, as_array}
-use Rattle.model.specs.Calls.{Given, AValue, AName, Saved, Kept, arg_at, saved_of, bind_arguments, restore, kept_of, enter_call, back, or_no_name, leave_op, as_value, as_name, construct_op, select_op}
-use Rattle.model.specs.Primitives.{Outcome, Returns, Calls, int_same, same_value, holds_if, compare_op, lgt_op, same_op, is_integer, size_op, trim_op, repeated, dupl_op, replaced_in, replace_op, remainder, remdr_op, or_fail, converted, set_function, set_fields, data_op, entry_label, entry_or, define_op, unit_number, unit_op, set_reads, set_writes, input_op, output_op, detach_op, returned, item_op, applied, prim_op}
-use Rattle.model.specs.Meaning.{Val, W, Given'}
-use Rattle.model.specs.Machine.{PCode, codes_of, MVal, MW, MGiven}
+use Rattle.model.specs.Calls.{AName, Saved, Kept, arg_at, saved_of, bind_arguments, restore, kept_of, enter_call, back, or_no_name, leave_op, as_value, as_name, construct_op, select_op}
+use Rattle.model.specs.Primitives.{Outcome, Returns, Calls, same_value, holds_if, compare_op, same_op, is_integer, repeated, replaced_in, remainder, or_fail, converted, set_function, set_fields, data_op, entry_label, entry_or, define_op, unit_number, unit_op, set_reads, set_writes, returned, item_op, applied, prim_op}
+use Rattle.model.specs.Meaning.{Val, W, Back}
+use Rattle.model.specs.Machine.{PCode, codes_of, MVal, MW, MBack}
 use Rattle.model.specs.Alike.{VR, rstr, rint, rpat, rnam, rexp, robj, VRs, rnil, rcons, EntriesR, enil, econs, ObjectR, rarray, rtable, rrecord, ObjectsR, onil, ocons, GR, rval, rname, WR}
 use Rattle.model.proofs.OperationsAlike as o
 use Rattle.model.proofs.OperationsAlike.{OptR, none, some, ConvR, got, bad, OpR, gives, refuses, faults, text_same, name_same, variable_same, label_same, null_same, pattern_same, conv_same, conv_stands, if_same, then_same, plain_same, objects_same, var_same, keys_same, set_keys_same, object_same, fetch_same, kind_same}
 
 -- what a primitive comes to is alike
 pub data OutcomeR (at : ℕ → Option Expr) : Outcome Pattern Expr → Outcome PCode ℕ → Type 0 where
-  returns : {g : Given'} {h : MGiven} → GR at g h → OutcomeR at (Returns g) (Returns h)
+  returns : {g : Back} {h : MBack} → GR at g h → OutcomeR at (Returns g) (Returns h)
   calls : (f : Bytes) {vs : List Val} {ms : List MVal} → VRs at vs ms → OutcomeR at (Calls f vs) (Calls f ms)
 
 module _ (at : ℕ → Option Expr) where
@@ -415,11 +412,11 @@ module _ (at : ℕ → Option Expr) where
   leave_same kind.NReturn {k} {l} {w} {m} kr wr =
       conv_same at (GR at) _ _ _ _ (ap or_no_name (name_same at (subst (λ f. VR at (w.vars k.name) (m.vars f)) kr.name (wr.vars k.name)))) wr (λ n. gives (rname n) (back_same kind.NReturn kr wr))
 
-  pub as_value_same : {g : Given'} {h : MGiven} {w : W} {m : MW} → GR at g h → WR at w m → OpR at (VR at) (as_value g w) (as_value h m)
+  pub as_value_same : {g : Back} {h : MBack} {w : W} {m : MW} → GR at g h → WR at w m → OpR at (VR at) (as_value g w) (as_value h m)
   as_value_same (rval h) wr = gives h wr
   as_value_same (rname n) wr = fetch_same at n wr
 
-  pub as_name_same : {g : Given'} {h : MGiven} {w : W} {m : MW} → GR at g h → WR at w m → OpR at ◌≡◌ (as_name g w) (as_name h m)
+  pub as_name_same : {g : Back} {h : MBack} {w : W} {m : MW} → GR at g h → WR at w m → OpR at ◌≡◌ (as_name g w) (as_name h m)
   as_name_same (rval h) wr = faults error.NotAName wr
   as_name_same (rname n) wr = gives refl wr
 

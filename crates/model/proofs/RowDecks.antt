@@ -1,12 +1,9 @@
 -- How worked cases are written: decks of statements, and what is seen of their runs.
-use Rattle.std.specs.Prelude.{◌≡◌, ℕ, List, [], ◌∷◌, ◌++◌, map, ℤ, pos, Option, None, Some, codes}
-use Rattle.model.specs.declared.run.Ending.{Ending}
+use Rattle.std.specs.Prelude.{ℕ, List, [], ◌∷◌, ◌++◌, pos, None, Some, codes}
 use Rattle.model.specs.declared.run.Ending.TheVariants as ending
 use Rattle.model.specs.declared.run.ErrorCode.{ErrorCode}
-use Rattle.model.specs.declared.trees.Binary.{Binary}
-use Rattle.model.specs.declared.trees.Binary.TheVariants as b
-use Rattle.model.specs.Trees.{Bytes, Expr, Name, Integer, Literal, Call, Reference, Apply, Combine, Arg, Given, Args, Nil, More, Place, Label, Goto, Next, Always, OnSuccess, OnFailure, Body, Evaluate, Match, Assign, Replace, Stmt, Plain, End}
-use Rattle.model.specs.Agreement.{Seen, Records, Inputs, mean}
+use Rattle.model.specs.Trees.{Bytes, Expr, Name, Integer, Given, Args, Nil, More, Place, Label, Goto, Next, Body, Assign, Stmt, Plain, End}
+use Rattle.model.specs.Agreement.{Seen, Records, Inputs}
 
 -- a deck whose END has no entry
 abbrev pub deck : List Stmt → List Stmt

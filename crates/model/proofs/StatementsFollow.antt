@@ -1,11 +1,11 @@
 -- The machine follows the rules of statements and gotos, and with them every rule.
-use Rattle.std.proofs.Common.{◌≡◌, ℕ, suc, ◌+◌, ◌*◌, ◌≤◌, List, [], ◌∷◌, length, Option, Some, None, Bool, true, false, if◌then◌else◌, ◌⊎◌, inl, inr, refl, sym, ap, ◌∙◌, arith, le_refl}
+use Rattle.std.proofs.Common.{◌≡◌, ℕ, suc, ◌+◌, ◌*◌, ◌≤◌, List, [], ◌∷◌, Option, Some, None, Bool, true, false, if◌then◌else◌, inl, inr, refl, sym, ap, ◌∙◌, arith, le_refl}
 use Rattle.model.specs.declared.instr.Instr.TheVariants as op
 use Rattle.model.specs.declared.instr.ReturnKind.{ReturnKind}
 use Rattle.model.specs.declared.keys.KeyId.{KeyId}
 use Rattle.model.specs.declared.run.ErrorCode.TheVariants as error
 use Rattle.model.specs.declared.run.Ending.TheVariants as ending
-use Rattle.model.specs.Trees.{Bytes, Expr, Place, Label, Computed, Goto, Body, Nothing, Evaluate, Match, Assign, Replace, Stmt, Plain, End}
+use Rattle.model.specs.Trees.{Bytes, Expr, Place, Label, Computed, Body, Nothing, Evaluate, Match, Assign, Replace, Stmt, Plain, End}
 use Rattle.model.specs.Names.{key_named}
 use Rattle.model.specs.Programs.{Program}
 use Rattle.model.specs.Values.{Str, enter_stmt, count_failure}
@@ -150,7 +150,7 @@ module _ (prog : Program) (img : Module) (trees_at : ℕ → Option Expr) (place
   exec_case {fs} {w} {m} k o (Some (Plain l c g)) bs e (p, q, r, f, begin, body, leave, on, oth, num) wr =
       from_step prog img trees_at placed 1 n (omega arith)
       (one prog img trees_at placed o p (op.Begin f) [] [] fs m begin ∙ ap (λ k. if over_limit m then Over (ending.StLimit k) m else Run p [] (OnBegin f ∷ []) fs (enter_stmt k m)) num
-          ∙ ap (λ c. if c then Over (ending.StLimit k) m else Run p [] (OnBegin f ∷ []) fs (enter_stmt k m)) (limit_same wr))
+      ∙ ap (λ c. if c then Over (ending.StLimit k) m else Run p [] (OnBegin f ∷ []) fs (enter_stmt k m)) (limit_same wr))
       (go (over_limit w))
     where
       n : ℕ

@@ -1,11 +1,11 @@
 -- Arrays, tables and records.
-use Rattle.std.specs.Prelude.{ℕ, ◌+◌, ◌*◌, List, [], ◌∷◌, ◌++◌, length, replicate, slice_get, ℤ, pos, ◌+ℤ◌, ◌-ℤ◌, nat_abs, int_le, int_lt, Option, None, Some, option_map, Bool, ◌&&◌, nat_lt, nat_eq, bytes_eq, if◌then◌else◌, codes}
+use Rattle.std.specs.Prelude.{ℕ, ◌+◌, ◌*◌, List, [], ◌∷◌, ◌++◌, length, replicate, slice_get, ℤ, pos, ◌+ℤ◌, ◌-ℤ◌, nat_abs, int_le, int_lt, Option, None, Some, ◌&&◌, nat_lt, nat_eq, bytes_eq, if◌then◌else◌, codes}
 use Rattle.model.specs.declared.run.ErrorCode.TheVariants as error
 use Rattle.model.specs.Trees.{Bytes}
 use Rattle.model.specs.Target.{Name, Element, IntegerKey, StringKey}
 use Rattle.model.specs.Values.{Value, Str, Int, Pat, Nam, Exp, Obj, Bounds, Key, IntegerAt, StringAt, Entry, Object, ArrayOf, TableOf, RecordOf, World, set_objects}
-use Rattle.model.specs.Conversions.{Conv, Got, Bad, Op, Gives, Refuses, Faults, conv, then_conv, to_integer, to_text, is_null}
-use Rattle.model.specs.Prototypes.{array_prototype, elements_in}
+use Rattle.model.specs.Conversions.{Conv, Got, Bad, Op, Gives, Refuses, Faults, conv, then_conv, to_integer, is_null}
+use Rattle.model.specs.Prototypes.{elements_in}
 
 -- the place of an element among all, counted on from i by the dimensions that are left
 abbrev pub place_from : ℕ → List Bounds → List ℤ → Option ℕ

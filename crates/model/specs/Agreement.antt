@@ -3,10 +3,10 @@ use Rattle.std.specs.Prelude.{◌≡◌, ℕ, ◌+◌, List, ◌++◌, Option, S
 use Rattle.model.specs.declared.run.Ending.{Ending}
 use Rattle.model.specs.declared.image.Image.{Image}
 use Rattle.model.specs.Trees.{Bytes, Expr, Stmt}
-use Rattle.model.specs.Programs.{Program, program}
+use Rattle.model.specs.Programs.{program}
 use Rattle.model.specs.Values.{trees, first_world, printed_of}
 use Rattle.model.specs.Meaning.{W, Res, Done, Fails, Ends, Open, run}
-use Rattle.model.specs.Machine.{MW, Module, codes_of, State, Run, InMatch, Over, Stuck, begun, steps}
+use Rattle.model.specs.Machine.{MW, codes_of, State, Run, InMatch, Over, Stuck, begun, steps}
 use Rattle.model.specs.Modules.{module_of}
 use Rattle.model.specs.Placed.{Placed}
 

@@ -4,8 +4,8 @@ use Rattle.model.specs.Trees.{Bytes, Expr}
 use Rattle.model.specs.Target.{Name}
 use Rattle.model.specs.Values.{Str, Int, Pat, Nam, Exp, Obj, Pattern, Bounds, Key, Entry, Object, ArrayOf, TableOf, RecordOf}
 use Rattle.model.specs.Calls.{AValue, AName}
-use Rattle.model.specs.Meaning.{Val, W, Given'}
-use Rattle.model.specs.Machine.{PCode, MVal, MW, MGiven}
+use Rattle.model.specs.Meaning.{Val, W, Back}
+use Rattle.model.specs.Machine.{PCode, MVal, MW, MBack}
 use Rattle.model.specs.Stands.{Stands}
 
 module _ (trees_at : ℕ → Option Expr) where
@@ -35,7 +35,7 @@ module _ (trees_at : ℕ → Option Expr) where
     onil : ObjectsR [] []
     ocons : {o : Object Val} {x : Object MVal} {os : List (Object Val)} {xs : List (Object MVal)} → ObjectR o x → ObjectsR os xs → ObjectsR (o ∷ os) (x ∷ xs)
 
-  pub data GR : Given' → MGiven → Type 0 where
+  pub data GR : Back → MBack → Type 0 where
     rval : {v : Val} {m : MVal} → VR v m → GR (AValue v) (AValue m)
     rname : (n : Name) → GR (AName n) (AName n)
 

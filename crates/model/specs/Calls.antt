@@ -5,8 +5,8 @@ use Rattle.model.specs.declared.instr.ReturnKind.TheVariants as kind
 use Rattle.model.specs.declared.run.ErrorCode.TheVariants as error
 use Rattle.model.specs.Trees.{Bytes}
 use Rattle.model.specs.Target.{Name}
-use Rattle.model.specs.Keywords.{Keys, counted, return_name}
-use Rattle.model.specs.Values.{Value, Str, World, RecordOf, set_plain, set_var, keys_of, set_keys}
+use Rattle.model.specs.Keywords.{counted, return_name}
+use Rattle.model.specs.Values.{Value, Str, World, RecordOf, set_var, keys_of, set_keys}
 use Rattle.model.specs.Conversions.{Conv, Got, Bad, Op, Gives, Refuses, Faults, conv, then_op, to_name}
 use Rattle.model.specs.Operators.{fetch_op}
 use Rattle.model.specs.Aggregates.{new_object, field_values, field_op}
@@ -20,9 +20,9 @@ return_of l =
     else None
 
 -- what a call gives
-pub data Given (P E : Type 0) : Type 0 where
-  AValue : Value P E → Given P E
-  AName : Name → Given P E
+pub data Returned (P E : Type 0) : Type 0 where
+  AValue : Value P E → Returned P E
+  AName : Name → Returned P E
 
 -- a variable's value before a call
 pub record Saved (P E : Type 0) : Type 0 where
@@ -77,25 +77,25 @@ module _ {P E : Type 0} where
       set_keys (record (keys_of w1) { stno = c.stno; fnclevel = c.fnclevel; rtntype = return_name k }) w1
 
   -- the end of a call
-  abbrev pub leave_op : ReturnKind → Kept P E → World P E → Op (World P E) (Given P E)
+  abbrev pub leave_op : ReturnKind → Kept P E → World P E → Op (World P E) (Returned P E)
   leave_op kind.Return c w = Gives (AValue (w.vars c.name)) (back kind.Return c w)
   leave_op kind.FReturn c w = Refuses (back kind.FReturn c w)
   leave_op kind.NReturn c w = conv (or_no_name (to_name (w.vars c.name))) w (λ n. Gives (AName n) (back kind.NReturn c w))
 
   -- where a value is wanted, and where a name is
-  abbrev pub as_value : Given P E → World P E → Op (World P E) (Value P E)
+  abbrev pub as_value : Returned P E → World P E → Op (World P E) (Value P E)
   as_value (AValue v) w = Gives v w
   as_value (AName n) w = fetch_op n w
 
-  abbrev pub as_name : Given P E → World P E → Op (World P E) Name
+  abbrev pub as_name : Returned P E → World P E → Op (World P E) Name
   as_name (AValue v) w = Faults error.NotAName w
   as_name (AName n) w = Gives n w
 
   -- ---- functions that DATA makes
 
   -- a new record of this type
-  abbrev pub construct_op : Bytes → List Bytes → List (Value P E) → World P E → Op (World P E) (Given P E)
+  abbrev pub construct_op : Bytes → List Bytes → List (Value P E) → World P E → Op (World P E) (Returned P E)
   construct_op t fs vs w = then_op (new_object (RecordOf t fs (field_values fs vs)) w) (λ v w1. Gives (AValue v) w1)
 
-  abbrev pub select_op : Bytes → List (Value P E) → World P E → Op (World P E) (Given P E)
+  abbrev pub select_op : Bytes → List (Value P E) → World P E → Op (World P E) (Returned P E)
   select_op f vs w = then_op (field_op f (arg_at vs 0) w) (λ n w1. Gives (AName n) w1)

@@ -1,5 +1,6 @@
 -- The statements of a deck, or its first fault of cards, as a function of the whole deck.
 use Rattle.std.specs.Prelude.{ℕ, ◌+◌, ◌&&◌, ◌||◌, nat_le, nat_lt, ◌==◌, Bool, true, false, List, [], ◌∷◌, ◌++◌, length, take, Option, Some, None, Result, Ok, Err, if◌then◌else◌, map, codes}
+use Rattle.std.specs.List.{list_all}
 use Rattle.model.specs.declared.cards.Statement.{Statement}
 use Rattle.model.specs.declared.cards.CardFault.{CardFault}
 use Rattle.model.specs.declared.cards.CardRule.{CardRule}
@@ -29,22 +30,18 @@ cards deck = numbered_from 1 (lines deck)
 
 -- ---- what a card is
 
-abbrev pub all : (ℕ → Bool) → List ℕ → Bool
-all p [] = true
-all p (b ∷ bs) = p b && all p bs
-
 abbrev pub is_blank : ℕ → Bool
 is_blank b = b == 32
 
 abbrev pub is_blank_text : List ℕ → Bool
-is_blank_text text = all is_blank text
+is_blank_text text = list_all is_blank text
 
 -- the text is the word, or begins with the word and a blank
 abbrev pub is_word_first : List ℕ → List ℕ → Bool
 is_word_first [] [] = true
 is_word_first [] (b ∷ bs) = is_blank b
 is_word_first (w ∷ ws) [] = false
-is_word_first (w ∷ ws) (b ∷ bs) = (w == b) && is_word_first ws bs
+is_word_first (w ∷ ws) (b ∷ bs) = (b == w) && is_word_first ws bs
 
 abbrev pub is_known_control : List ℕ → Bool
 is_known_control text = is_word_first (codes "-LIST") text || is_word_first (codes "-UNLIST") text || is_word_first (codes "-EJECT") text
@@ -182,7 +179,7 @@ is_plain b = nat_le 32 b && nat_le b 126
 -- C1: each card with a byte that is neither 32 to 126 nor a line feed, columns past 72 among them
 abbrev pub bad_bytes : List Card → List CardFault
 bad_bytes [] = []
-bad_bytes (card ∷ cards) = if all is_plain card.line then bad_bytes cards else fault card.number rule.BadByte ∷ bad_bytes cards
+bad_bytes (card ∷ cards) = if list_all is_plain card.line then bad_bytes cards else fault card.number rule.BadByte ∷ bad_bytes cards
 
 abbrev pub before_lost : CardKind → ℕ → List CardFault → List CardFault
 before_lost (Continuation text) n more = fault n rule.NothingToContinue ∷ more

@@ -1,12 +1,12 @@
 -- Conversions of values, and what operations on the world come to.
-use Rattle.std.specs.Prelude.{ℕ, ◌^◌, List, [], ◌∷◌, ◌++◌, length, ℤ, pos, neg_ℤ, int_lt, int_le, Option, Some, None, Bool, true, false, ◌&&◌, nat_lt, if◌then◌else◌}
+use Rattle.std.specs.Prelude.{ℕ, ◌^◌, [], ◌∷◌, ℤ, pos, negsuc, Bool, true, false, ◌&&◌, nat_lt, if◌then◌else◌}
 use Rattle.std.specs.Fmt.{signed_decimal}
 use Rattle.std.specs.Char.{digit_value}
 use Rattle.std.specs.Str.Parse.{without_leading_sign, signed_digits_value}
 use Rattle.model.specs.declared.run.ErrorCode.{ErrorCode}
 use Rattle.model.specs.declared.run.ErrorCode.TheVariants as error
 use Rattle.model.specs.Trees.{Bytes}
-use Rattle.model.specs.Target.{Name, Variable, Element, IntegerKey, StringKey}
+use Rattle.model.specs.Target.{Name, Variable}
 use Rattle.model.specs.Pattern.{Lit, Answer, IsPattern, IsCount, IsBytes, Want, WantPattern, WantCount, WantBytes}
 use Rattle.model.specs.Values.{Value, Str, Int, Pat, Nam, Exp, Obj, Makes}
 
@@ -48,8 +48,10 @@ abbrev pub is_numeral : Bytes → Bool
 is_numeral [] = false
 is_numeral (b ∷ bs) = all_digits (b ∷ bs)
 
+-- from -2^63 to 2^63 - 1
 abbrev pub in_range : ℤ → Bool
-in_range z = int_le (neg_ℤ (pos (2 ^ 63))) z && int_lt z (pos (2 ^ 63))
+in_range (pos n) = nat_lt n (2 ^ 63)
+in_range (negsuc n) = nat_lt n (2 ^ 63)
 
 -- an integer in range, and else this error
 abbrev pub fit : ErrorCode → ℤ → Conv ℤ

@@ -1,5 +1,5 @@
 -- The values of keywords.
-use Rattle.std.specs.Prelude.{ℕ, List, [], ℤ, pos, ◌+ℤ◌, ◌-ℤ◌, ◌^◌, int_lt, int_le, Bool, true, false, not, ◌&&◌, if◌then◌else◌, codes}
+use Rattle.std.specs.Prelude.{[], ℤ, pos, ◌+ℤ◌, ◌-ℤ◌, ◌^◌, int_lt, int_le, Bool, true, false, not, ◌&&◌, if◌then◌else◌, codes}
 use Rattle.std.specs.List.{range_with_len}
 use Rattle.model.specs.Trees.{Bytes}
 use Rattle.model.specs.declared.keys.KeyId.{KeyId}

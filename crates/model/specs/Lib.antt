@@ -16,6 +16,7 @@ pub mod Pieces
 pub mod Strings
 pub mod Tokens
 pub mod Trees
+pub mod Weights
 pub mod TreeLaws
 pub mod TreeViews
 pub mod Target
@@ -57,3 +58,4 @@ pub mod Lexed
 pub mod RulesUsed
 pub mod Flow
 pub mod WellFormed
+pub mod ValueLaws

@@ -1,11 +1,8 @@
 -- What a program does.
-use Rattle.std.specs.Prelude.{ℕ, zero, suc, List, [], ◌∷◌, ◌++◌, ℤ, pos, int_le, Option, None, Some, Bool, ◌&&◌, if◌then◌else◌}
-use Rattle.model.specs.declared.instr.ArithOp.{ArithOp}
+use Rattle.std.specs.Prelude.{ℕ, zero, suc, List, [], ◌∷◌, ◌++◌, pos, int_le, Option, None, Some, Bool, ◌&&◌, if◌then◌else◌}
 use Rattle.model.specs.declared.instr.ArithOp.TheVariants as arith
-use Rattle.model.specs.declared.instr.SignOp.{SignOp}
 use Rattle.model.specs.declared.instr.SignOp.TheVariants as sign
 use Rattle.model.specs.declared.instr.ReturnKind.{ReturnKind}
-use Rattle.model.specs.declared.instr.ReturnKind.TheVariants as kind
 use Rattle.model.specs.declared.keys.KeyId.{KeyId}
 use Rattle.model.specs.declared.primitives.PrimId.{PrimId}
 use Rattle.model.specs.declared.run.ErrorCode.{ErrorCode}
@@ -14,7 +11,7 @@ use Rattle.model.specs.declared.run.Ending.{Ending}
 use Rattle.model.specs.declared.run.Ending.TheVariants as ending
 use Rattle.model.specs.declared.trees.Unary.TheVariants as u
 use Rattle.model.specs.declared.trees.Binary.TheVariants as b
-use Rattle.model.specs.Trees.{Bytes, Expr, Name, Integer, Literal, Keyword, Call, Reference, Apply, Combine, Args, Nil, More, Absent, Given, Place, Label, Computed, Goto, Next, Always, OnSuccess, OnFailure, Both, Body, Nothing, Evaluate, Match, Assign, Replace, Stmt, Plain, End}
+use Rattle.model.specs.Trees.{Bytes, Expr, Name, Integer, Literal, Keyword, Call, Reference, Apply, Combine, Args, Nil, More, Absent, Given, Place, Label, Computed, Goto, Always, OnSuccess, OnFailure, Both, Body, Nothing, Evaluate, Match, Assign, Replace, Stmt, Plain, End}
 use Rattle.model.specs.Names.{key_named, prim_named}
 use Rattle.model.specs.Target as target
 use Rattle.model.specs.Target.{Variable}
@@ -36,8 +33,8 @@ Val = Value Pattern Expr
 abbrev pub W : Type 0
 W = World Pattern Expr
 
-abbrev pub Given' : Type 0
-Given' = calls.Given Pattern Expr
+abbrev pub Back : Type 0
+Back = calls.Returned Pattern Expr
 
 -- what comes of it: a result, failure, an ending of the run, or nothing yet, each with the world then
 pub data Res (A : Type 0) : Type 0 where
@@ -199,24 +196,24 @@ module _ (prog : Program) where
       else Ask (QBody b) (enter_stmt k w) (λ _ w1. go_on k (onward_of g) w1) (λ w1. go_on k (other_of g) (count_failure w1))
 
   -- a function from its entry label on, where c is kept for its end and k follows it
-  abbrev pub entered : {A : Type 0} → calls.Kept Pattern Expr → Option ReturnKind → Option ℕ → W → (Given' → W → Rule A) → Rule A
+  abbrev pub entered : {A : Type 0} → calls.Kept Pattern Expr → Option ReturnKind → Option ℕ → W → (Back → W → Rule A) → Rule A
   entered c (Some r) o w k = doing (leave_op r c w) k
   entered c None None w k = fault error.UndefinedLabel w
   entered c None (Some n) w k = Ask (QExec n) w (λ r w1. doing (leave_op r c w1) k) Fail
 
   -- a call of a function that isn't primitive, and what follows it
-  abbrev pub call_rule : {A : Type 0} → Bytes → List Val → Option Function → W → (Given' → W → Rule A) → Rule A
+  abbrev pub call_rule : {A : Type 0} → Bytes → List Val → Option Function → W → (Back → W → Rule A) → Rule A
   call_rule f vs None w k = fault error.UndefinedFunction w
   call_rule f vs (Some (Defined entry xs ys)) w k = entered (kept_of f xs ys w) (return_of entry) (prog.label entry) (enter_call f xs ys vs w) k
   call_rule f vs (Some (Constructor fields)) w k = doing (construct_op f fields vs w) k
   call_rule f vs (Some Field) w k = doing (select_op f vs w) k
 
   -- what a primitive came to, and what follows it
-  abbrev pub finish : {A : Type 0} → Outcome Pattern Expr → W → (Given' → W → Rule A) → Rule A
+  abbrev pub finish : {A : Type 0} → Outcome Pattern Expr → W → (Back → W → Rule A) → Rule A
   finish (Returns g) w k = k g w
   finish (Calls f vs) w k = call_rule f vs (w.plain.functions f) w k
 
-  abbrev pub function_rule : {A : Type 0} → Bytes → Args → W → (Given' → W → Rule A) → Rule A
+  abbrev pub function_rule : {A : Type 0} → Bytes → Args → W → (Back → W → Rule A) → Rule A
   function_rule f args w k = ask (QArgs args) w (λ vs w1. doing (function_op (prim_named f) f vs w1) (λ r w2. finish r w2 k))
 
   abbrev pub rule : (q : Query) → W → Rule (Ans q)

@@ -1,18 +1,17 @@
 -- Operators, and the fetching and assigning of names.
-use Rattle.std.specs.Prelude.{ℕ, zero, suc, ◌+◌, List, [], ◌∷◌, ◌++◌, length, take, drop, slice_get, slice_set, ℤ, pos, negsuc, ◌+ℤ◌, ◌-ℤ◌, ◌*ℤ◌, int_le, int_div, Option, None, Some, Bool, true, false, not, ◌&&◌, nat_eq, bytes_eq, if◌then◌else◌}
+use Rattle.std.specs.Prelude.{ℕ, zero, suc, List, [], ◌∷◌, ◌++◌, length, take, drop, slice_get, ℤ, pos, negsuc, ◌+ℤ◌, ◌-ℤ◌, ◌*ℤ◌, int_le, int_div, Option, None, Some, Bool, false, ◌&&◌, nat_eq, bytes_eq, if◌then◌else◌}
 use Rattle.model.specs.declared.instr.ArithOp.{ArithOp}
 use Rattle.model.specs.declared.instr.ArithOp.TheVariants as arith
 use Rattle.model.specs.declared.instr.SignOp.{SignOp}
 use Rattle.model.specs.declared.instr.SignOp.TheVariants as sign
 use Rattle.model.specs.declared.keys.KeyId.{KeyId}
-use Rattle.model.specs.declared.run.ErrorCode.{ErrorCode}
 use Rattle.model.specs.declared.run.ErrorCode.TheVariants as error
 use Rattle.model.specs.Trees.{Bytes}
 use Rattle.model.specs.Target.{Name, Variable, Element, IntegerKey, StringKey}
 use Rattle.model.specs.Strings.{trimmed}
 use Rattle.model.specs.Keywords.{KeyValue, IsInteger, IsText, key_value, is_zero, allows, put_key}
 use Rattle.model.specs.Pattern.{Pending, Told, Text, Number, Kind, want_of, with_answer}
-use Rattle.model.specs.Values.{Value, Str, Int, Pat, Nam, Exp, Obj, Makes, Key, IntegerAt, StringAt, Entry, Object, ArrayOf, TableOf, RecordOf, World, set_io, set_objects, set_var, keys_of, set_keys}
+use Rattle.model.specs.Values.{Value, Str, Int, Pat, Exp, Makes, Key, IntegerAt, StringAt, Entry, Object, ArrayOf, TableOf, RecordOf, World, set_io, set_objects, set_var, keys_of, set_keys}
 use Rattle.model.specs.Conversions.{Conv, Got, Bad, Op, Gives, Refuses, Faults, conv, then_op, to_text, to_integer, to_pattern, to_name, is_null, fit, answer_of}
 
 -- ---- arithmetic

@@ -1,5 +1,5 @@
 -- Primitive functions.
-use Rattle.std.specs.Prelude.{ℕ, zero, suc, ◌+◌, ◌*◌, List, [], ◌∷◌, length, map, ℤ, pos, negsuc, int_le, int_lt, int_rem, Option, None, Some, Bool, true, false, not, ◌&&◌, ◌||◌, nat_lt, nat_eq, bytes_eq, if◌then◌else◌, codes}
+use Rattle.std.specs.Prelude.{ℕ, zero, ◌*◌, List, [], ◌∷◌, length, map, ℤ, pos, negsuc, int_le, int_lt, int_rem, Option, None, Some, Bool, true, false, not, ◌&&◌, ◌||◌, nat_lt, nat_eq, bytes_eq, if◌then◌else◌, codes}
 use Rattle.std.specs.List.{repeat}
 use Rattle.model.specs.declared.primitives.PrimId.{PrimId}
 use Rattle.model.specs.declared.primitives.PrimId.TheVariants as p
@@ -8,17 +8,17 @@ use Rattle.model.specs.Trees.{Bytes}
 use Rattle.model.specs.Target.{Name, Variable, Element, IntegerKey, StringKey}
 use Rattle.model.specs.Names.{prim_named, most_args}
 use Rattle.model.specs.Strings.{trimmed, replaced}
-use Rattle.model.specs.Pattern.{Kind, KLen, KPos, KRPos, KTab, KRTab, KAny, KNotAny, KSpan, KBreak}
+use Rattle.model.specs.Pattern.{KLen, KPos, KRPos, KTab, KRTab, KAny, KNotAny, KSpan, KBreak}
 use Rattle.model.specs.Values.{Value, Str, Int, Pat, Nam, Exp, Obj, Makes, Function, Defined, Constructor, Field, TableOf, World, set_plain, keys_of}
 use Rattle.model.specs.Conversions.{Conv, Got, Bad, Op, Gives, Refuses, Faults, conv, then_conv, then_op, to_text, to_integer, to_pattern, to_label, to_variable, is_null, read_integer}
-use Rattle.model.specs.Operators.{limited, kind_op}
+use Rattle.model.specs.Operators.{kind_op}
 use Rattle.model.specs.Prototypes.{FunctionPrototype, function_prototype, TypePrototype, type_prototype, array_prototype}
 use Rattle.model.specs.Aggregates.{new_object, array_op, copy_op, element_op, type_of, as_array}
-use Rattle.model.specs.Calls.{Given, AValue, AName, arg_at}
+use Rattle.model.specs.Calls.{Returned, AValue, AName, arg_at}
 
 -- what a primitive comes to; APPLY may call a function that isn't one
 pub data Outcome (P E : Type 0) : Type 0 where
-  Returns : Given P E → Outcome P E
+  Returns : Returned P E → Outcome P E
   Calls : Bytes → List (Value P E) → Outcome P E
 
 -- ---- comparing

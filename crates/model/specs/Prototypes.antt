@@ -1,5 +1,5 @@
 -- Prototypes: the texts by which DEFINE, DATA and ARRAY are told what to make.
-use Rattle.std.specs.Prelude.{ℕ, ◌+◌, ◌-◌, ◌*◌, List, [], ◌∷◌, ◌++◌, length, ℤ, pos, ◌+ℤ◌, ◌-ℤ◌, nat_abs, int_le, Option, None, Some, option_map, Bool, true, false, not, ◌&&◌, ◌||◌, nat_le, nat_lt, ◌==◌, bytes_eq, is_some, if◌then◌else◌, codes}
+use Rattle.std.specs.Prelude.{ℕ, ◌+◌, ◌*◌, List, [], ◌∷◌, ◌++◌, length, ℤ, pos, ◌-ℤ◌, nat_abs, int_le, Option, None, Some, option_map, Bool, true, false, not, ◌&&◌, ◌||◌, nat_le, nat_lt, ◌==◌, bytes_eq, is_some, if◌then◌else◌, codes}
 use Rattle.std.specs.List.{list_any, list_all}
 use Rattle.model.specs.Trees.{Bytes}
 use Rattle.model.specs.Names.{prim_named}

@@ -1,11 +1,11 @@
 -- How many rules a meaning uses: the count that bounds the steps of a run.
 use Rattle.std.specs.Prelude.{ℕ, zero, suc, ◌+◌, List, [], ◌∷◌, ◌++◌, Option, None, Some}
-use Rattle.model.specs.Trees.{Expr, Args, Nil, More, Absent, Given, Stmt}
+use Rattle.model.specs.Trees.{Nil, More, Absent, Given, Stmt}
 use Rattle.model.specs.Programs.{Program, program}
-use Rattle.model.specs.Pattern.{Basic, Lit, Arb, Bal, Pat, Plain, Succeed, Abort, Fence, Cat, Alt, Arbno, Cond, Imm, At, Defer, DeferBasic, Name, Pending, Answer, IsPattern, IsSaid, Text, with_answer, Running, Failed, Asks, Matched}
+use Rattle.model.specs.Pattern.{Basic, Lit, Arb, Bal, Pat, Plain, Succeed, Abort, Fence, Cat, Alt, Arbno, Cond, Imm, At, Defer, DeferBasic, Pending, Answer, IsPattern, IsSaid, with_answer, Running, Failed, Asks, Matched}
 use Rattle.model.specs.Basic.{ends_at}
 use Rattle.model.specs.Ends.{between}
-use Rattle.model.specs.Search.{Found, Hit, Miss, Stop, Deep, Wait, Goal, Part, Closing, Saying, Found', Script, Next, search, scan}
+use Rattle.model.specs.Search.{Miss, Goal, Part, Closing, Saying, Found', Script, Next, search, scan}
 use Rattle.model.specs.Meaning.{W, Res, Done, Fails, Ends, Open, Query, QVal, QName, QArgs, QBody, QExec, QMatch, Ans, Rule, Ret, Fail, Stop as Stops, Ask, Seek, Event, rule, run_rule, meaning}
 use Rattle.model.specs.Agreement.{Inputs, first_w}
 

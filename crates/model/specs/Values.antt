@@ -1,5 +1,5 @@
 -- Values and the world. P is what stands for a pattern and E for an unevaluated expression: trees in the meaning, code and a number in the machine.
-use Rattle.std.specs.Prelude.{ℕ, List, [], ℤ, pos, Option, Some, None, Bool, ◌==◌, if◌then◌else◌, bytes_eq, codes}
+use Rattle.std.specs.Prelude.{ℕ, List, [], ℤ, pos, Option, Some, None, if◌then◌else◌, bytes_eq, codes}
 use Rattle.model.specs.Trees.{Bytes, Expr}
 use Rattle.model.specs.Target.{Name}
 use Rattle.model.specs.Io.{Io}

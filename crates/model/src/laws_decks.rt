@@ -1,8 +1,24 @@
 //! Laws of accepted decks: functions that do nothing, each with a contract that says the law.
 
-ghost use Rattle.model.specs.DeckLaws.{EndIsLast};
+ghost use Rattle.model.specs.DeckLaws.{AcceptedDecksFit, DecksFit, EndIsLast, TreesFit};
 
 /// END is the last statement of each accepted deck, and no other is.
 pub fn end_is_last()
     ensures { EndIsLast }
+{}
+
+/// A deck without faults of cards has at most 1,048,576 bytes, no more statements than bytes, and
+/// none of more than 4,000 bytes.
+pub fn decks_fit()
+    ensures { DecksFit }
+{}
+
+/// A text is at least as long as its tree is heavy.
+pub fn trees_fit()
+    ensures { TreesFit }
+{}
+
+/// The trees of an accepted deck are no more than its bytes, and together no heavier.
+pub fn accepted_decks_fit()
+    ensures { AcceptedDecksFit }
 {}

@@ -15,6 +15,7 @@ mod laws_bytes;
 mod laws_names;
 mod laws_patterns;
 mod laws_trees;
+mod laws_values;
 mod primitives;
 mod run;
 mod seq;
@@ -29,7 +30,7 @@ pub use instr::{ArithOp, Instr, ReturnKind, SignOp};
 pub use keys::KeyId;
 pub use laws_agreement::{agreement, matches_step, meaning_stays};
 pub use laws_cards::worked_decks;
-pub use laws_decks::end_is_last;
+pub use laws_decks::{accepted_decks_fit, decks_fit, end_is_last, trees_fit};
 pub use laws_tokens::{each_text_has_one_cut, worked_texts};
 pub use laws_bytes::{read_is_spelt, spelling_rows, spelt_is_read};
 pub use laws_names::{key_names, prim_names};
@@ -39,6 +40,7 @@ pub use laws_patterns::{
     match_states_lead_on, pattern_cases, steps_stay_within,
 };
 pub use laws_trees::{each_expression_is_one, each_statement_is_one, worked_faults, worked_trees};
+pub use laws_values::{integers_fit, integers_read};
 pub use primitives::PrimId;
 pub use run::{Ending, ErrorCode, Status, Stop, UnitFault};
 pub use seq::{Bytes, Seq};

@@ -1,0 +1,9 @@
+pub mod Answering
+pub mod Carding
+pub mod Following
+pub mod Growing
+pub mod Keeping
+pub mod Lining
+pub mod Merging
+pub mod Splitting
+pub mod Words

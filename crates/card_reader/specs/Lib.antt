@@ -1,0 +1,4 @@
+pub mod Lines
+pub mod Parts
+pub mod Reached
+pub mod Reading

@@ -1,0 +1,59 @@
+//! From the bytes of a deck to the texts of its statements, or the first fault of its cards.
+#![tactic(auto)]
+
+ghost use Rattle.std.specs.Prelude.{◌≡◌, ◌≢◌, ◌≤◌, length, IfOk, IfErr, Ok, Err};
+ghost use Rattle.model.specs.declared.cards.CardRule.TheVariants as rule;
+ghost use Rattle.model.specs.Cards as cards;
+
+mod kinds;
+mod lines;
+mod reader;
+
+use crate::lines::next_line;
+use crate::reader::Reader;
+use model::{CardFault, CardRule, Deck};
+use std::alloc::{AllocError, Global};
+
+/// The most bytes of a deck.
+const LONGEST_DECK: usize = 1_048_576;
+
+// The deck's statements or its first fault, for a deck that isn't too long.
+fn read_cards(alloc: Global, deck: &[u8]) -> Result<Result<Deck, CardFault>, AllocError>
+    requires { length deck.now ≤ 1048576 }
+    ensures statements { IfOk result (λ read. IfOk read (λ d. cards.deck_of (cards.cards deck.now) (cards.ended (cards.cards deck.now)) ≡ Ok d.statements)) }
+    ensures fault { IfOk result (λ read. IfErr read (λ f. cards.deck_of (cards.cards deck.now) (cards.ended (cards.cards deck.now)) ≡ Err f)) }
+{
+    let mut reader = Reader::new(alloc);
+    let mut rest = deck;
+    let mut card: u32 = 1;
+    while let Some((line, more)) = next_line(rest) {
+        if reader.read_card(alloc, card, line)? {
+            return Ok(reader.finish());
+        }
+        rest = more;
+        card += 1;
+    }
+    Ok(Err(reader.without_end(alloc, card)?))
+}
+
+/// The statements of a deck up to and with END, or its first fault: the least card's, and there the least rule's.
+/// A refused growth of memory is told at card 0 in place of any other fault.
+pub fn read_deck(alloc: Global, deck: &[u8]) -> Result<Deck, CardFault>
+    ensures statements { IfOk result (λ d. cards.deck deck.now ≡ Ok d.statements) }
+    ensures fault { IfErr result (λ f. f.rule ≢ rule.Memory → cards.deck deck.now ≡ Err f) }
+    ensures memory { IfErr result (λ f. f.rule ≡ rule.Memory → f ≡ cards.fault 0 rule.Memory) }
+{
+    if deck.len() > LONGEST_DECK {
+        return Err(CardFault {
+            card: 0,
+            rule: CardRule::DeckTooLong,
+        });
+    }
+    match read_cards(alloc, deck) {
+        Ok(read) => read,
+        Err(_) => Err(CardFault {
+            card: 0,
+            rule: CardRule::Memory,
+        }),
+    }
+}

@@ -1,0 +1,5 @@
+use Rattle.model.proofs.DeckSizes.{accepted_fit}
+use Rattle.model.proofs.laws_decks.accepted_decks_fit.Goals as goal
+
+pub returns : goal.returns
+returns c = accepted_fit
