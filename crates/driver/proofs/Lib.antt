@@ -2,3 +2,4 @@ pub mod Placing
 pub mod TextPlaces
 pub mod Flowing
 pub mod Parts
+pub mod Fitting

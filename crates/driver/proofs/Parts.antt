@@ -21,7 +21,7 @@ scanned : {A : Type 0} (fault : List A → ℕ → A → Option ModuleFault) (wi
     → fault front pos x ≡ None → scan fault width (front ++ x ∷ []) (pos + width x) xs ≡ None → scan fault width front pos (x ∷ xs) ≡ None
 scanned fault width front pos x xs a b = (λ i. first (a i) (b i))
 
-length_snoc : {A : Type 0} (xs : List A) (x : A) → length (xs ++ x ∷ []) ≡ length xs + 1
+pub length_snoc : {A : Type 0} (xs : List A) (x : A) → length (xs ++ x ∷ []) ≡ length xs + 1
 length_snoc [] x = omega arith
 length_snoc (y ∷ xs) x = let h = length_snoc xs x in omega (arith, h)
 
