@@ -3,3 +3,4 @@ pub mod TextPlaces
 pub mod Flowing
 pub mod Parts
 pub mod Fitting
+pub mod Printing

@@ -1,17 +1,30 @@
 -- The part of the language that runs today: statements that print a literal, and END.
-use Rattle.std.specs.Prelude.{◌≡◌, ◌≢◌, ℕ, suc, ◌+◌, List, [], ◌∷◌, Option, None, Some, Bool, true, is_some, bytes_eq, if◌then◌else◌}
+use Rattle.std.specs.Prelude.{◌≡◌, ◌≢◌, ℕ, suc, ◌+◌, List, [], ◌∷◌, Option, None, Some, Bool, true, false, is_some, bytes_eq, if◌then◌else◌}
 use Rattle.model.specs.declared.causes.StmtFault.{StmtFault}
 use Rattle.model.specs.declared.causes.Cause.TheVariants as cause
-use Rattle.model.specs.Trees.{Bytes, Stmt, Plain, End, Assign, Name, Literal, Next}
+use Rattle.model.specs.Trees.{Bytes, Expr, Name, Literal, Goto, Next, Body, Assign, Stmt, Plain, End}
 use Rattle.driver.specs.Generated.{output}
 
-abbrev pub literal_if : Bool → Bytes → Option Bytes
-literal_if b l = if b then Some l else None
+abbrev pub is_output : Expr → Bool
+is_output (Name x) = bytes_eq x output
+is_output _ = false
+
+abbrev pub literal_in : Option Expr → Option Bytes
+literal_in (Some (Literal l)) = Some l
+literal_in _ = None
+
+abbrev pub printed_by : Body → Option Bytes
+printed_by (Assign x o) = if is_output x then literal_in o else None
+printed_by _ = None
+
+abbrev pub if_next : Goto → Option Bytes → Option Bytes
+if_next Next l = l
+if_next _ l = None
 
 -- the literal that a statement prints
 abbrev pub literal_of : Stmt → Option Bytes
-literal_of (Plain None (Assign (Name x) (Some (Literal l))) Next) = literal_if (bytes_eq x output) l
-literal_of s = None
+literal_of (Plain None b g) = if_next g (printed_by b)
+literal_of _ = None
 
 abbrev pub before : Option Bytes → List Bytes → List Bytes
 before None ls = ls
