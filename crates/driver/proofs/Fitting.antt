@@ -17,17 +17,17 @@ use Rattle.driver.proofs.TextPlaces.{few_texts}
 still_new : (front : List Bytes) (t s : Bytes) → is_new front t ≡ true → bytes_eq t s ≡ false → is_new (front ++ s ∷ []) t ≡ true
 still_new [] t s n e = rw e refl
 still_new (x ∷ xs) t s n e = elim (pointwise ◌==◌ t x) as (λ b. not (b || list_any (pointwise ◌==◌ t) xs) ≡ true → not (b || list_any (pointwise ◌==◌ t) (xs ++ s ∷ [])) ≡ true) [
-    | true ↦ λ h. absurd (cc)
-    | false ↦ λ h. still_new xs t s h e
-  ] n
+  | true ↦ λ h. absurd (cc)
+  | false ↦ λ h. still_new xs t s h e
+] n
 
 -- a short text that is put stands once among short texts
 put_follows : (t : Bytes) → length t < 2 ^ 32 → (front ts : List Bytes) → Follow StringFits front ts → is_new front t ≡ true → Follow StringFits front (with_text t ts)
 put_follows t short front [] f new = ((short, new), tt)
 put_follows t short front (s ∷ ss) f new = elim (bytes_eq t s) as (λ b. (bytes_eq t s ≡ b) → Follow StringFits front (if b then s ∷ ss else s ∷ with_text t ss)) [
-    | true ↦ λ e. f
-    | false ↦ λ e. (f.0, put_follows t short (front ++ s ∷ []) ss f.1 (still_new front t s new e))
-  ] refl
+  | true ↦ λ e. f
+  | false ↦ λ e. (f.0, put_follows t short (front ++ s ∷ []) ss f.1 (still_new front t s new e))
+] refl
 
 AllShort : List Bytes → Type 0
 AllShort ls = AllByRecursion (λ l. length l < 2 ^ 32) ls
@@ -61,22 +61,31 @@ offsets_follow at (l ∷ ls) front r small =
 place_within : (t : Bytes) (ts : List Bytes) → place_of t ts ≤ length ts
 place_within t [] = omega arith
 place_within t (s ∷ ss) = elim (bytes_eq t s) as (λ b. (if b then 0 else suc (place_of t ss)) ≤ suc (length ss)) [
-    | true ↦ omega arith
-    | false ↦ let h = place_within t ss in omega (arith, h)
-  ]
+  | true ↦ omega arith
+  | false ↦ let h = place_within t ss in omega (arith, h)
+]
 
 code_fits : (ts : List Bytes) (at : ℕ) (ls : List Bytes) → at + 17 * length ls < 2 ^ 32 → length ts + 2 * length ls < 2 ^ 32 → AllByRecursion InstrFits (code_of ts at ls)
 code_fits ts at [] a b = (tt, tt)
 code_fits ts at (l ∷ ls) a b =
     let few = few_texts l ts in
     let o = place_within output (with_texts l ts) in
-    let p = place_within l (with_texts l ts) in
-    ( (let h : at + 17 < 2 ^ 32 = omega (arith, a) in h)
-    , ((let h : place_of output (with_texts l ts) < 2 ^ 32 = omega (arith, b, few, o) in h)
-    , ((let h : place_of l (with_texts l ts) < 2 ^ 32 = omega (arith, b, few, p) in h)
-    , (tt
-    , (tt
-    , code_fits (with_texts l ts) (at + 17) ls (omega (arith, a)) (omega (arith, b, few)))))))
+    let p = place_within l (with_texts l ts) in (
+      (let h : at + 17 < 2 ^ 32 = omega (arith, a) in h),
+      (
+        (let h : place_of output (with_texts l ts) < 2 ^ 32 = omega (arith, b, few, o) in h),
+        (
+          (let h : place_of l (with_texts l ts) < 2 ^ 32 = omega (arith, b, few, p) in h),
+          (
+            tt,
+            (
+              tt,
+              code_fits (with_texts l ts) (at + 17) ls (omega (arith, a)) (omega (arith, b, few)),
+            ),
+          ),
+        ),
+      ),
+    )
 
 joined_length : {A : Type 0} (xs ys : List A) → length (xs ++ ys) ≡ length xs + length ys
 joined_length [] ys = omega arith

@@ -20,44 +20,57 @@ Tail im o ts ls = (x : ℕ) → o ≤ x → fetch_from 0 im.code x ≡ fetch_fro
 module _ (ts : List Bytes) (o : ℕ) (l : Bytes) (ls : List Bytes) where
   abbrev r5 : List Instr
   r5 = code_of (with_texts l ts) (o + 17) ls
+
   abbrev r4 : List Instr
   r4 = op.Body ∷ r5
+
   abbrev r3 : List Instr
   r3 = op.Assign ∷ r4
+
   abbrev r2 : List Instr
   r2 = op.Str (place_of l (with_texts l ts)) ∷ r3
+
   abbrev r1 : List Instr
   r1 = op.Var (place_of output (with_texts l ts)) ∷ r2
 
   to_1 : (x : ℕ) → o < x → fetch_from o (code_of ts o (l ∷ ls)) x ≡ fetch_from (o + 5) r1 x
   to_1 x h = past (op.Begin (o + 17)) r1 o x h
+
   to_2 : (x : ℕ) → o + 5 < x → fetch_from o (code_of ts o (l ∷ ls)) x ≡ fetch_from (o + 5 + 5) r2 x
   to_2 x h = to_1 x (omega (arith, h)) ∙ past (op.Var (place_of output (with_texts l ts))) r2 (o + 5) x h
+
   to_3 : (x : ℕ) → o + 5 + 5 < x → fetch_from o (code_of ts o (l ∷ ls)) x ≡ fetch_from (o + 5 + 5 + 5) r3 x
   to_3 x h = to_2 x (omega (arith, h)) ∙ past (op.Str (place_of l (with_texts l ts))) r3 (o + 5 + 5) x h
+
   to_4 : (x : ℕ) → o + 5 + 5 + 5 < x → fetch_from o (code_of ts o (l ∷ ls)) x ≡ fetch_from (o + 5 + 5 + 5 + 1) r4 x
   to_4 x h = to_3 x (omega (arith, h)) ∙ past op.Assign r4 (o + 5 + 5 + 5) x h
+
   to_5 : (x : ℕ) → o + 5 + 5 + 5 + 1 < x → fetch_from o (code_of ts o (l ∷ ls)) x ≡ fetch_from (o + 17) r5 x
   to_5 x h = to_4 x (omega (arith, h)) ∙ past op.Body r5 (o + 5 + 5 + 5 + 1) x h ∙ ap (λ p. fetch_from p r5 x) (let e : o + 5 + 5 + 5 + 1 + 1 ≡ o + 17 = omega arith in e)
 
 module _ (im : Image) (ts : List Bytes) (o : ℕ) (l : Bytes) (ls : List Bytes) (t : Tail im o ts (l ∷ ls)) where
   pub begins : fetch_from 0 im.code o ≡ At (op.Begin (o + 17)) (o + 5)
   begins = t o (omega arith) ∙ here (op.Begin (o + 17)) (r1 ts o l ls) o
+
   names : fetch_from 0 im.code (o + 5) ≡ At (op.Var (place_of output (with_texts l ts))) (o + 10)
   names = t (o + 5) (omega arith) ∙ to_1 ts o l ls (o + 5) (omega arith) ∙ here (op.Var (place_of output (with_texts l ts))) (r2 ts o l ls) (o + 5)
       ∙ ap (At (op.Var (place_of output (with_texts l ts)))) (let e : o + 5 + 5 ≡ o + 10 = omega arith in e)
+
   values : fetch_from 0 im.code (o + 10) ≡ At (op.Str (place_of l (with_texts l ts))) (o + 15)
   values = let e : o + 5 + 5 ≡ o + 10 = omega arith in let f : o + 5 + 5 + 5 ≡ o + 15 = omega arith in
       subst (λ p. fetch_from 0 im.code p ≡ At (op.Str (place_of l (with_texts l ts))) (o + 15)) e
-        (t (o + 5 + 5) (omega arith) ∙ to_2 ts o l ls (o + 5 + 5) (omega arith) ∙ here (op.Str (place_of l (with_texts l ts))) (r3 ts o l ls) (o + 5 + 5) ∙ ap (At (op.Str (place_of l (with_texts l ts)))) f)
+      (t (o + 5 + 5) (omega arith) ∙ to_2 ts o l ls (o + 5 + 5) (omega arith) ∙ here (op.Str (place_of l (with_texts l ts))) (r3 ts o l ls) (o + 5 + 5) ∙ ap (At (op.Str (place_of l (with_texts l ts)))) f)
+
   assigns : fetch_from 0 im.code (o + 15) ≡ At op.Assign (o + 16)
   assigns = let e : o + 5 + 5 + 5 ≡ o + 15 = omega arith in let f : o + 5 + 5 + 5 + 1 ≡ o + 16 = omega arith in
       subst (λ p. fetch_from 0 im.code p ≡ At op.Assign (o + 16)) e
-        (t (o + 5 + 5 + 5) (omega arith) ∙ to_3 ts o l ls (o + 5 + 5 + 5) (omega arith) ∙ here op.Assign (r4 ts o l ls) (o + 5 + 5 + 5) ∙ ap (At op.Assign) f)
+      (t (o + 5 + 5 + 5) (omega arith) ∙ to_3 ts o l ls (o + 5 + 5 + 5) (omega arith) ∙ here op.Assign (r4 ts o l ls) (o + 5 + 5 + 5) ∙ ap (At op.Assign) f)
+
   leaves_body : fetch_from 0 im.code (o + 16) ≡ At op.Body (o + 17)
   leaves_body = let e : o + 5 + 5 + 5 + 1 ≡ o + 16 = omega arith in let f : o + 5 + 5 + 5 + 1 + 1 ≡ o + 17 = omega arith in
       subst (λ p. fetch_from 0 im.code p ≡ At op.Body (o + 17)) e
-        (t (o + 5 + 5 + 5 + 1) (omega arith) ∙ to_4 ts o l ls (o + 5 + 5 + 5 + 1) (omega arith) ∙ here op.Body (r5 ts o l ls) (o + 5 + 5 + 5 + 1) ∙ ap (At op.Body) f)
+      (t (o + 5 + 5 + 5 + 1) (omega arith) ∙ to_4 ts o l ls (o + 5 + 5 + 5 + 1) (omega arith) ∙ here op.Body (r5 ts o l ls) (o + 5 + 5 + 5 + 1) ∙ ap (At op.Body) f)
+
   pub tail_next : Tail im (o + 17) (with_texts l ts) ls
   tail_next x h = t x (omega (arith, h)) ∙ to_5 ts o l ls x (omega (arith, h))
 
@@ -127,9 +140,9 @@ pair_to im a at t s e c = subst (λ p. Comes im p.0 p.1) e c
 
 only : (im : Image) (a at : ℕ) (t s : Shape) → Comes im a t → Contains {X = ℕ × Shape} ((a, t) ∷ []) (at, s) → Comes im at s
 only im a at t s c h = elim (contains_cons {X = ℕ × Shape} (a, t) (at, s) [] h) [
-    | inl e ↦ pair_to im a at t s e c
-    | inr n ↦ no_pair im at s n
-  ]
+  | inl e ↦ pair_to im a at t s e c
+  | inr n ↦ no_pair im at s n
+]
 
 targeted : (im : Image) (b : Bool) (a at : ℕ) (t s : Shape) → Comes im a t → Contains {X = ℕ × Shape} (if b then (a, t) ∷ [] else []) (at, s) → Comes im at s
 targeted im true a at t s c h = only im a at t s c h
@@ -151,13 +164,13 @@ led im before s' (to_body o ts l ls t) i next e at s h = only im (o + 17) at bar
 -- a statement's offset is where its code begins
 tail_at : (im : Image) (ts : List Bytes) (at : ℕ) (ls : List Bytes) → Tail im at ts ls → (o : ℕ) → Contains (offsets_of at ls) o → Comes im o bare
 tail_at im ts at [] t o h = elim (contains_cons at o [] h) [
-    | inl e ↦ subst (λ x. Comes im x bare) e (to_statement at ts [] t)
-    | inr n ↦ absurd (contains_nil o n)
-  ]
+  | inl e ↦ subst (λ x. Comes im x bare) e (to_statement at ts [] t)
+  | inr n ↦ absurd (contains_nil o n)
+]
 tail_at im ts at (l ∷ ls) t o h = elim (contains_cons at o (offsets_of (at + 17) ls) h) [
-    | inl e ↦ subst (λ x. Comes im x bare) e (to_statement at ts (l ∷ ls) t)
-    | inr n ↦ tail_at im (with_texts l ts) (at + 17) ls (tail_next im ts at l ls t) o n
-  ]
+  | inl e ↦ subst (λ x. Comes im x bare) e (to_statement at ts (l ∷ ls) t)
+  | inr n ↦ tail_at im (with_texts l ts) (at + 17) ls (tail_next im ts at l ls t) o n
+]
 
 begun_at : (lits : List Bytes) (at : ℕ) (s : Shape) → Begins (image_of lits) at s → Comes (image_of lits) at s
 begun_at lits at s (inl (h, e)) = subst (λ x. Comes (image_of lits) at x) (sym e) (tail_at (image_of lits) [] 0 lits (λ x l. refl) at h)

@@ -113,9 +113,9 @@ code_fine im last new ts (l ∷ ls) at front pos t held among f whole end =
     let t4 : total f4 ≡ at + 16 = let h = total_snoc f3 op.Assign in omega (arith, h, t3) in
     let t5 : total f5 ≡ at + 17 = let h = total_snoc f4 op.Body in omega (arith, h, t4) in
     let begin_place : place_fits im (total front) i1 ≡ true =
-        subst (λ x. place_fits im x (op.Begin (at + 17)) ≡ true) (sym f)
-          (let less : nat_lt at (at + 17) ≡ true = grind arith in
-          rw (less, next_begins im (with_texts l ts) (at + 17) ls (tail_next im ts at l ls t), among at (is_first (offsets_of (at + 17) ls) at)) refl) in
+    subst (λ x. place_fits im x (op.Begin (at + 17)) ≡ true) (sym f)
+    (let less : nat_lt at (at + 17) ≡ true = grind arith in
+    rw (less, next_begins im (with_texts l ts) (at + 17) ls (tail_next im ts at l ls t), among at (is_first (offsets_of (at + 17) ls) at)) refl) in
     let name : indices_fit im i2 ≡ true = ap is_nonnull held.1 in
     let text : indices_fit im i3 ≡ true = let h = within im.strings (place_of l (with_texts l ts)) l held.0 in grind (arith, h) in
     let n1 = nothing_told im front pos i1 last refl begin_place (omega (arith, f, whole, more)) new (omega (arith, f, end)) in
@@ -124,7 +124,7 @@ code_fine im last new ts (l ∷ ls) at front pos t held among f whole end =
     let n4 = nothing_told im f3 (pos + 5 + 5 + 5) op.Assign last refl refl (omega (arith, t3, whole, more)) new (omega (arith, t3, end)) in
     let n5 = nothing_told im f4 (pos + 5 + 5 + 5 + 1) op.Body last refl refl (omega (arith, t4, whole, more)) new (omega (arith, t4, end)) in
     let rest = code_fine im last new (with_texts l ts) ls (at + 17) f5 (pos + 5 + 5 + 5 + 1 + 1) (tail_next im ts at l ls t) held.2 (λ x h. among x (is_there (offsets_of (at + 17) ls) x at h)) t5
-        (omega (arith, whole)) (omega (arith, end)) in
+    (omega (arith, whole)) (omega (arith, end)) in
     (λ i. first (n1 i) (first (n2 i) (first (n3 i) (first (n4 i) (first (n5 i) (rest i))))))
 
 offset_of_last : (at : ℕ) (ls : List Bytes) → slice_get (offsets_of at ls) (length ls) ≡ Some (at + 17 * length ls)

@@ -133,7 +133,6 @@ module _ (prog : Program) (img : Module) (all : List Bytes) (strings : (k : ℕ)
   placed_here : (ts : List Bytes) (k at : ℕ) (l : Bytes) (rest : List Instr) → Has all output ts → Has all l ts
       → ((x : ℕ) → at ≤ x → img.fetch x ≡ fetch_from at (statement_code ts at l ++ rest) x)
       → img.stmt (suc k) ≡ Some (at + 17) → img.number at ≡ k → CodeS prog img (λ j. None) k (Some (prints l)) at
-
   placed_here ts k at l rest held_output held_l has next number =
       let r1 = op.Var (place_of output ts) ∷ op.Str (place_of l ts) ∷ op.Assign ∷ op.Body ∷ rest in
       let r2 = op.Str (place_of l ts) ∷ op.Assign ∷ op.Body ∷ rest in
@@ -169,7 +168,6 @@ module _ (prog : Program) (img : Module) (all : List Bytes) (strings : (k : ℕ)
       → ((i : ℕ) → img.stmt (k + i) ≡ slice_get (offsets_of at ls) i)
       → ((i o : ℕ) → slice_get (offsets_of at ls) i ≡ Some o → img.number o ≡ k + i)
       → (i o : ℕ) → slice_get (offsets_of at ls) i ≡ Some o → CodeS prog img (λ j. None) (k + i) (slice_get (printing ls) i) o
-
   stands ts k at [] held has offsets numbers zero o e =
       let z : at ≡ o = cc in
       (at + 1, subst (λ x. img.fetch x ≡ At op.End (at + 1)) z (has at (omega arith) ∙ here op.End [] at))

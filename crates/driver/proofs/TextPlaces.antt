@@ -20,12 +20,12 @@ same x y = pointwise nat_eq x.items y.items
 pub put_key : (v : Text) (ks : List Text) → map items (insert_key same ks v) ≡ with_text v.items (map items ks)
 put_key v [] = refl
 put_key v (x ∷ ks) = elim (same v x) as (λ b. map items (if b || list_any (same v) ks then x ∷ ks else (x ∷ ks) ++ v ∷ []) ≡ (if b then x.items ∷ map items ks else x.items ∷ with_text v.items (map items ks))) [
-    | true ↦ refl
-    | false ↦ elim (list_any (same v) ks) as (λ b. map items (if b then ks else ks ++ v ∷ []) ≡ with_text v.items (map items ks) → map items (if b then x ∷ ks else (x ∷ ks) ++ v ∷ []) ≡ x.items ∷ with_text v.items (map items ks)) [
-      | true ↦ λ e. ap (λ l. x.items ∷ l) e
-      | false ↦ λ e. ap (λ l. x.items ∷ l) e
-    ] (put_key v ks)
-  ]
+  | true ↦ refl
+  | false ↦ elim (list_any (same v) ks) as (λ b. map items (if b then ks else ks ++ v ∷ []) ≡ with_text v.items (map items ks) → map items (if b then x ∷ ks else (x ∷ ks) ++ v ∷ []) ≡ x.items ∷ with_text v.items (map items ks)) [
+    | true ↦ λ e. ap (λ l. x.items ∷ l) e
+    | false ↦ λ e. ap (λ l. x.items ∷ l) e
+  ] (put_key v ks)
+]
 
 not_then : (b : Bool) (n m : ℕ) → n ≡ m → (if not b then 1 + n else 0) ≡ (if b then 0 else suc m)
 not_then true n m e = refl
@@ -39,33 +39,33 @@ place_key v (x ∷ ks) = not_then (same v x) (position_or_len (same v) ks) (plac
 pub place_put : (t : List ℕ) (ts : List (List ℕ)) → place_of t (with_text t ts) ≡ place_of t ts
 place_put t [] = let e : bytes_eq t t ≡ true = search rules in rw e refl
 place_put t (s ∷ ss) = elim (bytes_eq t s) as (λ b. (bytes_eq t s ≡ b) → place_of t (if b then s ∷ ss else s ∷ with_text t ss) ≡ (if b then 0 else suc (place_of t ss))) [
-    | true ↦ λ e. rw e refl
-    | false ↦ λ e. rw e (ap suc (place_put t ss))
-  ] refl
+  | true ↦ λ e. rw e refl
+  | false ↦ λ e. rw e (ap suc (place_put t ss))
+] refl
 
 -- and that of one that is there stays as another is put
 pub place_stays : (s t : List ℕ) (ts : List (List ℕ)) → place_of s (with_text t (with_text s ts)) ≡ place_of s (with_text s ts)
 place_stays s t [] = let e : bytes_eq s s ≡ true = search rules in elim (bytes_eq t s) as (λ b. place_of s (if b then s ∷ [] else s ∷ t ∷ []) ≡ place_of s (s ∷ [])) [
+  | true ↦ refl
+  | false ↦ rw e refl
+]
+place_stays s t (x ∷ xs) = elim (bytes_eq s x) as (λ b. (bytes_eq s x ≡ b) → place_of s (with_text t (if b then x ∷ xs else x ∷ with_text s xs)) ≡ place_of s (if b then x ∷ xs else x ∷ with_text s xs)) [
+  | true ↦ λ e. elim (bytes_eq t x) as (λ b. place_of s (if b then x ∷ xs else x ∷ with_text t xs) ≡ place_of s (x ∷ xs)) [
     | true ↦ refl
     | false ↦ rw e refl
   ]
-place_stays s t (x ∷ xs) = elim (bytes_eq s x) as (λ b. (bytes_eq s x ≡ b) → place_of s (with_text t (if b then x ∷ xs else x ∷ with_text s xs)) ≡ place_of s (if b then x ∷ xs else x ∷ with_text s xs)) [
-    | true ↦ λ e. elim (bytes_eq t x) as (λ b. place_of s (if b then x ∷ xs else x ∷ with_text t xs) ≡ place_of s (x ∷ xs)) [
-      | true ↦ refl
-      | false ↦ rw e refl
-    ]
-    | false ↦ λ e. elim (bytes_eq t x) as (λ b. place_of s (if b then x ∷ with_text s xs else x ∷ with_text t (with_text s xs)) ≡ place_of s (x ∷ with_text s xs)) [
-      | true ↦ refl
-      | false ↦ rw e (ap suc (place_stays s t xs))
-    ]
-  ] refl
+  | false ↦ λ e. elim (bytes_eq t x) as (λ b. place_of s (if b then x ∷ with_text s xs else x ∷ with_text t (with_text s xs)) ≡ place_of s (x ∷ with_text s xs)) [
+    | true ↦ refl
+    | false ↦ rw e (ap suc (place_stays s t xs))
+  ]
+] refl
 
 pub few_more : (t : List ℕ) (ts : List (List ℕ)) → length (with_text t ts) ≤ length ts + 1
 few_more t [] = omega arith
 few_more t (s ∷ ss) = elim (bytes_eq t s) as (λ b. length (if b then s ∷ ss else s ∷ with_text t ss) ≤ length (s ∷ ss) + 1) [
-    | true ↦ omega arith
-    | false ↦ let h = few_more t ss in omega (arith, h)
-  ]
+  | true ↦ omega arith
+  | false ↦ let h = few_more t ss in omega (arith, h)
+]
 
 pub few_texts : (l : List ℕ) (ts : List (List ℕ)) → length (with_texts l ts) ≤ length ts + 2
 few_texts l ts = let a = few_more l (with_text output ts) in let b = few_more output ts in omega (arith, a, b)

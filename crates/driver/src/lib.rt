@@ -3,11 +3,15 @@
 
 mod fragment;
 mod generating;
+mod laws;
 mod refusal;
 mod strings;
 mod telling;
 mod words;
 
+pub use fragment::{literals, not_yet};
+pub use generating::generate;
+pub use laws::{all_print, printed_literals};
 pub use refusal::Refusal;
 pub use telling::{Told, WriteFault, report};
 pub use words::{Job, read_words};

@@ -14,8 +14,8 @@ returns-clause-code c =
     let word : c.as_slice.result.now ≡ output = c.as_slice.ensures in
     let put_output : c.number.new.self ≡ with_text output c.args.strings.now = c.in_ok-output.ensures.put ∙ ap (λ o. with_text o c.args.strings.now) word in
     let out : c.in_ok-output.output ≡ place_of output c.number-2.new.self =
-        c.in_ok-output.ensures.place ∙ ap (λ o. place_of o c.number.new.self) word ∙ ap (place_of output) put_output ∙ sym (place_stays output c.args.literal.now c.args.strings.now)
-        ∙ ap (λ t. place_of output (with_text c.args.literal.now t)) (sym put_output) ∙ ap (place_of output) (sym c.in_ok-text.ensures.put) in
+    c.in_ok-output.ensures.place ∙ ap (λ o. place_of o c.number.new.self) word ∙ ap (place_of output) put_output ∙ sym (place_stays output c.args.literal.now c.args.strings.now)
+    ∙ ap (λ t. place_of output (with_text c.args.literal.now t)) (sym put_output) ∙ ap (place_of output) (sym c.in_ok-text.ensures.put) in
     five c.args.code.now.items _ _ _ _ _ _ _ _ _ _ c.in_ok-push.ensures.items c.in_ok-push-2.ensures.items c.in_ok-push-3.ensures.items c.in_ok-push-4.ensures.items c.in_ok-push-5.ensures.items
     ∙ ap (λ n. c.args.code.now.items ++ op.Begin (c.args.at + 17) ∷ op.Var n ∷ op.Str c.in_ok-text.text ∷ op.Assign ∷ op.Body ∷ []) out
     ∙ ap (λ n. c.args.code.now.items ++ op.Begin (c.args.at + 17) ∷ op.Var (place_of output c.number-2.new.self) ∷ op.Str n ∷ op.Assign ∷ op.Body ∷ []) c.in_ok-text.ensures.place
