@@ -82,7 +82,7 @@ word_parts [] [] h = record { rest = []; is = refl; ends = tt }
 word_parts [] (b ∷ bs) h = record { rest = b ∷ bs; is = refl; ends = h }
 word_parts (w ∷ ws) [] h = absurd (cc)
 word_parts (w ∷ ws) (b ∷ bs) h =
-    let parts = and_parts (b == w) (is_word_first ws bs) h in
+    let parts = and_parts (w == b) (is_word_first ws bs) h in
     let test = parts.0 in
     let same : b ≡ w = grind (arith, nat_tests) in
     let more = word_parts ws bs parts.1 in

@@ -9,4 +9,3 @@ mod state;
 mod status;
 
 pub use machine::{Machine, run_image};
-pub use status::{Status, Stop};

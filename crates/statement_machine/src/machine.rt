@@ -14,8 +14,8 @@ ghost use Rattle.statement_machine.specs.declared.status.Halt.{Halt as RustHalt}
 
 use crate::program::Program;
 use crate::state::State;
-use crate::status::{Halt, Status, Stop};
-use model::Image;
+use crate::status::Halt;
+use model::{Image, Status, Stop};
 use std::alloc::{AllocError, Global};
 use std::marker::Model;
 use unit_io::Units;

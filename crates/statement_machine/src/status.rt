@@ -1,28 +1,10 @@
-//! What a run has come to.
+//! Why a machine makes no further step.
 
 ghost use Rattle.std.specs.Prelude.{◌≡◌};
 ghost use Rattle.statement_machine.specs.Stopped.{status_of};
 
-use model::{Ending, UnitFault};
-use std::alloc::{AllocError, AllocFailed};
-
-/// Why a run stopped before its end.
-#[derive(Clone, Copy, Debug, PartialEq, Eq)]
-pub enum Stop {
-    /// A unit refused a call; the cause is never want of memory.
-    Unit { unit: u8, cause: UnitFault },
-    /// A growth of memory was refused.
-    NoMemory,
-}
-
-/// What a run has come to.
-#[derive(Clone, Copy, Debug, PartialEq, Eq)]
-pub enum Status {
-    /// The bound on steps is used up.
-    Running,
-    Ended(Ending),
-    Stopped(Stop),
-}
+use model::{Ending, Status, Stop};
+use std::alloc::AllocError;
 
 /// Why no further step is made.
 #[derive(Clone, Copy)]
@@ -43,7 +25,7 @@ impl From<Stop> for Halt {
 
 impl From<AllocError> for Halt {
     ghost use Rattle.statement_machine.specs.declared.status.Halt.TheVariants.{Stopped};
-    ghost use Rattle.statement_machine.specs.declared.status.Stop.TheVariants.{NoMemory};
+    ghost use Rattle.model.specs.declared.run.Stop.TheVariants.{NoMemory};
 
     ghost from_gives = { λ _ halt. halt ≡ Stopped NoMemory };
 
