@@ -7,3 +7,4 @@ pub mod Searching
 pub mod Seeing
 pub mod Stopping
 pub mod Telling
+pub mod WellFormed

@@ -7,7 +7,9 @@ ghost use Rattle.model.specs.Agreement.{first_m, mach};
 ghost use Rattle.model.specs.Machine as m;
 ghost use Rattle.model.specs.Machine.{begun, steps};
 ghost use Rattle.model.specs.Modules.{module_of};
-ghost use Rattle.statement_machine.specs.Runnable.{IsRunnable};
+ghost use Rattle.model.specs.Spelling.{IsImage};
+ghost use Rattle.model.specs.WellFormed.{IsWellFormed};
+ghost use Rattle.statement_machine.specs.Runnable.{AreRunYet};
 ghost use Rattle.statement_machine.specs.Held.{Holds};
 ghost use Rattle.statement_machine.specs.Stopped.{IfRan, IfStopped, IsStop, ending_of, status_at};
 ghost use Rattle.statement_machine.specs.declared.status.Halt.{Halt as RustHalt};
@@ -41,7 +43,9 @@ impl<'m> Model for Machine<'m> {
 impl<'m> Machine<'m> {
     /// A run of a module, before its first step.
     pub fn new(alloc: Global, image: &'m Image) -> Result<Machine<'m>, AllocError>
-        requires { IsRunnable image.now }
+        requires spelt { IsImage image.now }
+        requires formed { IsWellFormed image.now }
+        requires run_yet { AreRunYet image.now.code }
         ensures image { IfOk result (λ machine. machine.image ≡ image.now) }
         ensures going { IfOk result (λ machine. machine.halt ≡ None) }
         ensures begun { IfOk result (λ machine. (io : Io) → io.printed ≡ [] → Holds machine io (begun (module_of image.now) (first_m io.left))) }
@@ -82,7 +86,9 @@ impl<'m> Machine<'m> {
 
 /// Runs a module from its entry, at most so many steps.
 pub fn run_image<U: Units>(alloc: Global, image: &Image, units: &mut U, bound: u64) -> Status
-    requires { IsRunnable image.now }
+    requires spelt { IsImage image.now }
+    requires formed { IsWellFormed image.now }
+    requires run_yet { AreRunYet image.now.code }
     ensures run { IfRan result (IfTold (U.told units.old) (U.told units.new) (λ io io'. io.printed ≡ [] →
         record { ending = ending_of result; printed = io'.printed } ≡ mach image.now io.left bound)) }
     ensures stop { IfStopped result (λ stop. IsStop stop (U.failures units.old) (U.failures units.new)) }

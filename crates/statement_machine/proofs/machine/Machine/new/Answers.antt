@@ -5,7 +5,11 @@ use Rattle.model.specs.Flow.{InGoto}
 use Rattle.model.specs.Modules.{statement_at}
 use Rattle.statement_machine.proofs.Flowing.{statement_stands}
 use Rattle.statement_machine.proofs.Running.{begun_is}
+use Rattle.statement_machine.proofs.WellFormed.{runnable}
 use Rattle.statement_machine.proofs.machine.Machine.new.Goals as goal
+
+pub new-requires : goal.new-requires
+new-requires c = runnable c.args.image.now c.requires.spelt c.requires.formed c.requires.run_yet
 
 pub invariant_of-result : goal.invariant_of-result
 invariant_of-result c =
