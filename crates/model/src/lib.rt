@@ -3,7 +3,6 @@
 
 mod cards;
 mod causes;
-mod flow;
 mod format;
 mod image;
 mod instr;
@@ -25,7 +24,6 @@ mod trees;
 
 pub use cards::{CardFault, CardRule, Deck, Statement};
 pub use causes::{Cause, DeckFault, StmtFault};
-pub use flow::{Course, Handler, Kind, Mode};
 pub use format::{FormatFault, FormatRule, LoadFault, Miss, ModuleFault, ModuleRule, ReadError};
 pub use image::{Image, Label, PatInstr};
 pub use instr::{ArithOp, Instr, ReturnKind, SignOp};
