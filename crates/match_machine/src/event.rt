@@ -34,9 +34,15 @@ pub enum Event {
     /// Nothing yet.
     Running,
     /// The value of this expression is asked for.
-    Ask { expr: u32, want: Want },
+    Ask {
+        expr: u32,
+        want: Want,
+    },
     /// An assignment is asked for.
-    Say { name: Name, value: Told },
+    Say {
+        name: Name,
+        value: Told,
+    },
     /// The first success, with its assignments in order.
     Matched {
         start: usize,

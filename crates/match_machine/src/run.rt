@@ -37,7 +37,11 @@ pub fn next_place(thread: &Thread) -> usize
     requires { thread.now.place < length thread.now.code }
     ensures { result ≡ thread.now.place + 1 }
 {
-    if thread.place < thread.code.len() { thread.place + 1 } else { thread.place }
+    if thread.place < thread.code.len() {
+        thread.place + 1
+    } else {
+        thread.place
+    }
 }
 
 /// The attempt on at a place and a cursor.
@@ -55,7 +59,11 @@ pub fn onward(run: &mut Run, place: usize, cursor: usize)
     ensures places { SamePlaces run.old run.new }
 {
     move_on(&mut run.thread, place, cursor);
-    run.mode = if run.thread.place < run.thread.code.len() { Mode::Going } else { Mode::Matched };
+    run.mode = if run.thread.place < run.thread.code.len() {
+        Mode::Going
+    } else {
+        Mode::Matched
+    };
 }
 
 /// Back to the newest choice, to the next start, or to the end of the match.

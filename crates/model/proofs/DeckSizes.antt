@@ -1,6 +1,6 @@
 -- How much an accepted deck holds.
-use Rattle.std.proofs.Common.{◌≡◌, refl, sym, ap, subst, ℕ, suc, ◌+◌, ◌≤◌, ◌==◌, ◌||◌, inl, inr, true, false, List, [], ◌∷◌, ◌++◌, length, length-append, take, arith}
-use Rattle.std.specs.Prelude.{Option, Some, None, map, nat_lt}
+use Rattle.std.proofs.Common.{Bool, ◌≡◌, refl, sym, ap, subst, ℕ, suc, ◌+◌, ◌≤◌, ◌==◌, ◌||◌, inl, inr, true, false, List, [], ◌∷◌, ◌++◌, length, length-append, take, arith}
+use Rattle.std.specs.Prelude.{Option, Some, None, map, nat_lt, if◌then◌else◌}
 use Rattle.std.specs.List.{AllByRecursion}
 use Rattle.std.proofs.lemmas.Bool.{cases_Bool}
 use Rattle.std.proofs.lemmas.Bool.Decides.{nat_tests}
@@ -68,14 +68,16 @@ of_kind (Continuation text) = length text
 of_kind (Start text) = length text
 of_kind _ = 0
 
+tests_total : (comment control known continuation : Bool) (b : ℕ) (rest : List ℕ)
+    → of_kind (if comment then Comment else (if control then (if known then Control else UnknownControl) else (if continuation then Continuation rest else Start (b ∷ rest)))) ≤ length (b ∷ rest)
+tests_total true y k z b rest = omega arith
+tests_total false true true z b rest = omega arith
+tests_total false true false z b rest = omega arith
+tests_total false false k true b rest = omega arith
+tests_total false false k false b rest = omega arith
+
 kind_by_total : (b : ℕ) (rest : List ℕ) → of_kind (kind_by_first b rest) ≤ length (b ∷ rest)
-kind_by_total b rest = elim (cases_Bool (b == 42)) [
-  | inl h ↦ rw h (omega arith)
-  | inr h ↦ elim (cases_Bool (b == 45)) [
-    | inl i ↦ elim (cases_Bool (is_known_control (b ∷ rest))) [ inl j ↦ rw (h, i, j) (omega arith) | inr j ↦ rw (h, i, j) (omega arith) ]
-    | inr i ↦ elim (cases_Bool ((b == 43) || (b == 46))) [ inl j ↦ rw (h, i, j) (omega arith) | inr j ↦ rw (h, i, j) (omega arith) ]
-  ]
-]
+kind_by_total b rest = tests_total (b == 42) (b == 45) (is_known_control (b ∷ rest)) ((b == 43) || (b == 46)) b rest
 
 columns_total : (columns : List ℕ) → of_kind (kind_of_columns columns) ≤ length columns
 columns_total [] = omega arith

@@ -1,14 +1,12 @@
 -- Texts are read as the integers that Rust reads, and an integer in range is one of 64 bits.
-use Rattle.std.proofs.Common.{◌≡◌, ℕ, ◌<◌, ◌^◌, List, [], ◌∷◌, length, ℤ, pos, negsuc, Bool, true, false, ◌&&◌, nat_lt, if◌then◌else◌, FitsSigned, refl, sym, ap, ◌∙◌, subst, arith, zero-lt-suc}
+use Rattle.std.proofs.Common.{◌≡◌, ◌^◌, [], ◌∷◌, length, ℤ, pos, negsuc, Bool, true, false, ◌&&◌, nat_lt, if◌then◌else◌, FitsSigned, refl, ap, ◌∙◌, subst, arith, zero-lt-suc}
 use Rattle.std.proofs.lemmas.Bool.Decides.{Decides-ltb}
 use Rattle.std.specs.Int.{w64}
 use Rattle.std.specs.Char.{digit_value}
 use Rattle.std.specs.Str.Parse.{AllDigits, IsNumeral, without_leading_sign, signed_digits_value}
-use Rattle.model.specs.declared.run.ErrorCode.{ErrorCode}
 use Rattle.model.specs.declared.run.ErrorCode.TheVariants as error
 use Rattle.model.specs.Trees.{Bytes}
-use Rattle.model.specs.Strings.{IsIntText}
-use Rattle.model.specs.Conversions.{Conv, Got, Bad, all_digits, is_numeral, in_range, fit, read_integer}
+use Rattle.model.specs.Conversions.{Conv, Got, Bad, all_digits, is_numeral, in_range, fit}
 use Rattle.model.specs.ValueLaws.{ReadsIntegers, RefusesOtherTexts, FitsInRange, FaultsBeyond}
 
 -- ---- in range

@@ -1,9 +1,7 @@
 -- What is known of the tokens that a text without lexical faults is cut into.
 use Rattle.std.proofs.Common.{◌≡◌, refl, sym, ◌∙◌, ap, subst, ℕ, ◌≤◌, ◌||◌, Bool, true, false, List, [], ◌∷◌, map, arith}
 use Rattle.std.proofs.lemmas.Bool.Decides.{nat_tests}
-use Rattle.std.specs.Prelude.{Option, Some, None, if◌then◌else◌, nat_lt}
-use Rattle.model.specs.declared.causes.Cause.{Cause}
-use Rattle.model.specs.declared.causes.Cause.TheVariants as cause
+use Rattle.std.specs.Prelude.{Some, None, if◌then◌else◌, nat_lt}
 use Rattle.model.specs.declared.tokens.Token.{Token}
 use Rattle.model.specs.declared.tokens.TokenKind.{TokenKind}
 use Rattle.model.specs.declared.tokens.TokenKind.TheVariants as kind
@@ -12,7 +10,7 @@ use Rattle.model.specs.Cut.{IsToken, Piece, Stray, Unclosed, First, longest, unc
 use Rattle.model.specs.Digits.{value}
 use Rattle.model.specs.Lexed.{Lexed}
 use Rattle.model.specs.Pieces.{pieces}
-use Rattle.model.specs.Tokens.{Tok, tok_by, toks}
+use Rattle.model.specs.Tokens.{tok_by, toks}
 use Rattle.model.proofs.Cutting.{only_is}
 
 abbrev pub piece_of : Token → Piece

@@ -5,10 +5,10 @@ use Rattle.model.specs.Pattern.{Lit, Pat, Plain, Cat, Alt, Expr, Pending, Event,
 use Rattle.model.specs.Basic.{ends_at}
 use Rattle.model.specs.Ends.{Item, End, Aborted, Deep, join, replaced, put_before, plain_ends, ends, first_item, first, IsOneOf, Permits, IsPlain, IsOfLiterals}
 use Rattle.model.specs.Search.{scan}
-use Rattle.model.specs.Steps.{Code, match_steps, event_of}
+use Rattle.model.specs.Steps.{match_steps, event_of}
 use Rattle.model.specs.Stands as St
 use Rattle.model.specs.Stands.{Stands, AlikeEvent}
-use Rattle.model.specs.PatternLaws.{IsItem, IsStart, PermitsSome, TellsRight, LiteralsScanned, LiteralScansRight, LiteralsRun, LiteralRunsRight}
+use Rattle.model.specs.PatternLaws.{IsItem, IsStart, TellsRight, LiteralsScanned, LiteralScansRight, LiteralsRun, LiteralRunsRight}
 use Rattle.model.proofs.SearchGrows.{EventGrows}
 use Rattle.model.proofs.EndsLaws.{Begins, ends_more, EachEnd, each_permitted}
 use Rattle.model.proofs.PatternLaws.{event_same}

@@ -1,9 +1,8 @@
 -- What the states of a match promise of its answer.
-use Rattle.std.proofs.Common.{◌≡◌, ℕ, zero, suc, ◌+◌, ◌-◌, List, [], ◌∷◌, ◌++◌, refl, sym, ◌∙◌, ap, subst, arith, ◌≤◌, ◌<◌, ◌⊎◌, inl, inr, Option}
+use Rattle.std.proofs.Common.{◌≡◌, ℕ, zero, suc, ◌+◌, List, [], ◌∷◌, refl, sym, ◌∙◌, ap, subst, arith, ◌≤◌, ◌<◌, ◌⊎◌, inl, inr, Option}
 use Rattle.std.specs.Prelude.{◌≢◌}
-use Rattle.model.specs.Pattern.{Pat, Expr, Event, Running, Failed, Asks, Matched}
-use Rattle.model.specs.Ends.{first}
-use Rattle.model.specs.Search.{Script, scan}
+use Rattle.model.specs.Pattern.{Expr, Event, Running}
+use Rattle.model.specs.Search.{scan}
 use Rattle.model.specs.Steps.{Code, Answers, State, Starting, Going, Returning, Waits, Over, step, steps, event_of, match_steps, with_more, IsSupplied}
 use Rattle.model.specs.Stands as St
 use Rattle.model.specs.Stands.{AlikeEvent}

@@ -11,7 +11,7 @@ use Rattle.model.specs.Keywords.{counted, return_name}
 use Rattle.model.specs.Pattern.{KLen, KPos, KRPos, KTab, KRTab, KAny, KNotAny, KSpan, KBreak}
 use Rattle.model.specs.Stands.{Stands}
 use Rattle.model.specs.Values.{Str, Pat, Obj, Pattern, trees, Bounds, Key, IntegerAt, StringAt, Entry, Object, ArrayOf, Function, Defined, Constructor, Field}
-use Rattle.model.specs.Conversions.{Conv, Got, Bad, Op, Gives, then_conv}
+use Rattle.model.specs.Conversions.{Conv, Got, Bad, Op, Gives, then_conv, is_null}
 use Rattle.model.specs.Prototypes.{FunctionPrototype, function_prototype, TypePrototype, type_prototype, array_prototype, elements_in}
 use Rattle.model.specs.Aggregates as g
 use Rattle.model.specs.Aggregates.{place_from, place_of, pairs, new_object, array_op, copy_of, copy_op, field_values, all_integers, named_element, table_element, element_in, element_op, named_field, field_in, field_op, object_type, type_of, rows, row_count, rows_array, table_array, as_array}
@@ -163,11 +163,11 @@ module _ (at : ℕ → Option Expr) where
       go true = h
       go false = k
 
-  rows_same : {es : List (Entry Val)} {fs : List (Entry MVal)} → EntriesR at es fs → VRs at (rows es) (rows fs)
+  rows_same : {es : List (Entry Val)} {fs : List (Entry MVal)} → EntriesR at es fs → VRs at (rows is_null g.key_value es) (rows is_null g.key_value fs)
   rows_same enil = rnil
   rows_same (econs k h hs) = if_rows _ _ (null_same at h) (rows_same hs) (rcons (key_value_same k) (rcons h (rows_same hs)))
 
-  count_same : {es : List (Entry Val)} {fs : List (Entry MVal)} → EntriesR at es fs → row_count fs ≡ row_count es
+  count_same : {es : List (Entry Val)} {fs : List (Entry MVal)} → EntriesR at es fs → row_count is_null fs ≡ row_count is_null es
   count_same enil = refl
   count_same (econs k h hs) = λ i. if null_same at h i then count_same hs i else count_same hs i + 1
 
@@ -175,7 +175,7 @@ module _ (at : ℕ → Option Expr) where
   rows_array_same {es} {fs} {w} {m} hs wr =
       if_same at (VR at) _ _ _ _ _ _ (ap (λ n. nat_eq n 0) (count_same hs)) (refuses wr)
       (if_same at (VR at) _ _ _ _ _ _ (ap (λ n. nat_lt 524288 n) (count_same hs)) (faults error.BadArray wr)
-      (subst (λ n. OpR at (VR at) (new_object (ArrayOf (pairs (row_count es)) (rows es)) w) (new_object (ArrayOf (pairs n) (rows fs)) m)) (sym (count_same hs)) (new_same (rarray (pairs (row_count es)) (rows_same hs)) wr)))
+      (subst (λ n. OpR at (VR at) (new_object (ArrayOf (pairs (row_count is_null es)) (rows is_null g.key_value es)) w) (new_object (ArrayOf (pairs n) (rows is_null g.key_value fs)) m)) (sym (count_same hs)) (new_same (rarray (pairs (row_count is_null es)) (rows_same hs)) wr)))
 
   table_array_same : {o : Option (Object Val)} {x : Option (Object MVal)} {w : W} {m : MW} → OptR (ObjectR at) o x → WR at w m → OpR at (VR at) (table_array o w) (table_array x m)
   table_array_same none wr = refuses wr

@@ -6,7 +6,7 @@ use Rattle.std.proofs.lemmas.Slice.Eq.{bytes_eq-Decides}
 use Rattle.model.specs.declared.tokens.Mark.{Mark}
 use Rattle.model.specs.declared.tokens.Mark.TheVariants as mark
 use Rattle.model.specs.Tokens.{Tok, Blank, Word, Sign}
-use Rattle.model.specs.Trees.{Bytes, Expr, Place, Computed, Goto, Always, OnSuccess, OnFailure, Both, Body, Assign, Replace, Stmt, Plain, End}
+use Rattle.model.specs.Trees.{Bytes, Expr, Place, Computed, Goto, Always, Body, Assign, Replace, Stmt, Plain, End}
 use Rattle.model.specs.Grammar.{gap, IsElement, IsExpr}
 use Rattle.model.specs.Statements.{on_success, on_failure, end_word, IsPlace, label, computed, InBrackets, brackets, IsExits, always, success, failure, success_first, failure_first, IsGoto, next, leaves, IsObject, absent, present, IsBody, nothing, evaluate, match, assign, replace, IsLabel, unlabelled, labelled, IsEntry, first, entry, Tree, plain, end, HasNoTree}
 use Rattle.model.specs.Parse.{Parser, Ends, bind, skip, starts, tok_starts, sees_tok, sees, expect, element, whole, finish}
@@ -77,7 +77,7 @@ module _ (d : ℕ) where
   place_full (computed e ts s) fits h rest =
       let stops = close_stops h rest in
       bind_is (element d (ts ++ (gap h ++ Sign mark.Close ∷ rest))) (λ x end. Some (Computed x, end)) (e, gap h ++ Sign mark.Close ∷ rest)
-        (element_full d e ts (omega arith) s (gap h ++ Sign mark.Close ∷ rest) stops.0 stops.1)
+      (element_full d e ts (omega arith) s (gap h ++ Sign mark.Close ∷ rest) stops.0 stops.1)
 
   place_skip : {p : Place} {ts : List Tok} → IsPlace p ts → (g : Bool) (rest : List Tok) → skip (gap g ++ (ts ++ rest)) ≡ ts ++ rest
   place_skip (label l) g rest = skip_head g (Word l) rest refl
@@ -112,7 +112,7 @@ module _ (d : ℕ) where
   a_second word {q} {us} s fits g rest same =
       let regroup : (gap g ++ Word word ∷ us) ++ rest ≡ gap g ++ (Word word ∷ (us ++ rest)) = append_assoc (gap g) (Word word ∷ us) rest in
       rw (regroup, skip_head g (Word word) (us ++ rest) refl, same)
-        (bind_is (spec.in_brackets d (us ++ rest)) (λ x end. Some (Some x, end)) (q, rest) (in_brackets_full s fits rest))
+      (bind_is (spec.in_brackets d (us ++ rest)) (λ x end. Some (Some x, end)) (q, rest) (in_brackets_full s fits rest))
 
   in_brackets_no_word : (w : Bytes) {p : Place} {ts : List Tok} → InBrackets p ts → (rest : List Tok) → sees_word w (ts ++ rest) ≡ false
   unfolding sees_word
@@ -134,15 +134,15 @@ module _ (d : ℕ) where
         let more : List Tok = gap g ++ Word other_word ∷ us in
         let long = length-append ts more in
         rw (append_assoc ts more (gap h))
-          (bind_is (spec.in_brackets d (ts ++ (more ++ gap h))) after_first (p, more ++ gap h) (in_brackets_full s (omega (arith, long)) (more ++ gap h))
-          ∙ bind_is (spec.second d other_word (more ++ gap h)) (λ x end. Some (joined p x, end)) (Some q, gap h)
-              (a_second other_word t (omega (arith, long, length-append (gap g) (Word other_word ∷ us))) g (gap h) same))
+        (bind_is (spec.in_brackets d (ts ++ (more ++ gap h))) after_first (p, more ++ gap h) (in_brackets_full s (omega (arith, long)) (more ++ gap h))
+        ∙ bind_is (spec.second d other_word (more ++ gap h)) (λ x end. Some (joined p x, end)) (Some q, gap h)
+        (a_second other_word t (omega (arith, long, length-append (gap g) (Word other_word ∷ us))) g (gap h) same))
 
   exits_full : {g : Goto} {ts : List Tok} → IsExits g ts → length ts ≤ d → (h : Bool) → spec.exits d (ts ++ gap h) ≡ Some (g, gap h)
   unfolding spec.exits sees_word
   exits_full (always p ts s) fits h =
       rw (in_brackets_no_word on_success s (gap h), in_brackets_no_word on_failure s (gap h))
-        (bind_is (spec.in_brackets d (ts ++ gap h)) (λ x rest. Some (Always x, rest)) (p, gap h) (in_brackets_full s fits (gap h)))
+      (bind_is (spec.in_brackets d (ts ++ gap h)) (λ x rest. Some (Always x, rest)) (p, gap h) (in_brackets_full s fits (gap h)))
   exits_full (success p ts s) fits h = one_place on_failure from_success s (omega arith) h
   exits_full (failure p ts s) fits h = one_place on_success from_failure s (omega arith) h
   exits_full (success_first p q ts us g s t) fits h = two_places on_failure from_success s t g h refl (omega arith)

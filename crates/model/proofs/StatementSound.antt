@@ -1,15 +1,14 @@
 -- What the parser of statements gives is spelled by what it took.
 use Rattle.std.proofs.Common.{◌≡◌, refl, sym, ◌∙◌, ap, subst, ℕ, ◌&&◌, inl, inr, Bool, true, false, List, [], ◌∷◌, ◌++◌, length, append-nil}
 use Rattle.std.specs.Prelude.{Option, Some, None}
-use Rattle.std.specs.Str.{bytes_eq}
 use Rattle.std.proofs.lemmas.Slice.Eq.{bytes_eq-Decides}
 use Rattle.model.specs.declared.tokens.Mark.{Mark}
 use Rattle.model.specs.declared.tokens.Mark.TheVariants as mark
 use Rattle.model.specs.Tokens.{Tok, Blank, Word, Digits, Quoted, Sign}
-use Rattle.model.specs.Trees.{Bytes, Expr, Place, Label, Computed, Goto, Next, Always, OnSuccess, OnFailure, Both, Body, Nothing, Evaluate, Match, Assign, Replace, Stmt, Plain, End}
+use Rattle.model.specs.Trees.{Bytes, Expr, Place, Label, Computed, Goto, Next, Always, OnSuccess, OnFailure, Body, Nothing, Evaluate, Match, Assign, Replace, Stmt, Plain, End}
 use Rattle.model.specs.Grammar.{gap, IsElement, IsExpr}
 use Rattle.model.specs.Statements.{on_success, on_failure, end_word, IsPlace, label, computed, InBrackets, brackets, IsExits, always, success, failure, success_first, failure_first, IsGoto, next, leaves, IsObject, absent, present, IsBody, nothing, evaluate, match, assign, replace, IsLabel, unlabelled, labelled, IsEntry, first, entry, Tree, plain, end}
-use Rattle.model.specs.Parse.{Parser, bind, skip, starts, same, sees, tail, expect, element, whole}
+use Rattle.model.specs.Parse.{Parser, bind, skip, starts, sees, tail, expect, element, whole}
 use Rattle.model.specs.ParseStatements as spec
 use Rattle.model.specs.ParseStatements.{sees_word, is_blank, sees_spaced, starts_spaced, starts_word, word_spaced, from_success, from_failure, stmt}
 use Rattle.model.proofs.ParseSteps.{bind_some, some_same, if_is, Wanted, opening, close, at_equal, at_colon, at_dollar, bind_is, sees_is, skip_gap, All, finish_is}
@@ -68,12 +67,16 @@ module _ (d : ℕ) where
   place_sound : (ts : List Tok) (p : Place × List Tok) → spec.place d ts ≡ Some p → Front (IsPlace p.0) ts p.1
   unfolding spec.place
   place_sound ts p h = elim (if_is (sees mark.Dollar ts) (bind (element d (tail ts)) (λ e rest. Some (Computed e, rest))) (spec.place_named d ts) (Some p) h) [
-      inl c ↦
+    | inl c ↦
         let b = bind_some (element d (tail ts)) (λ e rest. Some (Computed e, rest)) p c.1 in
         let r = elements_sound d (tail ts) b.0 b.1 in
-        conclude_as IsPlace ts (Computed b.0.0, b.0.1) p b.2 (record { text = Sign mark.Dollar ∷ r.text; spelled = computed b.0.0 r.text r.spelled;
-          is = sees_is mark.Dollar at_dollar ts c.0 ∙ ap (λ y. Sign mark.Dollar ∷ y) r.is })
-    | inr c ↦ named_sound ts p c.1 ]
+        conclude_as IsPlace ts (Computed b.0.0, b.0.1) p b.2 (record {
+          text = Sign mark.Dollar ∷ r.text;
+          spelled = computed b.0.0 r.text r.spelled;
+          is = sees_is mark.Dollar at_dollar ts c.0 ∙ ap (λ y. Sign mark.Dollar ∷ y) r.is;
+        })
+    | inr c ↦ named_sound ts p c.1
+  ]
 
   in_brackets_sound : (ts : List Tok) (p : Place × List Tok) → spec.in_brackets d ts ≡ Some p → Front (InBrackets p.0) ts p.1
   unfolding spec.in_brackets
@@ -102,13 +105,17 @@ module _ (d : ℕ) where
   second_sound : (word : Bytes) (ts : List Tok) (p : Option Place × List Tok) → spec.second d word ts ≡ Some p → Front (Second word p.0) ts p.1
   unfolding spec.second
   second_sound word ts p h = elim (if_is (sees_word word (skip ts)) (bind (spec.in_brackets d (tail (skip ts))) (λ q rest. Some (Some q, rest))) (Some (None, ts)) (Some p) h) [
-      inl c ↦
+    | inl c ↦
         let b = bind_some (spec.in_brackets d (tail (skip ts))) (λ q rest. Some (Some q, rest)) p c.1 in
         let r = in_brackets_sound (tail (skip ts)) b.0 b.1 in
         let g = skip_gap ts in
-        conclude_as (Second word) ts (Some b.0.0, b.0.1) p b.2 (record { text = gap g.0 ++ Word word ∷ r.text; spelled = other b.0.0 r.text g.0 r.spelled;
-          is = join2 ts (gap g.0) (Word word ∷ r.text) (skip ts) b.0.1 g.1 (sees_word_is word (skip ts) c.0 ∙ ap (λ y. Word word ∷ y) r.is) })
-    | inr c ↦ conclude_as (Second word) ts (None, ts) p c.1 (record { text = []; spelled = alone; is = refl }) ]
+        conclude_as (Second word) ts (Some b.0.0, b.0.1) p b.2 (record {
+          text = gap g.0 ++ Word word ∷ r.text;
+          spelled = other b.0.0 r.text g.0 r.spelled;
+          is = join2 ts (gap g.0) (Word word ∷ r.text) (skip ts) b.0.1 g.1 (sees_word_is word (skip ts) c.0 ∙ ap (λ y. Word word ∷ y) r.is);
+        })
+    | inr c ↦ conclude_as (Second word) ts (None, ts) p c.1 (record { text = []; spelled = alone; is = refl })
+  ]
 
   with_success : (p : Place) (ts : List Tok) → InBrackets p ts → (q : Option Place) (us : List Tok) → Second on_failure q us → IsExits (from_success p q) (Word on_success ∷ (ts ++ us))
   with_success p ts i _ _ alone = subst (λ x. IsExits (OnSuccess p) (Word on_success ∷ x)) (sym (append-nil ts)) (success p ts i)
@@ -130,19 +137,24 @@ module _ (d : ℕ) where
         let r = in_brackets_sound (tail ts) b.0 b.1 in
         let c = bind_some (spec.second d other_word b.0.1) (λ q end. Some (joined b.0.0 q, end)) p b.2 in
         let s = second_sound other_word b.0.1 c.0 c.1 in
-        conclude_as IsExits ts (joined b.0.0 c.0.0, c.0.1) p c.2 (record { text = Word word ∷ (r.text ++ s.text); spelled = spelled b.0.0 r.text r.spelled c.0.0 s.text s.spelled;
-          is = sees_word_is word ts w ∙ ap (λ y. Word word ∷ y) (join2 (tail ts) r.text s.text b.0.1 c.0.1 r.is s.is) })
+        conclude_as IsExits ts (joined b.0.0 c.0.0, c.0.1) p c.2 (record {
+          text = Word word ∷ (r.text ++ s.text);
+          spelled = spelled b.0.0 r.text r.spelled c.0.0 s.text s.spelled;
+          is = sees_word_is word ts w ∙ ap (λ y. Word word ∷ y) (join2 (tail ts) r.text s.text b.0.1 c.0.1 r.is s.is);
+        })
 
   exits_sound : (ts : List Tok) (p : Goto × List Tok) → spec.exits d ts ≡ Some p → Front (IsExits p.0) ts p.1
   unfolding spec.exits
   exits_sound ts p h = elim (if_is (sees_word on_success ts) _ _ (Some p) h) [
-      inl c ↦ places_sound on_success on_failure from_success with_success ts p c.0 c.1
+    | inl c ↦ places_sound on_success on_failure from_success with_success ts p c.0 c.1
     | inr c ↦ elim (if_is (sees_word on_failure ts) _ _ (Some p) c.1) [
-        inl e ↦ places_sound on_failure on_success from_failure with_failure ts p e.0 e.1
+      | inl e ↦ places_sound on_failure on_success from_failure with_failure ts p e.0 e.1
       | inr e ↦
           let b = bind_some (spec.in_brackets d ts) (λ x rest. Some (Always x, rest)) p e.1 in
           let r = in_brackets_sound ts b.0 b.1 in
-          conclude_as IsExits ts (Always b.0.0, b.0.1) p b.2 (record { text = r.text; spelled = always b.0.0 r.text r.spelled; is = r.is }) ] ]
+          conclude_as IsExits ts (Always b.0.0, b.0.1) p b.2 (record { text = r.text; spelled = always b.0.0 r.text r.spelled; is = r.is })
+    ]
+  ]
 
   goto_sound : (ts : List Tok) (p : Goto × List Tok) → spec.goto d ts ≡ Some p → Front (IsGoto p.0) ts p.1
   unfolding spec.goto
@@ -251,16 +263,17 @@ module _ (d : ℕ) where
       let last_gap = to_gap rest (ap (λ p. p.1) last) in
       let text : ls ++ gap last_gap.0 ≡ ts = sym (e ∙ ap (λ y. ls ++ y) last_gap.1) in
       subst (λ y. Tree y (Word end_word ∷ ts)) (ap (λ p. p.0) last)
-        (subst (λ y. Tree (End l) (Word end_word ∷ y)) {x = ls ++ gap last_gap.0} text (end l ls last_gap.0 i))
+      (subst (λ y. Tree (End l) (Word end_word ∷ y)) {x = ls ++ gap last_gap.0} text (end l ls last_gap.0 i))
 
   end_sound : (ts : List Tok) (s : Stmt) → spec.after_end ts ≡ Some (s, []) → Tree s (Word end_word ∷ ts)
   unfolding spec.after_end
   end_sound ts s h = elim (if_is (word_spaced ts) (bind (spec.label (tail ts)) to_end) (Some (End None, skip ts)) (Some (s, [])) h) [
-      inl c ↦
+    | inl c ↦
         let w = word_spaced_is ts c.0 in
         let read : bind (spec.label (tail ts)) to_end ≡ Some (End (Some w.0), skip (tail (tail ts))) = ap (λ us. bind (spec.label (tail us)) to_end) w.1 ∙ bind_is (Some (Some w.0, tail (tail ts))) to_end (Some w.0, tail (tail ts)) refl in
         end_of (Some w.0) (Blank ∷ Word w.0 ∷ []) ts (tail (tail ts)) s (entry w.0) w.1 (sym read ∙ c.1)
-    | inr c ↦ end_of None [] ts ts s first refl c.1 ]
+    | inr c ↦ end_of None [] ts ts s first refl c.1
+  ]
 
   -- a first word that isn't END is a label
   label_sound : (ts : List Tok) (s : Stmt) → sees_word end_word ts ≡ false → bind (spec.label ts) (spec.after_label d) ≡ Some (s, []) → Tree s ts
@@ -275,8 +288,9 @@ module _ (d : ℕ) where
   statement_sound : (ts : List Tok) (s : Stmt) → spec.statement d ts ≡ Some (s, []) → Tree s ts
   unfolding spec.statement
   statement_sound ts s h = elim (if_is (sees_word end_word ts) (spec.after_end (tail ts)) (bind (spec.label ts) (spec.after_label d)) (Some (s, [])) h) [
-      inl c ↦ subst (λ x. Tree s x) (sym (sees_word_is end_word ts c.0)) (end_sound (tail ts) s c.1)
-    | inr c ↦ label_sound ts s c.0 c.1 ]
+    | inl c ↦ subst (λ x. Tree s x) (sym (sees_word_is end_word ts c.0)) (end_sound (tail ts) s c.1)
+    | inr c ↦ label_sound ts s c.0 c.1
+  ]
 
 pub stmt_sound : (ts : List Tok) (s : Stmt) → stmt ts ≡ Some s → Tree s ts
 unfolding stmt

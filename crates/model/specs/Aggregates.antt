@@ -1,5 +1,5 @@
 -- Arrays, tables and records.
-use Rattle.std.specs.Prelude.{ℕ, ◌+◌, ◌*◌, List, [], ◌∷◌, ◌++◌, length, replicate, slice_get, ℤ, pos, ◌+ℤ◌, ◌-ℤ◌, nat_abs, int_le, int_lt, Option, None, Some, ◌&&◌, nat_lt, nat_eq, bytes_eq, if◌then◌else◌, codes}
+use Rattle.std.specs.Prelude.{ℕ, ◌+◌, ◌*◌, List, [], ◌∷◌, ◌++◌, length, replicate, slice_get, ℤ, pos, ◌+ℤ◌, ◌-ℤ◌, nat_abs, int_le, int_lt, Option, None, Some, Bool, ◌&&◌, nat_lt, nat_eq, bytes_eq, if◌then◌else◌, codes}
 use Rattle.model.specs.declared.run.ErrorCode.TheVariants as error
 use Rattle.model.specs.Trees.{Bytes}
 use Rattle.model.specs.Target.{Name, Element, IntegerKey, StringKey}
@@ -17,6 +17,16 @@ place_from i _ _ = None
 abbrev pub place_of : ℕ → Bytes → List Bytes → Option ℕ
 place_of i x [] = None
 place_of i x (y ∷ ys) = if bytes_eq x y then Some i else place_of (i + 1) x ys
+
+-- key and value of each entry whose value isn't null, where a key is this value
+abbrev pub rows : {V : Type 0} → (V → Bool) → (Key → V) → List (Entry V) → List V
+rows null value [] = []
+rows null value (e ∷ es) = if null e.value then rows null value es else value e.key ∷ e.value ∷ rows null value es
+
+-- how many they are
+abbrev pub row_count : {V : Type 0} → (V → Bool) → List (Entry V) → ℕ
+row_count null [] = 0
+row_count null (e ∷ es) = if null e.value then row_count null es else row_count null es + 1
 
 -- n rows of two
 abbrev pub pairs : ℕ → List Bounds
@@ -113,20 +123,11 @@ module _ {P E : Type 0} where
   key_value (IntegerAt z) = Int z
   key_value (StringAt s) = Str s
 
-  -- key and value of each entry whose value isn't null
-  abbrev pub rows : List (Entry (Value P E)) → List (Value P E)
-  rows [] = []
-  rows (e ∷ es) = if is_null e.value then rows es else key_value e.key ∷ e.value ∷ rows es
-
-  abbrev pub row_count : List (Entry (Value P E)) → ℕ
-  row_count [] = 0
-  row_count (e ∷ es) = if is_null e.value then row_count es else row_count es + 1
-
   abbrev pub rows_array : List (Entry (Value P E)) → World P E → Op (World P E) (Value P E)
   rows_array es w =
-      if nat_eq (row_count es) 0 then Refuses w
-      else if nat_lt 524288 (row_count es) then Faults error.BadArray w
-      else new_object (ArrayOf (pairs (row_count es)) (rows es)) w
+      if nat_eq (row_count is_null es) 0 then Refuses w
+      else if nat_lt 524288 (row_count is_null es) then Faults error.BadArray w
+      else new_object (ArrayOf (pairs (row_count is_null es)) (rows is_null key_value es)) w
 
   abbrev pub table_array : Option (Object (Value P E)) → World P E → Op (World P E) (Value P E)
   table_array (Some (TableOf es)) w = rows_array es w

@@ -50,6 +50,7 @@ pub mod Modules
 pub mod Placed
 pub mod Alike
 pub mod Agreement
+pub mod Told
 pub mod MatchLaws
 pub mod Faults
 pub mod FaultRows
@@ -59,3 +60,4 @@ pub mod RulesUsed
 pub mod Flow
 pub mod WellFormed
 pub mod ValueLaws
+pub mod Loading

@@ -3,10 +3,10 @@ use Rattle.std.specs.Prelude.{ℕ, ◌&&◌, Bool, true, false, List, [], ◌∷
 use Rattle.std.specs.Str.{bytes_eq}
 use Rattle.model.specs.declared.tokens.Mark.{Mark}
 use Rattle.model.specs.declared.tokens.Mark.TheVariants as mark
-use Rattle.model.specs.Tokens.{Tok, Blank, Word, Sign}
+use Rattle.model.specs.Tokens.{Tok, Blank, Word}
 use Rattle.model.specs.Trees.{Bytes, Expr, Place, Label, Computed, Goto, Next, Always, OnSuccess, OnFailure, Both, Body, Nothing, Evaluate, Match, Assign, Replace, Stmt, Plain, End}
 use Rattle.model.specs.Statements.{on_success, on_failure, end_word}
-use Rattle.model.specs.Parse.{Parser, bind, skip, starts, same, sees, tail, expect, element, whole, finish}
+use Rattle.model.specs.Parse.{Parser, bind, skip, starts, sees, tail, expect, element, whole, finish}
 
 -- whether this word comes next
 abbrev pub word_is : Bytes → Tok → Bool

@@ -1,7 +1,7 @@
 -- Worked cases of matches: what the scan of a pattern and the steps of its code answer.
-use Rattle.std.specs.Prelude.{◌≡◌, ℕ, zero, suc, List, [], ◌∷◌, map, length, codes}
+use Rattle.std.specs.Prelude.{◌≡◌, ℕ, List, [], ◌∷◌, map, length, codes}
 use Rattle.model.specs.Target.{Name, Variable}
-use Rattle.model.specs.Pattern.{Kind, KLen, Basic, Lit, Len, Pos, RPos, Tab, RTab, AnyOf, NotAnyOf, Span, Break, Rem, Arb, Bal, Fail, Pat, Plain, Succeed, Abort, Fence, Cat, Alt, Arbno, Cond, Imm, At, Defer, DeferBasic, Expr, Instr, Eval, DoSucceed, DoAbort, DoFence, Pending, Answer, IsPattern, IsCount, IsFailed, IsSaid, Event, Running, Failed, Asks, Matched, Ask, AskFor, SayThat, Text, Number, WantPattern, WantCount}
+use Rattle.model.specs.Pattern.{KLen, Lit, Len, Pos, RPos, Tab, RTab, AnyOf, NotAnyOf, Span, Break, Rem, Arb, Bal, Fail, Pat, Plain, Succeed, Abort, Fence, Cat, Alt, Arbno, Cond, Imm, At, Defer, DeferBasic, Expr, DoSucceed, DoAbort, DoFence, Pending, IsPattern, IsCount, IsFailed, IsSaid, Event, Running, Failed, Asks, Matched, AskFor, SayThat, Text, Number, WantPattern, WantCount}
 use Rattle.model.specs.Trees as trees
 use Rattle.model.specs.Search.{Script, scan}
 use Rattle.model.specs.Steps.{Code, Answers, match_steps, event_of}

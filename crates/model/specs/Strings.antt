@@ -1,5 +1,5 @@
 -- Functions of byte strings, and sets of bytes.
-use Rattle.std.specs.Prelude.{◌≡◌, ℕ, ◌+◌, ◌-◌, List, [], ◌∷◌, Bool, false, not, Option, Some, None, ◌==◌, nat_lt, length, take, drop, map, slice_index_or, FitsSigned, if◌then◌else◌}
+use Rattle.std.specs.Prelude.{ℕ, ◌+◌, ◌-◌, List, [], ◌∷◌, Bool, false, not, Option, Some, None, ◌==◌, nat_lt, length, take, drop, map, slice_index_or, FitsSigned, if◌then◌else◌}
 use Rattle.std.specs.Int.{w64}
 use Rattle.std.specs.List.{suffix_len, prefix_len, list_any, range_with_len}
 use Rattle.std.specs.Str.Parse.{IsNumeral, without_leading_sign, signed_digits_value}

@@ -1,5 +1,5 @@
 -- The laws of conversions, as statements: how the definitions of values meet those of texts and of Rust's integers.
-use Rattle.std.specs.Prelude.{◌≡◌, ℕ, List, ◌∷◌, ℤ, FitsSigned}
+use Rattle.std.specs.Prelude.{◌≡◌, ℕ, ◌∷◌, ℤ, FitsSigned}
 use Rattle.std.specs.Int.{w64}
 use Rattle.std.specs.Str.Parse.{signed_digits_value}
 use Rattle.model.specs.declared.run.ErrorCode.{ErrorCode}

@@ -3,17 +3,18 @@
 
 mod cards;
 mod causes;
+mod flow;
 mod format;
 mod image;
 mod instr;
 mod keys;
 mod laws_agreement;
+mod laws_bytes;
 mod laws_cards;
 mod laws_decks;
-mod laws_tokens;
-mod laws_bytes;
 mod laws_names;
 mod laws_patterns;
+mod laws_tokens;
 mod laws_trees;
 mod laws_values;
 mod primitives;
@@ -24,21 +25,22 @@ mod trees;
 
 pub use cards::{CardFault, CardRule, Deck, Statement};
 pub use causes::{Cause, DeckFault, StmtFault};
+pub use flow::{Course, Handler, Kind, Mode};
 pub use format::{FormatFault, FormatRule, LoadFault, Miss, ModuleFault, ModuleRule, ReadError};
 pub use image::{Image, Label, PatInstr};
 pub use instr::{ArithOp, Instr, ReturnKind, SignOp};
 pub use keys::KeyId;
 pub use laws_agreement::{agreement, matches_step, meaning_stays};
+pub use laws_bytes::{read_is_spelt, spelling_rows, spelt_is_read};
 pub use laws_cards::worked_decks;
 pub use laws_decks::{accepted_decks_fit, decks_fit, end_is_last, trees_fit};
-pub use laws_tokens::{each_text_has_one_cut, worked_texts};
-pub use laws_bytes::{read_is_spelt, spelling_rows, spelt_is_read};
 pub use laws_names::{key_names, prim_names};
 pub use laws_patterns::{
     answers_come_later, answers_stay, code_means_its_pattern, ends_are_permitted,
     first_end_is_found, literals_are_matched, literals_are_scanned, match_states_answer,
     match_states_lead_on, pattern_cases, steps_stay_within,
 };
+pub use laws_tokens::{each_text_has_one_cut, worked_texts};
 pub use laws_trees::{each_expression_is_one, each_statement_is_one, worked_faults, worked_trees};
 pub use laws_values::{integers_fit, integers_read};
 pub use primitives::PrimId;

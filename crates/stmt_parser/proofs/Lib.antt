@@ -2,5 +2,4 @@ pub mod Lexed
 pub mod Digits
 pub mod Powers
 pub mod Loops
-pub mod Rows
 pub mod Labels

@@ -9,7 +9,7 @@ use Rattle.model.specs.TreeViews.{expr_of, args_of}
 use Rattle.stmt_parser.specs.Views as view
 use Rattle.stmt_parser.specs.Views.{Reads}
 use Rattle.stmt_parser.proofs.Loops.{one_more, no_more, lefts_stop, lefts_go, lefts_end, graded_left, onto, rights_none, rights_stop, rights_go, rights_start, rights_end, stopped, went_on, prepend, several_go, several_end, several_start}
-use Rattle.stmt_parser.proofs.Rows.{call_is, reference_is}
+use Rattle.model.proofs.ArgumentLists.{call_is, reference_is}
 use Rattle.stmt_parser.proofs.expressions.+expr.Goals as goal
 
 pub graded-returns : goal.graded-returns

@@ -1,0 +1,10 @@
+use Rattle.std.proofs.Common.{◌≡◌, ◌++◌, ◌+◌, map, drop}
+use Rattle.model.specs.TreeViews.{stmt_of}
+use Rattle.driver.specs.Fragment.{not_yet}
+use Rattle.driver.proofs.fragment.not_yet.Given as goal
+
+abbrev pub invariant-loop-statement : goal.invariant-loop-statement
+invariant-loop-statement l = record {
+  number : l.number ≡ l.statement-index + 1;
+  told : l.faults ++ not_yet l.number (map stmt_of (drop l.statement-index l.statements)) ≡ not_yet 1 (map stmt_of l.fn.statements);
+}

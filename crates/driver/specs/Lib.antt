@@ -1,0 +1,3 @@
+pub mod Generated
+pub mod Fragment
+pub mod PrintedLaws

@@ -1,0 +1,17 @@
+//! Whole calls: from a deck to a module, from a module to what it prints, and the words of the program `sno`.
+#![tactic(auto)]
+
+mod fragment;
+mod generating;
+mod laws;
+mod refusal;
+mod strings;
+mod telling;
+mod words;
+
+pub use fragment::{literals, not_yet};
+pub use generating::generate;
+pub use laws::{all_print, printed_literals};
+pub use refusal::Refusal;
+pub use telling::{Told, WriteFault, report};
+pub use words::{Job, read_words};

@@ -1,0 +1,106 @@
+//! What the program tells on standard error, and its exit status.
+
+use crate::refusal::Refusal;
+use model::{Ending, LoadFault, Status, Stop};
+use std::io::{self, Write};
+
+/// What the program has to tell at its end.
+#[derive(Debug, Drop)]
+pub enum Told<'a> {
+    BadCommandLine,
+    Refused(Refusal),
+    BadModule(LoadFault),
+    Ran(Status),
+    CannotRead(&'a str),
+    CannotWrite(&'a str),
+    NoMemory,
+}
+
+/// A line that could not be written.
+#[derive(Debug, Drop)]
+pub struct WriteFault {
+    pub error: io::Error,
+}
+
+impl From<io::Error> for WriteFault {
+    fn from(error: io::Error) -> WriteFault {
+        WriteFault { error }
+    }
+}
+
+fn report_ending<W: Write>(ending: Ending, out: &mut W) -> Result<u8, WriteFault> {
+    match ending {
+        Ending::Normal => Ok(0),
+        Ending::Error { code, statement } => {
+            writeln!(out, "error {code} statement {statement}")?;
+            Ok(1)
+        }
+        Ending::StLimit { statement } => {
+            writeln!(out, "stlimit statement {statement}")?;
+            Ok(5)
+        }
+    }
+}
+
+fn report_stop<W: Write>(stop: Stop, out: &mut W) -> Result<u8, WriteFault> {
+    match stop {
+        Stop::Unit { unit, cause } => writeln!(out, "unit {unit} {cause}")?,
+        Stop::NoMemory => writeln!(out, "no memory")?,
+    }
+    Ok(6)
+}
+
+fn report_status<W: Write>(status: Status, out: &mut W) -> Result<u8, WriteFault> {
+    match status {
+        Status::Running => {
+            writeln!(out, "steps used up")?;
+            Ok(5)
+        }
+        Status::Ended(ending) => report_ending(ending, out),
+        Status::Stopped(stop) => report_stop(stop, out),
+    }
+}
+
+fn report_refusal<W: Write>(refusal: &Refusal, out: &mut W) -> Result<u8, WriteFault> {
+    match refusal {
+        Refusal::Card(fault) => writeln!(out, "{fault}")?,
+        Refusal::Statements(faults) => {
+            for fault in faults.as_slice() {
+                writeln!(out, "{fault}")?;
+            }
+        }
+        Refusal::Memory => {
+            writeln!(out, "no memory")?;
+            return Ok(6);
+        }
+    }
+    Ok(3)
+}
+
+/// Writes the lines that tell it, and gives the exit status. After a failure nothing is said of what was written.
+pub fn report<W: Write>(told: &Told<'_>, out: &mut W) -> Result<u8, WriteFault> {
+    match told {
+        Told::BadCommandLine => {
+            writeln!(out, "bad command line")?;
+            Ok(2)
+        }
+        Told::Refused(refusal) => report_refusal(refusal, out),
+        Told::BadModule(fault) => {
+            writeln!(out, "{fault}")?;
+            Ok(4)
+        }
+        Told::Ran(status) => report_status(*status, out),
+        Told::CannotRead(file) => {
+            writeln!(out, "cannot read {file}")?;
+            Ok(6)
+        }
+        Told::CannotWrite(file) => {
+            writeln!(out, "cannot write {file}")?;
+            Ok(6)
+        }
+        Told::NoMemory => {
+            writeln!(out, "no memory")?;
+            Ok(6)
+        }
+    }
+}

@@ -1,0 +1,16 @@
+-- The rules that expressions keep.
+use Rattle.std.specs.Prelude.{◌≡◌}
+use Rattle.model.specs.Faults.{everywhere, in_args, call_fits, keyword_known, operand_fits}
+use Rattle.model.specs.Trees.{Expr, Args}
+use Rattle.parser.specs.declared.rules.Kept.{Kept}
+
+-- what is kept is what each part of an expression keeps
+pub record Keeps (kept : Kept) (e : Expr) : Type 0 where
+  pub calls : kept.calls ≡ everywhere call_fits e
+  pub keywords : kept.keywords ≡ everywhere keyword_known e
+  pub operands : kept.operands ≡ everywhere operand_fits e
+
+pub record AllKeep (kept : Kept) (args : Args) : Type 0 where
+  pub calls : kept.calls ≡ in_args call_fits args
+  pub keywords : kept.keywords ≡ in_args keyword_known args
+  pub operands : kept.operands ≡ in_args operand_fits args

@@ -1,0 +1,4 @@
+//! A deck's trees, or its faulty statements.
+#![tactic(auto)]
+
+mod rules;

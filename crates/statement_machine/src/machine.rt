@@ -1,0 +1,100 @@
+//! A run of a module, up to a bound on its steps.
+
+ghost use Rattle.std.specs.Prelude.{◌≡◌, [], Option, Some, None, IfOk};
+ghost use Rattle.model.specs.Io.{Io};
+ghost use Rattle.model.specs.Told.{IfTold};
+ghost use Rattle.model.specs.Agreement.{first_m, mach};
+ghost use Rattle.model.specs.Machine as m;
+ghost use Rattle.model.specs.Machine.{begun, steps};
+ghost use Rattle.model.specs.Modules.{module_of};
+ghost use Rattle.model.specs.Spelling.{IsImage};
+ghost use Rattle.model.specs.WellFormed.{IsWellFormed};
+ghost use Rattle.statement_machine.specs.Runnable.{AreRunYet};
+ghost use Rattle.statement_machine.specs.Held.{Holds};
+ghost use Rattle.statement_machine.specs.Stopped.{IfRan, IfStopped, IsStop, ending_of, status_at};
+ghost use Rattle.statement_machine.specs.declared.status.Halt.{Halt as RustHalt};
+
+use crate::program::Program;
+use crate::state::State;
+use crate::status::Halt;
+use model::{Image, Status, Stop};
+use std::alloc::{AllocError, Global};
+use std::marker::Model;
+use unit_io::Units;
+
+/// A run of a module.
+#[derive(Drop)]
+pub struct Machine<'m> {
+    program: Program<'m>,
+    state: State,
+    halt: Option<Halt>,
+}
+
+impl<'m> Model for Machine<'m> {
+    ghost use Rattle.statement_machine.specs.Held.{Held, IsGoing, IsSound};
+
+    ghost Value = { Held };
+
+    ghost view = { λ m. record { image = m.program; state = m.state; halt = m.halt } };
+
+    ghost invariant = { λ m. IsGoing m.halt (IsSound m.program m.state) };
+}
+
+impl<'m> Machine<'m> {
+    /// A run of a module, before its first step.
+    pub fn new(alloc: Global, image: &'m Image) -> Result<Machine<'m>, AllocError>
+        requires spelt { IsImage image.now }
+        requires formed { IsWellFormed image.now }
+        requires run_yet { AreRunYet image.now.code }
+        ensures image { IfOk result (λ machine. machine.image ≡ image.now) }
+        ensures going { IfOk result (λ machine. machine.halt ≡ None) }
+        ensures begun { IfOk result (λ machine. (io : Io) → io.printed ≡ [] → Holds machine io (begun (module_of image.now) (first_m io.left))) }
+    {
+        let program = Program::new(alloc, image)?;
+        let at = program.entry();
+        let Ok(state) = State::new(alloc, at) else {
+            return Err(AllocError);
+        };
+        Ok(Machine {
+            program,
+            state,
+            halt: None,
+        })
+    }
+
+    /// At most so many steps. A run that ended or stopped answers the same from then on.
+    pub fn run<U: Units>(&mut self, units: &mut U, bound: u64) -> Status
+        ensures image { self.new.image ≡ self.old.image }
+        ensures status { result ≡ status_at self.new.halt }
+        ensures ran { IfRan result (IfTold (U.told units.old) (U.told units.new) (λ io io'.
+            (st : m.State) → Holds self.old io st → Holds self.new io' (steps (module_of self.old.image) bound st))) }
+        ensures stop { self.old.halt ≡ None → IfStopped result (λ stop. IsStop stop (U.failures units.old) (U.failures units.new)) }
+        ensures again { (halt : RustHalt) → self.old.halt ≡ Some halt → (self.new ≡ self.old) × (units.new ≡ units.old) }
+    {
+        if let Some(halt) = self.halt {
+            return halt.status();
+        }
+        match self.state.run(&self.program, units, bound) {
+            Ok(()) => Status::Running,
+            Err(halt) => {
+                self.halt = Some(halt);
+                halt.status()
+            }
+        }
+    }
+}
+
+/// Runs a module from its entry, at most so many steps.
+pub fn run_image<U: Units>(alloc: Global, image: &Image, units: &mut U, bound: u64) -> Status
+    requires spelt { IsImage image.now }
+    requires formed { IsWellFormed image.now }
+    requires run_yet { AreRunYet image.now.code }
+    ensures run { IfRan result (IfTold (U.told units.old) (U.told units.new) (λ io io'. io.printed ≡ [] →
+        record { ending = ending_of result; printed = io'.printed } ≡ mach image.now io.left bound)) }
+    ensures stop { IfStopped result (λ stop. IsStop stop (U.failures units.old) (U.failures units.new)) }
+{
+    match Machine::new(alloc, image) {
+        Ok(mut machine) => machine.run(units, bound),
+        Err(_) => Status::Stopped(Stop::NoMemory),
+    }
+}

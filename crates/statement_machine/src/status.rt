@@ -1,0 +1,46 @@
+//! Why a machine makes no further step.
+
+ghost use Rattle.std.specs.Prelude.{◌≡◌};
+ghost use Rattle.statement_machine.specs.Stopped.{status_of};
+
+use model::{Ending, Status, Stop};
+use std::alloc::AllocError;
+
+/// Why no further step is made.
+#[derive(Clone, Copy)]
+pub(crate) enum Halt {
+    Ended(Ending),
+    Stopped(Stop),
+}
+
+impl From<Stop> for Halt {
+    ghost use Rattle.statement_machine.specs.declared.status.Halt.TheVariants.{Stopped};
+
+    ghost from_gives = { λ stop halt. halt ≡ Stopped stop };
+
+    fn from(stop: Stop) -> Halt {
+        Halt::Stopped(stop)
+    }
+}
+
+impl From<AllocError> for Halt {
+    ghost use Rattle.statement_machine.specs.declared.status.Halt.TheVariants.{Stopped};
+    ghost use Rattle.model.specs.declared.run.Stop.TheVariants.{NoMemory};
+
+    ghost from_gives = { λ _ halt. halt ≡ Stopped NoMemory };
+
+    fn from(_refused: AllocError) -> Halt {
+        Halt::Stopped(Stop::NoMemory)
+    }
+}
+
+impl Halt {
+    pub(crate) fn status(self) -> Status
+        ensures { result ≡ status_of self }
+    {
+        match self {
+            Halt::Ended(ending) => Status::Ended(ending),
+            Halt::Stopped(stop) => Status::Stopped(stop),
+        }
+    }
+}
