@@ -1,6 +1,6 @@
 -- From what the reader holds at the end to the answer for the deck.
-use Rattle.std.proofs.Common.{◌≡◌, ◌≢◌, refl, sym, ◌∙◌, ap, subst, ℕ, ◌+◌, ◌<◌, ◌≤◌, ◌||◌, ◌==◌, Bool, true, false, List, [], ◌∷◌, ◌++◌, length, take, arith, inl, inr}
-use Rattle.std.specs.Prelude.{Option, Some, None, is_some, Result, Ok, Err, IfOk, IfErr, if◌then◌else◌, nat_lt}
+use Rattle.std.proofs.Common.{◌≡◌, ◌≢◌, refl, ◌∙◌, ap, subst, ℕ, ◌+◌, ◌<◌, ◌≤◌, ◌||◌, Bool, true, false, List, [], ◌∷◌, ◌++◌, length, take, arith, inl, inr}
+use Rattle.std.specs.Prelude.{Option, Some, None, Result, Ok, Err, IfOk, IfErr, nat_lt}
 use Rattle.std.specs.List.{list_all}
 use Rattle.std.proofs.lemmas.Bool.{cases_Bool}
 use Rattle.std.proofs.lemmas.Bool.Decides.{nat_tests}
@@ -9,11 +9,10 @@ use Rattle.model.specs.declared.cards.CardFault.{CardFault}
 use Rattle.model.specs.declared.cards.CardRule.{CardRule}
 use Rattle.model.specs.declared.cards.CardRule.TheVariants as rule
 use Rattle.model.specs.declared.cards.Deck.{Deck}
-use Rattle.model.specs.Cards.{Card, CardKind, Comment, Control, UnknownControl, Continuation, Start, Column, cards, kind_of, kind_of_columns, pieces_of, ended, kept, bad_bytes, before_lost, lost_continuations, before_unknown, unknown_controls, long_statements, faults_of, fault, first_card, least, lesser, is_less, is_plain, verdict, deck_of, deck}
+use Rattle.model.specs.Cards.{Card, CardKind, Comment, Control, UnknownControl, Continuation, Start, Column, cards, kind_of, kind_of_columns, pieces_of, ended, kept, bad_bytes, before_lost, lost_continuations, before_unknown, unknown_controls, long_statements, faults_of, fault, least, lesser, is_less, is_plain, verdict, deck_of, deck}
 use Rattle.card_reader.specs.declared.reader.Reader.{Reader}
-use Rattle.card_reader.specs.Parts.{Parts, parts, parts_of}
+use Rattle.card_reader.specs.Parts.{Parts, parts_of}
 use Rattle.card_reader.specs.Reading.{merge, IsClosed, Waits, pieces_now}
-use Rattle.card_reader.specs.Reached.{answer}
 use Rattle.card_reader.proofs.Keeping.{closes}
 
 -- the last piece has ended

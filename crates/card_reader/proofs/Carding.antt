@@ -1,16 +1,16 @@
 -- What each kind of card does to what is held.
-use Rattle.std.proofs.Common.{◌≡◌, refl, sym, ◌∙◌, ap, subst, ℕ, ◌+◌, ◌≤◌, Bool, true, false, not, List, [], ◌∷◌, ◌++◌, length, take, arith, ◌==◌, ◌||◌, inl, inr}
+use Rattle.std.proofs.Common.{◌≡◌, refl, sym, ap, subst, ℕ, ◌+◌, ◌≤◌, Bool, true, false, List, [], ◌∷◌, length, take, arith, ◌==◌, ◌||◌}
 use Rattle.std.specs.Prelude.{Option, Some, None, is_some, Result, Ok, Err, OnOk, if◌then◌else◌}
 use Rattle.std.specs.declared.alloc.AllocError.{AllocError}
 use Rattle.std.proofs.lemmas.List.{length-take}
 use Rattle.model.specs.declared.cards.CardFault.{CardFault}
 use Rattle.model.specs.declared.cards.CardRule.TheVariants as rule
-use Rattle.model.specs.Cards.{CardKind, Comment, Control, UnknownControl, Continuation, Start, placed, fault, is_blank_text, is_known_control, kind_of_columns, kind_by_first}
+use Rattle.model.specs.Cards.{CardKind, Comment, Control, UnknownControl, Continuation, Start, fault, is_blank_text, is_known_control, kind_of_columns, kind_by_first}
 use Rattle.card_reader.specs.declared.reader.Reader.{Reader}
-use Rattle.card_reader.specs.Parts.{Parts, parts, parts_of, appended, ended_text, next_text, step}
-use Rattle.card_reader.specs.Reading.{merge, when, bad_byte, kind_fault, card_fault, Holds, Ends, Waits, IsClosed, IsRead, IsCardRead, text_length}
-use Rattle.card_reader.proofs.Keeping.{IsNoted, IsSame, waits_noted, noted, requoted, closes}
-use Rattle.card_reader.proofs.Merging.{merge_none, merge_shift}
+use Rattle.card_reader.specs.Parts.{Parts, parts_of, next_text, step}
+use Rattle.card_reader.specs.Reading.{merge, kind_fault, Holds, Waits, IsClosed, IsCardRead, text_length}
+use Rattle.card_reader.proofs.Keeping.{IsNoted, IsSame, waits_noted, requoted, closes}
+use Rattle.card_reader.proofs.Merging.{merge_shift}
 
 -- ---- an unknown control card
 

@@ -1,19 +1,19 @@
 -- One card after the other, to the card that ends the deck or the last.
-use Rattle.std.proofs.Common.{◌≡◌, refl, sym, ◌∙◌, ap, subst, ℕ, ◌+◌, ◌≤◌, ◌||◌, ◌&&◌, Bool, true, false, not, List, [], ◌∷◌, ◌++◌, length, take, append_assoc, append-nil, length-append, arith, inl, inr}
-use Rattle.std.specs.Prelude.{Option, Some, None, is_some, Result, Ok, Err, if◌then◌else◌, nat_lt}
+use Rattle.std.proofs.Common.{◌≡◌, refl, sym, ◌∙◌, ap, subst, ℕ, ◌+◌, ◌||◌, Bool, true, false, List, [], ◌∷◌, ◌++◌, length, append_assoc, append-nil, length-append, arith, inl, inr}
+use Rattle.std.specs.Prelude.{Option, Some, None, is_some, Ok, Err}
 use Rattle.std.specs.List.{list_all}
 use Rattle.std.proofs.lemmas.Bool.{cases_Bool}
 use Rattle.model.specs.declared.cards.Statement.{Statement}
 use Rattle.model.specs.declared.cards.CardFault.{CardFault}
 use Rattle.model.specs.declared.cards.CardRule.TheVariants as rule
-use Rattle.model.specs.Cards.{Card, CardKind, Comment, Control, UnknownControl, Continuation, Start, Column, lines, numbered_from, cards, kind_of, kind_of_columns, texts, pieces_of_texts, pieces_of, is_end, has_end, ended, kept, statements_from, statements_of, bad_bytes, before_lost, lost_continuations, before_unknown, unknown_controls, long_statements, faults_of, fault, least, is_plain, verdict, deck_of}
+use Rattle.model.specs.Cards.{Card, CardKind, Comment, Control, UnknownControl, Continuation, Start, lines, numbered_from, cards, kind_of, pieces_of, has_end, ended, kept, statements_from, statements_of, bad_bytes, before_lost, lost_continuations, before_unknown, unknown_controls, long_statements, faults_of, fault, least, is_plain, verdict, deck_of}
 use Rattle.card_reader.specs.declared.reader.Reader.{Reader}
-use Rattle.card_reader.specs.Parts.{Parts, parts, nothing, step, all_pieces, appended, next_text}
-use Rattle.card_reader.specs.Reading.{merge, when, bad_byte, kind_fault, card_fault, Holds, Ends, Waits, pieces_now, IsCardRead}
+use Rattle.card_reader.specs.Parts.{Parts, nothing, step}
+use Rattle.card_reader.specs.Reading.{merge, bad_byte, kind_fault, card_fault, Holds, Waits, pieces_now, IsCardRead}
 use Rattle.card_reader.specs.Reached.{pieces_at, ended_at, is_start, has_start, early, Reached, answer}
 use Rattle.card_reader.proofs.Growing.{pieces_step, pieces_end, ended_start, ended_here, ended_later, ended_never}
 use Rattle.card_reader.proofs.Keeping.{has_end_append}
-use Rattle.card_reader.proofs.Merging.{merge_none, merge_shift, merge_middle, least_append}
+use Rattle.card_reader.proofs.Merging.{merge_shift, merge_middle, least_append}
 
 -- ---- C1 to C3, one card more
 

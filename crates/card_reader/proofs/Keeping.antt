@@ -1,17 +1,16 @@
 -- Statements and faults of pieces, one piece more at a time.
-use Rattle.std.proofs.Common.{◌≡◌, ◌≢◌, refl, sym, ◌∙◌, ap, subst, ℕ, zero, suc, ◌+◌, ◌<◌, ◌≤◌, ◌==◌, ◌||◌, ◌&&◌, inl, inr, Bool, true, false, not, List, [], ◌∷◌, ◌++◌, length, append_assoc, append-nil, length-append, arith, add-one}
-use Rattle.std.specs.Prelude.{Option, Some, None, is_some, Ok, if◌then◌else◌, map, nat_lt, codes}
+use Rattle.std.proofs.Common.{◌≡◌, refl, sym, ◌∙◌, ap, ℕ, suc, ◌+◌, ◌<◌, ◌==◌, ◌||◌, inl, inr, Bool, true, false, List, [], ◌∷◌, ◌++◌, length, arith}
+use Rattle.std.specs.Prelude.{Option, Some, None, Ok, if◌then◌else◌, nat_lt, codes}
 use Rattle.std.proofs.lemmas.Bool.{cases_Bool}
 use Rattle.std.proofs.lemmas.Bool.Decides.{nat_tests}
 use Rattle.std.proofs.lemmas.List.{map-append}
-use Rattle.model.specs.declared.cards.Statement.{Statement}
 use Rattle.model.specs.declared.cards.CardFault.{CardFault}
 use Rattle.model.specs.declared.cards.CardRule.TheVariants as rule
-use Rattle.model.specs.Cards.{Column, placed, bytes, is_end, has_end, kept, before_kept, first_card, is_blank_text, is_word_first, statements_from, long_statements, least, fault}
+use Rattle.model.specs.Cards.{Column, placed, bytes, is_end, has_end, kept, first_card, is_blank_text, is_word_first, statements_from, long_statements, least, fault}
 use Rattle.card_reader.specs.declared.reader.Reader.{Reader}
-use Rattle.card_reader.specs.Parts.{Parts, parts, parts_of, all_pieces, ended_text}
+use Rattle.card_reader.specs.Parts.{Parts, parts, parts_of}
 use Rattle.card_reader.specs.Reading.{merge, when, Holds, Ends, Others, IsClosed, IsPieceEnd, IsRead, Waits, statement_of, too_long}
-use Rattle.card_reader.proofs.Merging.{merge_none, merge_swap, merge_shift, least_append}
+use Rattle.card_reader.proofs.Merging.{merge_swap, merge_shift, least_append}
 
 -- ---- pieces
 

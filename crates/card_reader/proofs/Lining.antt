@@ -1,9 +1,9 @@
 -- The lines of a deck, one after the other.
-use Rattle.std.proofs.Common.{◌≡◌, ◌≢◌, ℕ, zero, suc, ◌+◌, ◌-◌, ◌<◌, ◌≤◌, ◌==◌, Bool, true, false, cond, eqb, List, [], ◌∷◌, ◌++◌, length, get_or, take, drop, refl, sym, ap, ◌∙◌, subst, arith, append_assoc, add-one, inl, inr}
+use Rattle.std.proofs.Common.{◌≡◌, ◌≢◌, ℕ, zero, suc, ◌-◌, ◌<◌, ◌==◌, true, false, List, [], ◌∷◌, length, get_or, take, drop, refl, arith, inl, inr}
 use Rattle.std.proofs.lemmas.Bool.{cases_Bool}
 use Rattle.std.proofs.lemmas.Bool.Decides.{nat_tests}
-use Rattle.std.proofs.lemmas.List.{take_all, length-drop, drop_all, length-take}
-use Rattle.model.specs.Cards.{to_first, lines}
+use Rattle.std.proofs.lemmas.List.{take_all, length-drop}
+use Rattle.model.specs.Cards.{lines}
 
 pub line_at : (bs : List ℕ) (i : ℕ) → i < length bs → ((k : ℕ) → k < i → (get_or bs k 0 == 10) ≡ true → ⊥) → (get_or bs i 0 == 10) ≡ true → lines bs ≡ take i bs ∷ lines (drop (suc i) bs)
 line_at [] i lt none e = absurd (omega arith)

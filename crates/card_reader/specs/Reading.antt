@@ -1,19 +1,18 @@
 -- What the reader holds of the cards so far.
-use Rattle.std.specs.Prelude.{◌≡◌, ◌≢◌, ◌<◌, ◌+◌, ℕ, ◌-◌, ◌∷◌, ◌++◌, ◌&&◌, Bool, true, false, not, nat_lt, List, [], length, take, drop, Option, Some, None, is_some, Result, Ok, Err, if◌then◌else◌, map}
+use Rattle.std.specs.Prelude.{◌≡◌, ◌<◌, ◌+◌, ℕ, ◌∷◌, ◌++◌, ◌&&◌, Bool, true, false, not, nat_lt, List, [], length, take, drop, Option, Some, None, is_some, Result, Ok, Err, if◌then◌else◌}
 use Rattle.std.specs.List.{list_all}
 use Rattle.std.specs.declared.alloc.AllocError.{AllocError}
 use Rattle.model.specs.declared.cards.Statement.{Statement}
 use Rattle.model.specs.declared.cards.CardFault.{CardFault}
 use Rattle.model.specs.declared.cards.CardRule.{CardRule}
 use Rattle.model.specs.declared.cards.CardRule.TheVariants as rule
-use Rattle.model.specs.Cards.{Card, CardKind, Comment, Control, UnknownControl, Continuation, Start, Column, placed, bytes, split, is_end, has_end, kept, first_card, statements_from, is_blank_text, long_statements, least, lesser, fault, is_plain, is_word_first}
-use Rattle.model.specs.Cards as model
+use Rattle.model.specs.Cards.{CardKind, Comment, Control, UnknownControl, Continuation, Start, Column, placed, bytes, split, is_end, has_end, kept, first_card, statements_from, is_blank_text, long_statements, least, lesser, fault, is_plain}
 use Rattle.card_reader.specs.declared.kinds.Kind as declared
 use Rattle.card_reader.specs.declared.kinds.Kind.TheVariants as k
 use Rattle.card_reader.specs.declared.reader.Reader.{Reader}
 use Rattle.card_reader.specs.declared.reader.Stop.{Stop}
 use Rattle.card_reader.specs.declared.reader.Stop.TheVariants as s
-use Rattle.card_reader.specs.Parts.{after, Parts, parts, parts_of, all_pieces, appended, step}
+use Rattle.card_reader.specs.Parts.{after, Parts, parts, parts_of, all_pieces}
 
 abbrev pub kind_of : declared.Kind → CardKind
 kind_of k.Comment = Comment

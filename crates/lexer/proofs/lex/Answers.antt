@@ -1,5 +1,5 @@
 use Rattle.std.proofs.Common.{◌≡◌, sym, ◌∙◌, ap, subst}
-use Rattle.std.specs.Prelude.{Option, None}
+use Rattle.std.specs.Prelude.{None}
 use Rattle.model.specs.Cut.{Cut, least_lexical}
 use Rattle.model.specs.Pieces.{pieces}
 use Rattle.model.proofs.Cutting.{cut_is}

@@ -1,4 +1,3 @@
-use Rattle.card_reader.specs.Reading.{kind_of}
 use Rattle.card_reader.proofs.Carding.{unknown_read, noted_is}
 use Rattle.card_reader.proofs.reader.Reader.read_kind.Goals as goal
 
