@@ -1,0 +1,2 @@
+//! Laws of the image of a deck.
+#![tactic(auto)]
