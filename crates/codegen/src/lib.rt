@@ -1,0 +1,2 @@
+//! Code of programs.
+#![tactic(auto)]

@@ -1,0 +1,2 @@
+//! Code of expressions.
+#![tactic(auto)]
