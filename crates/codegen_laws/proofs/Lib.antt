@@ -1,1 +1,3 @@
 pub mod Shapes
+pub mod Standing
+pub mod ExpressionsPlaced
