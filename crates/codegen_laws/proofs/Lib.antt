@@ -1,3 +1,5 @@
 pub mod Shapes
 pub mod Standing
 pub mod ExpressionsPlaced
+pub mod Flows
+pub mod ExpressionsFlow
