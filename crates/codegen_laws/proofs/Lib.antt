@@ -3,3 +3,4 @@ pub mod Standing
 pub mod ExpressionsPlaced
 pub mod Flows
 pub mod ExpressionsFlow
+pub mod StatementsPlaced
