@@ -4,3 +4,4 @@ pub mod ExpressionsPlaced
 pub mod Flows
 pub mod ExpressionsFlow
 pub mod StatementsPlaced
+pub mod StatementsFlow
