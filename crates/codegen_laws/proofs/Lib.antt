@@ -5,3 +5,6 @@ pub mod Flows
 pub mod ExpressionsFlow
 pub mod StatementsPlaced
 pub mod StatementsFlow
+pub mod TextPlaces
+pub mod Offsets
+pub mod Queue

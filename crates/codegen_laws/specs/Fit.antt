@@ -52,3 +52,10 @@ FitGoto (Both p q) = FitPlace p × FitPlace q
 abbrev pub FitStmt : Stmt → Type 0
 FitStmt (Plain l b g) = FitBody b × FitGoto g
 FitStmt (End entry) = Unit {0}
+
+-- END is last, and nowhere else
+abbrev pub EndsInEnd : List Stmt → Type 0
+EndsInEnd [] = ⊥
+EndsInEnd (End e ∷ []) = Unit {0}
+EndsInEnd (End e ∷ s ∷ ss) = ⊥
+EndsInEnd (Plain l b g ∷ ss) = EndsInEnd ss
