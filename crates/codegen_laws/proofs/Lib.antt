@@ -8,3 +8,4 @@ pub mod StatementsFlow
 pub mod TextPlaces
 pub mod Offsets
 pub mod Queue
+pub mod Sizes
