@@ -9,3 +9,4 @@ pub mod TextPlaces
 pub mod Offsets
 pub mod Queue
 pub mod Sizes
+pub mod Placing

@@ -34,11 +34,11 @@ abbrev pub Numbered : (ℕ → Option Expr) → ℕ → List Expr → Type 0
 Numbered trees_at k [] = Unit {0}
 Numbered trees_at k (e ∷ es) = (trees_at k ≡ Some e) × Numbered trees_at (suc k) es
 
-numbered_left : (trees_at : ℕ → Option Expr) (k : ℕ) (xs ys : List Expr) → Numbered trees_at k (xs ++ ys) → Numbered trees_at k xs
+pub numbered_left : (trees_at : ℕ → Option Expr) (k : ℕ) (xs ys : List Expr) → Numbered trees_at k (xs ++ ys) → Numbered trees_at k xs
 numbered_left trees_at k [] ys h = tt
 numbered_left trees_at k (x ∷ xs) ys (a, b) = (a, numbered_left trees_at (suc k) xs ys b)
 
-numbered_right : (trees_at : ℕ → Option Expr) (k : ℕ) (xs ys : List Expr) → Numbered trees_at k (xs ++ ys) → Numbered trees_at (k + length xs) ys
+pub numbered_right : (trees_at : ℕ → Option Expr) (k : ℕ) (xs ys : List Expr) → Numbered trees_at k (xs ++ ys) → Numbered trees_at (k + length xs) ys
 numbered_right trees_at k [] ys h = subst (λ n. Numbered trees_at n ys) (let e : k ≡ k + 0 = omega arith in e) h
 numbered_right trees_at k (x ∷ xs) ys (a, b) = subst (λ n. Numbered trees_at n ys) (let e : suc k + length xs ≡ k + suc (length xs) = omega arith in e) (numbered_right trees_at (suc k) xs ys b)
 
