@@ -10,3 +10,4 @@ pub mod Offsets
 pub mod Queue
 pub mod Sizes
 pub mod Placing
+pub mod Sounding

@@ -73,11 +73,11 @@ sound_join Fits os p s (x ∷ xs) ys (f, k, t, a) b =
 
 -- ---- each place that is come to has its shape
 
-contains_cons : {X : Type 0} (x y : X) (xs : List X) → Contains (x ∷ xs) y → (x ≡ y) ⊎ Contains xs y
+pub contains_cons : {X : Type 0} (x y : X) (xs : List X) → Contains (x ∷ xs) y → (x ≡ y) ⊎ Contains xs y
 contains_cons x y xs (zero, less, e) = inl e
 contains_cons x y xs (suc k, less, e) = inr (k, (let h : k < length xs = omega (arith, less) in h), e)
 
-contains_nil : {X : Type 0} (y : X) → Contains [] y → ⊥
+pub contains_nil : {X : Type 0} (y : X) → Contains [] y → ⊥
 contains_nil y (k, less, e) = omega (arith, less)
 
 pub some_bytes : (i : Instr) → 1 ≤ bytes i
