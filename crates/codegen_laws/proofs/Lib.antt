@@ -11,3 +11,4 @@ pub mod Queue
 pub mod Sizes
 pub mod Placing
 pub mod Sounding
+pub mod Parts

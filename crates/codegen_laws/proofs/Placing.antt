@@ -219,7 +219,7 @@ module _ (ss : List Stmt) (ends : EndsInEnd ss) (fit : AllByRecursion FitStmt ss
   pub offsets_count : length offsets_of ≡ length ss
   offsets_count = offsets_length (statements_of ss) all 0 0 ∙ statements_length prog.label 1 ss
 
-  stmts_placed : (k o : ℕ) → statement_at offsets_of k ≡ Some o → CodeS prog img (slice_get later_of) k (statement_in ss k) o
+  pub stmts_placed : (k o : ℕ) → statement_at offsets_of k ≡ Some o → CodeS prog img (slice_get later_of) k (statement_in ss k) o
   stmts_placed zero o e = absurd (cc)
   stmts_placed (suc k) o e =
       let one : (i : ℕ) → 1 + i ≡ suc i = λ i. omega arith in

@@ -188,7 +188,7 @@ ends_well [] = false
 ends_well (i ∷ []) = is_last_instr i
 ends_well (i ∷ j ∷ is) = ends_well (j ∷ is)
 
-above : (p : ℕ) (s : Shape) (is : List Instr) (at : ℕ) (t : Shape) → shape_from p s is at ≡ Some t → p ≤ at
+pub above : (p : ℕ) (s : Shape) (is : List Instr) (at : ℕ) (t : Shape) → shape_from p s is at ≡ Some t → p ≤ at
 above p s [] at t h = absurd (cc)
 above p s (i ∷ is) at t h = elim (p == at) as (λ b. (p == at) ≡ b → (if b then Some s else shape_from (p + bytes i) (next_shape i s) is at) ≡ Some t → p ≤ at) [
   | true ↦ λ e f. let same : p ≡ at = grind (arith, e) in omega (arith, same)
@@ -196,7 +196,7 @@ above p s (i ∷ is) at t h = elim (p == at) as (λ b. (p == at) ≡ b → (if b
 ] refl h
 
 -- what stands behind the first instruction stands in the whole
-behind : (p : ℕ) (s : Shape) (i : Instr) (is : List Instr) (at : ℕ) (t : Shape) → shape_from (p + bytes i) (next_shape i s) is at ≡ Some t → shape_from p s (i ∷ is) at ≡ Some t
+pub behind : (p : ℕ) (s : Shape) (i : Instr) (is : List Instr) (at : ℕ) (t : Shape) → shape_from (p + bytes i) (next_shape i s) is at ≡ Some t → shape_from p s (i ∷ is) at ≡ Some t
 behind p s i is at t h =
     let x = above (p + bytes i) (next_shape i s) is at t h in
     let y = some_bytes i in

@@ -1,12 +1,15 @@
 -- What the trees of an accepted deck keep, which their code relies on.
-use Rattle.std.specs.Prelude.{◌≡◌, ◌<◌, ◌≤◌, ◌^◌, ℕ, Bool, true, false, List, [], ◌∷◌, Option, Some, None}
+use Rattle.std.specs.Prelude.{◌≡◌, ◌<◌, ◌≤◌, ◌^◌, ℕ, Bool, true, false, List, [], ◌∷◌, ◌++◌, length, Option, Some, None, bytes_eq}
+use Rattle.std.specs.List.{AllByRecursion, list_any}
 use Rattle.std.specs.Int.{w64}
 use Rattle.std.specs.Int.RustNames.{FitsSigned}
 use Rattle.model.specs.declared.keys.KeyId.{KeyId}
 use Rattle.model.specs.Faults.{count, at_most, operand_fits, subject_fits, is_target}
 use Rattle.model.specs.Names.{key_named, prim_named}
 use Rattle.model.specs.Trees.{Bytes, Expr, Name, Integer, Literal, Keyword, Call, Reference, Apply, Combine, Args, Nil, More, Absent, Given, Place, Label, Computed, Goto, Next, Always, OnSuccess, OnFailure, Both, Body, Nothing, Evaluate, Match, Assign, Replace, Stmt, Plain, End}
-use Rattle.model.specs.WellFormed.{is_nonnull}
+use Rattle.model.specs.Weights.{weight, total}
+use Rattle.model.specs.WellFormed.{is_nonnull, is_label_name}
+use Rattle.codegen.specs.Layout.{label_texts}
 
 abbrev pub Named : Bytes → Type 0
 Named s = is_nonnull (Some s) ≡ true
@@ -59,3 +62,16 @@ EndsInEnd [] = ⊥
 EndsInEnd (End e ∷ []) = Unit {0}
 EndsInEnd (End e ∷ s ∷ ss) = ⊥
 EndsInEnd (Plain l b g ∷ ss) = EndsInEnd ss
+
+-- labels that are none of these, nor END or a return, nor twice there
+abbrev pub NewLabels : (front labels : List Bytes) → Type 0
+NewLabels front [] = Unit {0}
+NewLabels front (l ∷ ls) = (is_label_name (Some l) ≡ true) × (list_any (λ m. bytes_eq m l) front ≡ false) × NewLabels (front ++ l ∷ []) ls
+
+-- the trees of an accepted deck
+pub record IsFit (ss : List Stmt) : Type 0 where
+  pub ends : EndsInEnd ss
+  pub statements : AllByRecursion FitStmt ss
+  pub labels : NewLabels [] (label_texts ss)
+  pub count : length ss ≤ 1048576
+  pub together : total weight ss ≤ 1048576
