@@ -12,3 +12,4 @@ pub mod Sizes
 pub mod Placing
 pub mod Sounding
 pub mod Parts
+pub mod Limits
