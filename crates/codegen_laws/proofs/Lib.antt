@@ -13,3 +13,6 @@ pub mod Placing
 pub mod Sounding
 pub mod Parts
 pub mod Limits
+pub mod SpeltTrees
+pub mod Accepted
+pub mod Images

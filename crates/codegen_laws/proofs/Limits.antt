@@ -273,7 +273,7 @@ module _ (ss : List Stmt) (fit : IsFit ss) where
       let d = fit.together in
       omega (arith, a, b, c, d)
 
-  code_small : total im.code ≤ 15728640
+  pub code_small : total im.code ≤ 15728640
   code_small = let a = both_small in let b = total_join code_first code_second in let c : total im.code ≡ total (code_first ++ code_second) = ap total (code_is ss fit.ends fit.statements) in omega (arith, a, b, c)
 
   texts_small : of_texts (label_texts ss) + of_texts (code_of ss).texts ≤ 1048576
