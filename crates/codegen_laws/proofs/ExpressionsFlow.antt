@@ -1,6 +1,6 @@
 -- The code of an expression is sound: that for its value leaves one value more, that for its name one name more.
-use Rattle.std.proofs.Common.{◌≡◌, ℕ, zero, suc, ◌+◌, ◌<◌, ◌≤◌, ◌==◌, ◌^◌, List, [], ◌∷◌, ◌++◌, length, drop, refl, sym, ap, ◌∙◌, subst, arith, true, false, not, Bool, Some, None, Option, slice_get}
-use Rattle.std.specs.Prelude.{replicate, nat_lt, nat_le}
+use Rattle.std.proofs.Common.{◌≡◌, ℕ, zero, suc, ◌<◌, ◌≤◌, ◌^◌, List, [], ◌∷◌, ◌++◌, length, drop, refl, sym, ap, ◌∙◌, subst, arith, true, false, not, Some, None, Option, slice_get}
+use Rattle.std.specs.Prelude.{replicate, nat_lt}
 use Rattle.std.proofs.lemmas.Bool.Decides.{nat_tests}
 use Rattle.model.specs.declared.image.Image.{Image}
 use Rattle.model.specs.declared.instr.Instr.{Instr}
@@ -12,10 +12,10 @@ use Rattle.model.specs.declared.primitives.PrimId.{PrimId}
 use Rattle.model.specs.declared.trees.Unary.TheVariants as u
 use Rattle.model.specs.declared.trees.Binary.TheVariants as b
 use Rattle.model.specs.Faults.{count, is_target, at_most}
-use Rattle.model.specs.Flow.{Kind, V, N, R, Shape, shape, bare, asked, takes, leaves, Asks, Above, floor_of}
+use Rattle.model.specs.Flow.{Kind, V, N, Shape, shape, Asks, Above, floor_of}
 use Rattle.model.specs.Names.{key_named, prim_named, most_args}
 use Rattle.model.specs.Trees.{Bytes, Expr, Name, Integer, Literal, Keyword, Call, Reference, Apply, Combine, Args, Nil, More, Absent, Given}
-use Rattle.model.specs.WellFormed.{is_nonnull, indices_fit, is_string}
+use Rattle.model.specs.WellFormed.{is_nonnull, indices_fit}
 use Rattle.expr_codegen.specs.Code.{Part, one, with_string, ◌>>◌, call, with_key, value, name, arguments}
 use Rattle.codegen_laws.specs.Fit.{Named, Fit, FitArgs}
 use Rattle.codegen_laws.proofs.Flows.{Fits, Small, push, tried, Flows, flows_nothing, flows_one, flows_string, flows_later, flows_join, flows_as, flows_try}

@@ -1,5 +1,5 @@
 -- The code of expressions means them, wherever it stands.
-use Rattle.std.proofs.Common.{◌≡◌, ℕ, suc, List, [], ◌∷◌, refl, sym, subst, true, Some, None, Option, slice_get}
+use Rattle.std.proofs.Common.{◌≡◌, ℕ, List, refl, sym, subst, true, Some, None, Option, slice_get}
 use Rattle.model.specs.declared.instr.Instr.{Instr}
 use Rattle.model.specs.declared.instr.Instr.TheVariants as op
 use Rattle.model.specs.declared.instr.ArithOp.TheVariants as arith

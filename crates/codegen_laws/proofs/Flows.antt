@@ -1,21 +1,19 @@
 -- Parts whose code is sound, from what stands before them to what they leave.
-use Rattle.std.proofs.Common.{◌≡◌, ℕ, zero, suc, ◌+◌, ◌<◌, ◌≤◌, ◌==◌, ◌^◌, List, [], ◌∷◌, ◌++◌, length, drop, refl, sym, ap, ◌∙◌, subst, arith, true, false, not, Bool, ◌&&◌, Some, None, Option, if◌then◌else◌, slice_get, length-append}
-use Rattle.std.specs.Prelude.{replicate, nat_lt, nat_le}
+use Rattle.std.proofs.Common.{◌≡◌, ℕ, ◌+◌, ◌<◌, ◌≤◌, ◌==◌, ◌^◌, List, [], ◌∷◌, ◌++◌, length, refl, sym, ap, ◌∙◌, subst, arith, true, false, Some, slice_get, length-append}
+use Rattle.std.specs.Prelude.{nat_lt}
 use Rattle.std.specs.Int.{w64}
 use Rattle.std.specs.Int.RustNames.{FitsSigned}
-use Rattle.std.specs.List.{AllByRecursion, list_any}
-use Rattle.std.proofs.lemmas.Bool.Decides.{nat_tests}
 use Rattle.model.specs.declared.image.Image.{Image}
 use Rattle.model.specs.declared.instr.Instr.{Instr}
 use Rattle.model.specs.declared.instr.Instr.TheVariants as op
-use Rattle.model.specs.Flow.{Kind, V, N, R, Shape, shape, bare, asked, takes, leaves, Asks, Above, floor_of}
-use Rattle.model.specs.Machine.{OnBegin, OnTry}
+use Rattle.model.specs.Flow.{Kind, V, Shape, shape, Asks, floor_of}
+use Rattle.model.specs.Machine.{OnTry}
 use Rattle.model.specs.Modules.{bytes, total}
 use Rattle.model.specs.Trees.{Bytes, Expr}
 use Rattle.model.specs.WellFormed.{indices_fit}
 use Rattle.expr_codegen.specs.Texts.{place_of}
 use Rattle.expr_codegen.specs.Code.{Part, nothing, one, with_string, unevaluated, ◌>>◌, handled}
-use Rattle.codegen_laws.proofs.Shapes.{next_shape, after, shape_from, Targets, Sound, total_join, after_join, sound_join, some_bytes}
+use Rattle.codegen_laws.proofs.Shapes.{next_shape, after, shape_from, Targets, Sound, after_join, sound_join, some_bytes}
 use Rattle.codegen_laws.proofs.Standing.{Held, AllHeld, all_left, all_right}
 
 -- what numbers in an instruction are at most, but those of tables and offsets
@@ -78,16 +76,16 @@ module _ (im : Image) where
   unfolding ◌>>◌
   flows_join {s} {t} {u} {a} {b} m n = record {
     sound = λ k p h r.
-      let j = length-append a.later b.later in
-      let xs = a.code im.strings k p in
-      sound_join (Fits im) im.statements p s xs (b.code im.strings (k + length a.later) (p + total xs))
-      (m.sound k p (all_left (Held im.strings) a.texts b.texts h) (omega (arith, j, r)))
-      (subst (λ x. Sound (Fits im) im.statements (p + total xs) x (b.code im.strings (k + length a.later) (p + total xs))) (sym (m.leaves k p))
-      (n.sound (k + length a.later) (p + total xs) (all_right (Held im.strings) a.texts b.texts h) (omega (arith, j, r))));
+        let j = length-append a.later b.later in
+        let xs = a.code im.strings k p in
+        sound_join (Fits im) im.statements p s xs (b.code im.strings (k + length a.later) (p + total xs))
+        (m.sound k p (all_left (Held im.strings) a.texts b.texts h) (omega (arith, j, r)))
+        (subst (λ x. Sound (Fits im) im.statements (p + total xs) x (b.code im.strings (k + length a.later) (p + total xs))) (sym (m.leaves k p))
+        (n.sound (k + length a.later) (p + total xs) (all_right (Held im.strings) a.texts b.texts h) (omega (arith, j, r))));
     leaves = λ k p.
-      let xs = a.code im.strings k p in
-      let ys = b.code im.strings (k + length a.later) (p + total xs) in
-      after_join xs ys s ∙ ap (after ys) (m.leaves k p) ∙ n.leaves (k + length a.later) (p + total xs);
+        let xs = a.code im.strings k p in
+        let ys = b.code im.strings (k + length a.later) (p + total xs) in
+        after_join xs ys s ∙ ap (after ys) (m.leaves k p) ∙ n.leaves (k + length a.later) (p + total xs);
   }
 
   pub flows_as : {s t u : Shape} {a : Part} → t ≡ u → Flows s t a → Flows s u a
@@ -98,22 +96,21 @@ module _ (im : Image) where
   unfolding ◌>>◌ handled one
   flows_try {s} a f m = record {
     sound = λ k p h r.
-      let j = length-append a.later [] in
-      let xs = a.code im.strings k (p + 5) in
-      let t : ℕ = p + 5 + total xs in
-      let first = next_shape (op.Try t) s in
-      let same : after xs first ≡ s = (m t).leaves k (p + 5) in
-      let here : (t == t) ≡ true = grind arith in
-      (
-        (refl, tt),
-        (s.kinds, refl, f),
-        shape_past (p + 5) first xs (op.Null ∷ []) t (omega arith) ∙ rw here (ap Some same),
-        sound_join (Fits im) im.statements (p + 5) first xs (op.Null ∷ [])
-        ((m t).sound k (p + 5) (all_left (Held im.strings) a.texts [] h) (omega (arith, j, r)))
-        (subst (λ x. Sound (Fits im) im.statements t x (op.Null ∷ [])) (sym same) ((refl, tt), (s.kinds, refl, f), tt, tt)),
-      );
+        let j = length-append a.later [] in
+        let xs = a.code im.strings k (p + 5) in
+        let t : ℕ = p + 5 + total xs in
+        let first = next_shape (op.Try t) s in
+        let same : after xs first ≡ s = (m t).leaves k (p + 5) in
+        let here : (t == t) ≡ true = grind arith in (
+          (refl, tt),
+          (s.kinds, refl, f),
+          shape_past (p + 5) first xs (op.Null ∷ []) t (omega arith) ∙ rw here (ap Some same),
+          sound_join (Fits im) im.statements (p + 5) first xs (op.Null ∷ [])
+              ((m t).sound k (p + 5) (all_left (Held im.strings) a.texts [] h) (omega (arith, j, r)))
+              (subst (λ x. Sound (Fits im) im.statements t x (op.Null ∷ [])) (sym same) ((refl, tt), (s.kinds, refl, f), tt, tt)),
+        );
     leaves = λ k p.
-      let xs = a.code im.strings k (p + 5) in
-      let t : ℕ = p + 5 + total xs in
-      after_join xs (op.Null ∷ []) (next_shape (op.Try t) s) ∙ ap (after (op.Null ∷ [])) ((m t).leaves k (p + 5));
+        let xs = a.code im.strings k (p + 5) in
+        let t : ℕ = p + 5 + total xs in
+        after_join xs (op.Null ∷ []) (next_shape (op.Try t) s) ∙ ap (after (op.Null ∷ [])) ((m t).leaves k (p + 5));
   }

@@ -1,7 +1,5 @@
 -- The image of each accepted deck.
-use Rattle.std.proofs.Common.{◌≡◌, ℕ, List, slice_get}
-use Rattle.model.specs.Faults.{Accepted, verdict}
-use Rattle.model.specs.Trees.{Stmt}
+use Rattle.std.proofs.Common.{slice_get}
 use Rattle.model.proofs.AgreementLaw.{agrees_where_placed}
 use Rattle.codegen.specs.Layout.{image_of}
 use Rattle.codegen_laws.specs.CodegenLaws.{AreFit, IsPlaced, IsSpelt, IsSound, IsSmall, DoesAsMeant}

@@ -1,9 +1,9 @@
 -- An image is within the limits of the format.
-use Rattle.std.proofs.Common.{◌≡◌, ℕ, zero, suc, ◌+◌, ◌-◌, ◌*◌, ◌^◌, ◌<◌, ◌≤◌, ◌==◌, List, [], ◌∷◌, ◌++◌, length, refl, sym, ap, ◌∙◌, subst, arith, true, false, not, Bool, ◌&&◌, ◌||◌, Some, None, Option, if◌then◌else◌, slice_get, bytes_eq, append_assoc, length-append}
+use Rattle.std.proofs.Common.{◌≡◌, ℕ, zero, suc, ◌+◌, ◌-◌, ◌*◌, ◌^◌, ◌<◌, ◌≤◌, ◌==◌, List, [], ◌∷◌, ◌++◌, length, refl, ap, ◌∙◌, arith, true, false, not, Bool, ◌&&◌, ◌||◌, Some, None, if◌then◌else◌, slice_get, bytes_eq, length-append}
 use Rattle.std.specs.Prelude.{nat_lt, option_map}
 use Rattle.std.specs.Cmp.Lexicographic.{pointwise}
 use Rattle.std.specs.Int.{w64, cast_unsigned}
-use Rattle.std.specs.List.{AllByRecursion, list_any, flat_map}
+use Rattle.std.specs.List.{AllByRecursion, list_any}
 use Rattle.std.proofs.lemmas.Bool.Decides.{nat_tests}
 use Rattle.model.specs.declared.image.Image.{Image}
 use Rattle.model.specs.declared.image.Label.{Label}
@@ -15,20 +15,20 @@ use Rattle.model.specs.Flow.{Shape, bare}
 use Rattle.model.specs.Modules.{bytes, total}
 use Rattle.model.specs.Names.{most_args}
 use Rattle.model.specs.Programs.{labelled_from, entry_in, entry_label}
-use Rattle.model.specs.Spelling.{u16, u32, u64, instr, operands, code_bytes, InstrFits, most, most_code, Follow, IsTable, is_new, newest, rises, statement_of, StringFits, LabelFits, StatementFits, OffsetFits, PatternFits, IsImage}
+use Rattle.model.specs.Spelling.{u16, u32, u64, instr, code_bytes, InstrFits, most, most_code, Follow, is_new, newest, rises, statement_of, StringFits, LabelFits, StatementFits, OffsetFits, IsImage}
 use Rattle.model.specs.Trees.{Bytes, Expr, Stmt, Plain, End}
-use Rattle.model.specs.WellFormed.{is_nonnull, is_statement, is_string, is_name, indices_fit}
+use Rattle.model.specs.WellFormed.{is_nonnull, is_statement, is_name}
 use Rattle.model.specs.Weights as weights
 use Rattle.model.specs.Weights.{of_name, weight}
 use Rattle.expr_codegen.specs.Texts.{place_of, with_text, with_texts}
-use Rattle.expr_codegen.specs.Code.{Part, nothing, ◌>>◌}
-use Rattle.codegen.specs.Layout.{statements_of, expressions_of, joined, offsets, labels, label_texts, code_of, texts_of, image_of}
-use Rattle.codegen_laws.specs.Fit.{EndsInEnd, FitStmt, IsFit}
-use Rattle.codegen_laws.proofs.Flows.{Fits, Small}
+use Rattle.expr_codegen.specs.Code.{Part, ◌>>◌}
+use Rattle.codegen.specs.Layout.{statements_of, expressions_of, joined, offsets, labels, label_texts, code_of, image_of}
+use Rattle.codegen_laws.specs.Fit.{IsFit}
+use Rattle.codegen_laws.proofs.Flows.{Fits}
 use Rattle.codegen_laws.proofs.Offsets.{HasCode, full_some, offsets_length, statements_full}
 use Rattle.codegen_laws.proofs.Placing.{code_is, offsets_count, entry_among}
 use Rattle.codegen_laws.proofs.Shapes.{next_shape, shape_from, Targets, Sound, some_bytes, total_join}
-use Rattle.codegen_laws.proofs.Sizes.{of_texts, of_later, due, sum_join, statements_weigh, labels_weigh, rest_weighs, queue_code, queue_texts, queue_length}
+use Rattle.codegen_laws.proofs.Sizes.{of_texts, of_later, due, sum_join, statements_weigh, labels_weigh, queue_code, queue_texts, queue_length}
 use Rattle.codegen_laws.proofs.Sounding.{is_sound}
 
 -- ---- strings
@@ -89,7 +89,7 @@ labels_follow texts few n (Plain (Some l) b g ∷ ss) h front r =
     let p = place_within l texts in (
       (let x : place_of l texts < 2 ^ 32 = omega (arith, p, few) in x, let x : n < 2 ^ 32 = omega (arith, h) in x, r n (omega arith)),
       labels_follow texts few (suc n) ss (omega (arith, h)) (front ++ here ∷ [])
-      (λ m l. ap (λ e. rises (option_map statement_of e) m) (newest_snoc front here) ∙ (let x : nat_lt n m ≡ true = grind (arith, l) in x)),
+          (λ m l. ap (λ e. rises (option_map statement_of e) m) (newest_snoc front here) ∙ (let x : nat_lt n m ≡ true = grind (arith, l) in x)),
     )
 
 labels_count : (texts : List Bytes) (n : ℕ) (ss : List Stmt) → length (labels texts n ss) ≤ length ss
@@ -318,8 +318,8 @@ module _ (ss : List Stmt) (fit : IsFit ss) where
     strings = record {
       count = (let h = strings_count in let e : length im.strings ≤ most = omega (arith, h) in e);
       entries =
-        let h = texts_small in
-        texts_follow (label_texts ss) (with_texts (code_of ss).texts []) (omega (arith, h)) (texts_follow (code_of ss).texts [] (omega (arith, h)) tt);
+          let h = texts_small in
+          texts_follow (label_texts ss) (with_texts (code_of ss).texts []) (omega (arith, h)) (texts_follow (code_of ss).texts [] (omega (arith, h)) tt);
     };
     labels = record {
       count = (let h = labels_count im.strings 1 ss in let c = fit.count in let e : length im.labels ≤ most = omega (arith, h, c) in e);

@@ -1,12 +1,12 @@
 -- Offsets of parts that each have code rise.
-use Rattle.std.proofs.Common.{◌≡◌, ℕ, zero, suc, ◌+◌, ◌<◌, ◌≤◌, ◌==◌, List, [], ◌∷◌, ◌++◌, length, refl, sym, ap, ◌∙◌, subst, arith, true, false, Bool, Some, None, Option, if◌then◌else◌, slice_get}
+use Rattle.std.proofs.Common.{◌≡◌, ℕ, zero, suc, ◌+◌, ◌<◌, ◌≤◌, ◌==◌, List, [], ◌∷◌, ◌++◌, length, refl, ap, arith, true, false, Some, Option, slice_get}
 use Rattle.std.specs.List.{AllByRecursion}
 use Rattle.model.specs.declared.instr.Instr.{Instr}
 use Rattle.model.specs.declared.instr.Instr.TheVariants as op
-use Rattle.model.specs.Modules.{bytes, total, number_at}
+use Rattle.model.specs.Modules.{total, number_at}
 use Rattle.model.specs.Trees.{Bytes, Expr, Stmt, Plain, End}
 use Rattle.expr_codegen.specs.Code.{Part, one, ◌>>◌, handled, value}
-use Rattle.codegen.specs.Layout.{statement, statements, expression, expressions, joined, offsets}
+use Rattle.codegen.specs.Layout.{statement, statements, expression, expressions, offsets}
 use Rattle.codegen_laws.proofs.Shapes.{some_bytes}
 
 abbrev pub Full : List Instr → Type 0

@@ -1,28 +1,26 @@
 -- In an image each index, name, target and offset is there.
 use Rattle.std.proofs.Common.{◌≡◌, ℕ, zero, suc, ◌+◌, ◌-◌, ◌<◌, ◌≤◌, ◌==◌, List, [], ◌∷◌, ◌++◌, length, refl, sym, ap, ◌∙◌, subst, arith, true, false, not, Bool, ◌&&◌, ◌||◌, Some, None, Option, if◌then◌else◌, rules, slice_get, bytes_eq, append_assoc}
 use Rattle.std.specs.Prelude.{nat_lt}
-use Rattle.std.specs.List.{AllByRecursion, Contains, list_any}
+use Rattle.std.specs.List.{Contains, list_any}
 use Rattle.model.specs.declared.format.ModuleFault.{ModuleFault}
-use Rattle.model.specs.declared.format.ModuleRule.{ModuleRule}
-use Rattle.model.specs.declared.format.ModuleRule.TheVariants.{BadIndex, BadTarget, BadFlow, BadJump, NoEnd}
+use Rattle.model.specs.declared.format.ModuleRule.TheVariants.{BadIndex, BadTarget, NoEnd}
 use Rattle.model.specs.declared.image.Image.{Image}
-use Rattle.model.specs.declared.image.Label as image
 use Rattle.model.specs.declared.image.Label.{Label}
 use Rattle.model.specs.declared.instr.Instr.{Instr}
 use Rattle.model.specs.declared.instr.Instr.TheVariants as op
 use Rattle.model.specs.Flow.{Shape, bare, asked, begins_at, is_fetched, is_target}
 use Rattle.model.specs.Machine.{Fetched, Nowhere, At}
-use Rattle.model.specs.Modules.{bytes, total, fetch_from, module_of, statement_at}
+use Rattle.model.specs.Modules.{bytes, total, fetch_from, module_of}
 use Rattle.model.specs.Placed.{CodeS}
-use Rattle.model.specs.Programs.{entry_in, entry_label, program}
+use Rattle.model.specs.Programs.{entry_label, program}
 use Rattle.model.specs.Spelling.{newest}
-use Rattle.model.specs.Trees.{Bytes, Body, Goto, Stmt, Plain, End}
-use Rattle.model.specs.WellFormed.{first, rule, told, scan, entry_at, entry_rule, labels_at, label_rule, is_label_name, is_statement, statements_at, statement_rule, expressions_at, expression_rule, patterns_at, code_at, instr_rule, instr_fault, indices_fit, place_fits, begins_last, is_last_instr, is_end, is_begin, part_fault}
+use Rattle.model.specs.Trees.{Bytes, Stmt, Plain, End}
+use Rattle.model.specs.WellFormed.{first, rule, told, scan, entry_at, entry_rule, labels_at, label_rule, is_label_name, is_statement, statements_at, statement_rule, expressions_at, expression_rule, code_at, instr_fault, indices_fit, place_fits, begins_last, is_last_instr, is_end, is_begin, part_fault}
 use Rattle.expr_codegen.specs.Texts.{place_of, with_texts}
 use Rattle.codegen.specs.Layout.{labels, label_texts, code_of, image_of}
-use Rattle.codegen_laws.specs.Fit.{NewLabels, EndsInEnd, FitStmt, IsFit}
+use Rattle.codegen_laws.specs.Fit.{NewLabels, EndsInEnd, IsFit}
 use Rattle.codegen_laws.proofs.Flows.{Fits, shape_past}
-use Rattle.codegen_laws.proofs.Placing.{later_of, stmts_placed, offsets_count, entry_among, some_statement}
+use Rattle.codegen_laws.proofs.Placing.{later_of, stmts_placed, offsets_count, entry_among}
 use Rattle.codegen_laws.proofs.Shapes.{next_shape, after, shape_from, Targets, Sound, above, behind, some_bytes, total_join, ends_well, IsSound}
 use Rattle.codegen_laws.proofs.Sounding.{is_sound, statement_there}
 use Rattle.codegen_laws.proofs.Standing.{Held, AllHeld}
@@ -109,10 +107,10 @@ only_end : (im : Image) (front : List Instr) (i : Instr) (rest : List Instr) (la
 unfolding fetched
 only_end im front i rest last end e n f = rw n (elim (last == total front) as (λ b. (last == total front) ≡ b → (is_end i || not b) ≡ true) [
   | true ↦ λ h.
-    let same : last ≡ total front = grind (arith, h) in
-    let here : fetch_from 0 im.code last ≡ At i (last + bytes i) = ap (λ is. fetch_from 0 is last) e ∙ fetch_split front i rest 0 last (omega (arith, same)) in
-    let is : op.End ≡ i = ap fetched (sym f ∙ here) in
-    subst (λ j. (is_end j || false) ≡ true) is refl
+      let same : last ≡ total front = grind (arith, h) in
+      let here : fetch_from 0 im.code last ≡ At i (last + bytes i) = ap (λ is. fetch_from 0 is last) e ∙ fetch_split front i rest 0 last (omega (arith, same)) in
+      let is : op.End ≡ i = ap fetched (sym f ∙ here) in
+      subst (λ j. (is_end j || false) ≡ true) is refl
   | false ↦ λ h. elim (is_end i) as (λ b. b || true ≡ true) [ true ↦ refl | false ↦ refl ]
 ] refl)
 
@@ -122,9 +120,9 @@ nothing_told pos a b c d w x y z = rw (w, x, y, z) refl
 code_fine : (im : Image) → IsSound (Fits im) im → (last end : ℕ) → newest im.statements ≡ Some last → fetch_from 0 im.code last ≡ At op.End end → (pos : ℕ) → scan (instr_fault im) bytes [] pos im.code ≡ None
 code_fine im is last end n f pos = scan_fine (instr_fault im) bytes im.code
     (λ front i rest e at.
-      let here = sound_split (Fits im) im.statements 0 bare front (i ∷ rest) (subst (λ is. Sound (Fits im) im.statements 0 bare is) e is.sound) in
-      let targets : Targets im.statements i (total front) (after front bare) rest = subst (λ n. Targets im.statements i n (after front bare) rest) (let z : 0 + total front ≡ total front = omega arith in z) here.2 in
-      nothing_told at (indices_fit im i) (place_fits im (total front) i) _ _ here.0.0 (place_there im front i rest e targets) (goes_on im front i rest e is.ends) (only_end im front i rest last end e n f))
+    let here = sound_split (Fits im) im.statements 0 bare front (i ∷ rest) (subst (λ is. Sound (Fits im) im.statements 0 bare is) e is.sound) in
+    let targets : Targets im.statements i (total front) (after front bare) rest = subst (λ n. Targets im.statements i n (after front bare) rest) (let z : 0 + total front ≡ total front = omega arith in z) here.2 in
+    nothing_told at (indices_fit im i) (place_fits im (total front) i) _ _ here.0.0 (place_there im front i rest e targets) (goes_on im front i rest e is.ends) (only_end im front i rest last end e n f))
     im.code [] pos refl
 
 -- ---- labels
@@ -152,11 +150,11 @@ other_place texts (e ∷ es) (m ∷ ms) l (p, g, a) h n =
       | true ↦ λ d r. absurd (cc)
       | false ↦ λ d r. elim (e.string == place_of l texts) as (λ b. (e.string == place_of l texts) ≡ b → (b || list_any (λ e. e.string == place_of l texts) es) ≡ false) [
         | true ↦ λ f.
-          let same : e.string ≡ place_of l texts = grind (arith, f) in
-          let both : Some m ≡ Some l = sym g ∙ ap (slice_get texts) (sym p ∙ same) ∙ h in
-          let is : m ≡ l = cc in
-          let eq : bytes_eq l l ≡ true = search rules in
-          absurd (let x : bytes_eq l l ≡ false = subst (λ y. bytes_eq y l ≡ false) is d in cc)
+            let same : e.string ≡ place_of l texts = grind (arith, f) in
+            let both : Some m ≡ Some l = sym g ∙ ap (slice_get texts) (sym p ∙ same) ∙ h in
+            let is : m ≡ l = cc in
+            let eq : bytes_eq l l ≡ true = search rules in
+            absurd (let x : bytes_eq l l ≡ false = subst (λ y. bytes_eq y l ≡ false) is d in cc)
         | false ↦ λ f. other_place texts es ms l a h r
       ] refl
     ] refl n
@@ -234,9 +232,9 @@ module _ (ss : List Stmt) (fit : IsFit ss) where
   expressions_fine : (pos : ℕ) → scan (λ front at o. told at (expression_rule im front o)) (λ o. 4) [] pos im.expressions ≡ None
   expressions_fine pos = scan_fine (λ front at o. told at (expression_rule im front o)) (λ o. 4) im.expressions
       (λ front at rest e p.
-        let c : Contains im.expressions at = subst (λ xs. Contains xs at) (sym e) (contains_split front at rest) in
-        let h : begins_at im at ≡ true = shape_fetched 0 bare im.code at asked (sound.expressions at c) in
-        ap (λ b. told p (rule BadTarget b)) h)
+      let c : Contains im.expressions at = subst (λ xs. Contains xs at) (sym e) (contains_split front at rest) in
+      let h : begins_at im at ≡ true = shape_fetched 0 bare im.code at asked (sound.expressions at c) in
+      ap (λ b. told p (rule BadTarget b)) h)
       im.expressions [] pos refl
 
   instructions_fine : (pos : ℕ) → scan (instr_fault im) bytes [] pos im.code ≡ None

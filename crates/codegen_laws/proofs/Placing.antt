@@ -1,22 +1,21 @@
 -- The code of a program stands in its image.
-use Rattle.std.proofs.Common.{◌≡◌, ℕ, zero, suc, ◌+◌, ◌<◌, ◌≤◌, ◌==◌, List, [], ◌∷◌, ◌++◌, length, refl, sym, ap, ◌∙◌, subst, arith, true, false, Bool, Some, None, Option, if◌then◌else◌, slice_get, bytes_eq, append_assoc}
+use Rattle.std.proofs.Common.{◌≡◌, ℕ, zero, suc, ◌+◌, ◌<◌, ◌≤◌, List, [], ◌∷◌, ◌++◌, length, refl, sym, ap, ◌∙◌, subst, arith, true, false, Bool, Some, None, Option, if◌then◌else◌, slice_get, bytes_eq, append_assoc}
 use Rattle.std.specs.Prelude.{map}
 use Rattle.std.specs.List.{AllByRecursion}
 use Rattle.model.specs.declared.instr.Instr.TheVariants as op
-use Rattle.model.specs.declared.image.Label as image
-use Rattle.model.specs.Machine.{At, Module}
-use Rattle.model.specs.Modules.{bytes, total, fetch_from, module_of, statement_at, number_at, statement_of, end_of}
+use Rattle.model.specs.Machine.{Module}
+use Rattle.model.specs.Modules.{total, module_of, statement_at, statement_of, end_of}
 use Rattle.model.specs.Placed.{CodeV, CodeS, Placed, Is}
 use Rattle.model.specs.Programs.{Program, program, statement_in, labelled_from, entry_in, entry_label, number_or, end_label}
 use Rattle.model.specs.Trees.{Bytes, Expr, Body, Goto, Stmt, Plain, End}
 use Rattle.model.specs.Weights as weights
 use Rattle.model.specs.Weights.{weight}
-use Rattle.expr_codegen.specs.Texts.{place_of, with_texts}
-use Rattle.expr_codegen.specs.Code.{Part, nothing, one, ◌>>◌, value}
-use Rattle.codegen.specs.Layout.{statement, statements, statements_of, expression, expressions, expressions_of, joined, offsets, labels, label_texts, code_of, texts_of, image_of}
+use Rattle.expr_codegen.specs.Texts.{with_texts}
+use Rattle.expr_codegen.specs.Code.{Part, ◌>>◌}
+use Rattle.codegen.specs.Layout.{statement, statements, statements_of, expression, expressions_of, joined, offsets, labels, label_texts, code_of, texts_of, image_of}
 use Rattle.codegen_laws.specs.Fit.{Fit, FitStmt, EndsInEnd}
 use Rattle.codegen_laws.proofs.ExpressionsPlaced.{value_placed}
-use Rattle.codegen_laws.proofs.Offsets.{above, numbered, offsets_length, statements_length, statements_full, get_within}
+use Rattle.codegen_laws.proofs.Offsets.{numbered, offsets_length, statements_length, statements_full, get_within}
 use Rattle.codegen_laws.proofs.Queue.{later_statements, later_expressions}
 use Rattle.codegen_laws.proofs.Sizes.{all_written, statements_weigh, rest_weighs}
 use Rattle.codegen_laws.proofs.Standing.{Held, AllHeld, all_left, all_right, Numbered, numbered_left, numbered_right, StandsFrom, stands_left, stands_right, whole_stands, means_one, means_join}

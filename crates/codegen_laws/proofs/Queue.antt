@@ -1,6 +1,5 @@
 -- Each unevaluated expression of a program is written, and its trees are those of the accepted statements.
-use Rattle.std.proofs.Common.{◌≡◌, ℕ, zero, suc, ◌+◌, ◌<◌, ◌≤◌, List, [], ◌∷◌, ◌++◌, length, refl, sym, ap, ◌∙◌, subst, arith, true, Some, None, Option, append_assoc, append-nil}
-use Rattle.std.specs.Prelude.{map}
+use Rattle.std.proofs.Common.{ℕ, zero, suc, List, [], ◌∷◌, ◌++◌, Some, None, Option}
 use Rattle.std.specs.List.{AllByRecursion}
 use Rattle.model.specs.declared.instr.Instr.{Instr}
 use Rattle.model.specs.declared.instr.Instr.TheVariants as op
@@ -13,7 +12,7 @@ use Rattle.model.specs.Meaning.{key_target}
 use Rattle.model.specs.Names.{key_named, prim_named}
 use Rattle.model.specs.Trees.{Bytes, Expr, Name, Integer, Literal, Keyword, Call, Reference, Apply, Combine, Args, Nil, More, Absent, Given, Place, Label, Computed, Goto, Next, Always, OnSuccess, OnFailure, Both, Body, Nothing, Evaluate, Match, Assign, Replace, Stmt, Plain, End}
 use Rattle.expr_codegen.specs.Code.{Part, nothing, one, with_string, unevaluated, ◌>>◌, handled, call, with_key, value, name, arguments}
-use Rattle.codegen.specs.Layout.{object, assignment, body, to_known, to_label, place, after_success, after_failure, statement, statements, expression, expressions, joined}
+use Rattle.codegen.specs.Layout.{object, assignment, body, place, after_success, after_failure, statement, statements, expression, expressions, joined}
 use Rattle.codegen_laws.specs.Fit.{Fit, FitArgs, FitObject, FitBody, FitPlace, FitGoto, FitStmt}
 
 -- each unevaluated expression of the part is fit

@@ -1,14 +1,13 @@
 -- The shape before each instruction, as the code before it leaves it. Where every instruction has what it asks and every
 -- target the shape that it is gone to with, the code doesn't break the flow.
-use Rattle.std.proofs.Common.{◌≡◌, ℕ, zero, suc, ◌+◌, ◌<◌, ◌≤◌, ◌==◌, List, [], ◌∷◌, ◌++◌, length, drop, refl, sym, ap, ◌∙◌, subst, arith, true, false, Bool, ◌&&◌, Some, None, Option, if◌then◌else◌, inl, inr, ◌⊎◌}
+use Rattle.std.proofs.Common.{◌≡◌, ℕ, zero, suc, ◌+◌, ◌<◌, ◌≤◌, ◌==◌, List, [], ◌∷◌, ◌++◌, length, drop, refl, sym, ap, ◌∙◌, subst, arith, true, false, Bool, Some, None, Option, if◌then◌else◌, inl, inr, ◌⊎◌}
 use Rattle.std.specs.List.{Contains, list_any}
-use Rattle.std.specs.Prelude.{nat_lt}
 use Rattle.model.specs.declared.image.Image.{Image}
 use Rattle.model.specs.declared.instr.Instr.{Instr}
 use Rattle.model.specs.declared.instr.Instr.TheVariants as op
-use Rattle.model.specs.Machine.{At, Nowhere, Fetched, Handler, OnBegin, OnTry}
+use Rattle.model.specs.Machine.{At, Nowhere, Fetched, OnBegin, OnTry}
 use Rattle.model.specs.Modules.{bytes, total, fetch_from}
-use Rattle.model.specs.Flow.{Mode, InBody, InGoto, InEvaluation, Kind, V, N, Shape, shape, bare, asked, takes, leaves, Asks, leads, is_target, to_target, Begins, Reach, Reaches, BreaksFlow, IsLeast}
+use Rattle.model.specs.Flow.{InBody, Shape, shape, bare, asked, takes, leaves, Asks, leads, is_target, to_target, Begins, Reach, BreaksFlow, IsLeast}
 use Rattle.model.specs.WellFormed.{is_last_instr}
 
 -- ---- what the code leaves
@@ -246,19 +245,19 @@ unfolding fetched follows
 known im Fits os p s [] so w at t h i next f = absurd (cc)
 known im Fits os p s (j ∷ []) so w at t h i next f = elim (p == at) as (λ b. (if b then Some s else None) ≡ Some t → (if b then At j (p + bytes j) else Nowhere) ≡ At i next → Known im at i next t p s (j ∷ [])) [
   | true ↦ λ e g.
-    let same : s ≡ t = cc in
-    subst (λ x. Known im at i next x p s (j ∷ [])) same
-    (subst (λ y. Known im at (fetched y) (follows y) s p s (j ∷ [])) g (known_first im Fits os p s j [] so w at))
+      let same : s ≡ t = cc in
+      subst (λ x. Known im at i next x p s (j ∷ [])) same
+      (subst (λ y. Known im at (fetched y) (follows y) s p s (j ∷ [])) g (known_first im Fits os p s j [] so w at))
   | false ↦ λ e g. absurd (cc)
 ] h f
 known im Fits os p s (j ∷ x ∷ is) so w at t h i next f = elim (p == at) as (λ b. (if b then Some s else shape_from (p + bytes j) (next_shape j s) (x ∷ is) at) ≡ Some t → (if b then At j (p + bytes j) else fetch_from (p + bytes j) (x ∷ is) at) ≡ At i next → Known im at i next t p s (j ∷ x ∷ is)) [
   | true ↦ λ e g.
-    let same : s ≡ t = cc in
-    subst (λ x1. Known im at i next x1 p s (j ∷ x ∷ is)) same
-    (subst (λ y. Known im at (fetched y) (follows y) s p s (j ∷ x ∷ is)) g (known_first im Fits os p s j (x ∷ is) so w at))
+      let same : s ≡ t = cc in
+      subst (λ x1. Known im at i next x1 p s (j ∷ x ∷ is)) same
+      (subst (λ y. Known im at (fetched y) (follows y) s p s (j ∷ x ∷ is)) g (known_first im Fits os p s j (x ∷ is) so w at))
   | false ↦ λ e g.
-    let more = known im Fits os (p + bytes j) (next_shape j s) (x ∷ is) so.3 w at t e i next g in
-    record { has = more.has; on = λ b u c. behind p s j (x ∷ is) b u (more.on b u c) }
+      let more = known im Fits os (p + bytes j) (next_shape j s) (x ∷ is) so.3 w at t e i next g in
+      record { has = more.has; on = λ b u c. behind p s j (x ∷ is) b u (more.on b u c) }
 ] h f
 
 -- ---- the law

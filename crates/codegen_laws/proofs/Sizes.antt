@@ -1,6 +1,6 @@
 -- How much code, how many strings and how many unevaluated expressions a tree has: a tree of weight n has at most 9 n bytes of
 -- code, with all that is unevaluated in it.
-use Rattle.std.proofs.Common.{◌≡◌, ℕ, zero, suc, ◌+◌, ◌-◌, ◌*◌, ◌<◌, ◌≤◌, List, [], ◌∷◌, ◌++◌, length, refl, sym, ap, ◌∙◌, subst, arith, true, Some, None, Option, append_assoc, append-nil}
+use Rattle.std.proofs.Common.{◌≡◌, ℕ, zero, suc, ◌+◌, ◌-◌, ◌*◌, ◌≤◌, List, [], ◌∷◌, ◌++◌, length, refl, ap, ◌∙◌, arith, Some, None, Option, append_assoc}
 use Rattle.std.specs.Prelude.{map}
 use Rattle.model.specs.declared.instr.Instr.{Instr}
 use Rattle.model.specs.declared.instr.Instr.TheVariants as op
@@ -82,11 +82,11 @@ bounds_join {c} {t} {q} {d} {s} {r} {a} {b} m n =
     let nl = n.later in
     record {
       code = λ texts k p.
-        let xs = a.code texts k p in
-        let x = m.code texts k p in
-        let y = n.code texts (k + length a.later) (p + total xs) in
-        let z = total_join xs (b.code texts (k + length a.later) (p + total xs)) in
-        omega (arith, x, y, z, i);
+          let xs = a.code texts k p in
+          let x = m.code texts k p in
+          let y = n.code texts (k + length a.later) (p + total xs) in
+          let z = total_join xs (b.code texts (k + length a.later) (p + total xs)) in
+          omega (arith, x, y, z, i);
       texts = omega (arith, mt, nt, j, l);
       later = omega (arith, ml, nl, l);
     }
@@ -99,9 +99,9 @@ bounds_handled {c} {t} {q} {d} {s} {r} {a} {b} i five m n =
     let bl = both.later in
     record {
       code = λ texts k p.
-        let h = both.code texts k (p + 5) in
-        let f = five (p + 5 + total (a.code texts k (p + 5))) in
-        omega (arith, h, f);
+          let h = both.code texts k (p + 5) in
+          let f = five (p + 5 + total (a.code texts k (p + 5))) in
+          omega (arith, h, f);
       texts = bt;
       later = bl;
     }

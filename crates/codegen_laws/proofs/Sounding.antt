@@ -1,25 +1,25 @@
 -- The code of an image is sound.
-use Rattle.std.proofs.Common.{◌≡◌, ℕ, zero, suc, ◌+◌, ◌<◌, ◌≤◌, ◌==◌, List, [], ◌∷◌, ◌++◌, length, refl, sym, ap, ◌∙◌, subst, arith, true, false, not, Bool, ◌&&◌, ◌||◌, Some, None, Option, if◌then◌else◌, inl, inr, ◌⊎◌, append_assoc, append-nil, length-append}
+use Rattle.std.proofs.Common.{◌≡◌, ℕ, suc, ◌+◌, ◌<◌, ◌≤◌, ◌==◌, List, [], ◌∷◌, ◌++◌, length, refl, sym, ap, ◌∙◌, subst, arith, true, false, ◌||◌, Some, None, Option, inl, inr, ◌⊎◌, append_assoc, append-nil, length-append}
 use Rattle.std.specs.Prelude.{map, nat_lt}
 use Rattle.std.specs.List.{AllByRecursion, Contains, list_any}
 use Rattle.std.proofs.lemmas.List.{length-map}
 use Rattle.model.specs.declared.image.Image.{Image}
 use Rattle.model.specs.declared.instr.Instr.{Instr}
 use Rattle.model.specs.declared.instr.Instr.TheVariants as op
-use Rattle.model.specs.Flow.{Shape, shape, bare, asked, BreaksFlow, IsLeast}
-use Rattle.model.specs.Modules.{bytes, total}
-use Rattle.model.specs.Programs.{labelled_from, program}
+use Rattle.model.specs.Flow.{Shape, bare, asked, BreaksFlow, IsLeast}
+use Rattle.model.specs.Modules.{total}
+use Rattle.model.specs.Programs.{labelled_from}
 use Rattle.model.specs.Trees.{Bytes, Expr, Body, Goto, Stmt, Plain, End}
-use Rattle.model.specs.WellFormed.{is_statement, is_last_instr}
+use Rattle.model.specs.WellFormed.{is_statement}
 use Rattle.expr_codegen.specs.Texts.{with_texts}
 use Rattle.expr_codegen.specs.Code.{Part, nothing, one, ◌>>◌, handled, value}
-use Rattle.codegen.specs.Layout.{body, after_success, after_failure, statement, statements, statements_of, expression, expressions, expressions_of, joined, offsets, label_texts, code_of, texts_of, image_of}
+use Rattle.codegen.specs.Layout.{body, after_success, after_failure, statement, statements, statements_of, expression, expressions_of, joined, offsets, label_texts, code_of, image_of}
 use Rattle.codegen_laws.specs.Fit.{Fit, FitStmt, EndsInEnd}
 use Rattle.codegen_laws.proofs.ExpressionsFlow.{value_flows}
 use Rattle.codegen_laws.proofs.Flows.{Fits, shape_past, Flows, flows_nothing, flows_one, flows_join}
 use Rattle.codegen_laws.proofs.Offsets.{Full, full_left, statement_full, expression_full}
 use Rattle.codegen_laws.proofs.Placing.{later_of, code_is, later_fits, written, offsets_count, labelled_within, some_statement}
-use Rattle.codegen_laws.proofs.Shapes.{next_shape, after, shape_from, Sound, total_join, after_join, sound_join, ends_well, contains_cons, contains_nil, IsSound, no_break}
+use Rattle.codegen_laws.proofs.Shapes.{after, shape_from, Sound, after_join, sound_join, ends_well, contains_cons, contains_nil, IsSound, no_break}
 use Rattle.codegen_laws.proofs.Standing.{Held, AllHeld, all_left, all_right}
 use Rattle.codegen_laws.proofs.StatementsFlow.{begun, inner_flows, failure_flows}
 use Rattle.codegen_laws.proofs.TextPlaces.{all_held, all_stay}
@@ -145,12 +145,12 @@ module _ (im : Image) (number_of : Bytes → Option ℕ) (there : (l : Bytes) (n
       let ys = next.code im.strings (k + length a.later) q in
       elim (contains_cons p o (offsets (statements number_of (suc n) ss) im.strings (k + length a.later) q) c) [
         | inl e ↦ subst (λ x. shape_from p bare ((xs ++ ys) ++ tail) x ≡ Some bare) e
-          (ap (λ is. shape_from p bare is p) (append_assoc xs ys tail) ∙ start p bare xs (ys ++ tail) (full_left ys tail (list_full (suc n) ss ends (k + length a.later) q)))
+            (ap (λ is. shape_from p bare is p) (append_assoc xs ys tail) ∙ start p bare xs (ys ++ tail) (full_left ys tail (list_full (suc n) ss ends (k + length a.later) q)))
         | inr h ↦
-          (let up = contains_above im.strings (statements number_of (suc n) ss) (k + length a.later) q o h in
-          ap (λ is. shape_from p bare is o) (append_assoc xs ys tail) ∙ shape_past p bare xs (ys ++ tail) o up
-          ∙ ap (λ x. shape_from q x (ys ++ tail) o) (statement_leaves n l b g fit.0 (next_there n ss ends t) k p)
-          ∙ bare_at (suc n) ss ends fit.1 (rest_there n (length ss) t) (k + length a.later) q tail o h)
+            (let up = contains_above im.strings (statements number_of (suc n) ss) (k + length a.later) q o h in
+            ap (λ is. shape_from p bare is o) (append_assoc xs ys tail) ∙ shape_past p bare xs (ys ++ tail) o up
+            ∙ ap (λ x. shape_from q x (ys ++ tail) o) (statement_leaves n l b g fit.0 (next_there n ss ends t) k p)
+            ∙ bare_at (suc n) ss ends fit.1 (rest_there n (length ss) t) (k + length a.later) q tail o h)
       ]
 
   -- ---- expressions
@@ -173,8 +173,8 @@ module _ (im : Image) (number_of : Bytes → Option ℕ) (there : (l : Bytes) (n
       elim (contains_cons p o (offsets (map expression es) im.strings (k + length a.later) q) c) [
         | inl h ↦ subst (λ x. shape_from p asked (xs ++ ys) x ≡ Some asked) h (start_full p asked (xs ++ ys) (full_left xs ys (expression_full e im.strings k p)))
         | inr h ↦
-          (let up = contains_above im.strings (map expression es) (k + length a.later) q o h in
-          shape_past p asked xs ys o up ∙ ap (λ x. shape_from q x ys o) ((expression_flows e f.0).leaves k p) ∙ asked_at es f.1 (k + length a.later) q o h)
+            (let up = contains_above im.strings (map expression es) (k + length a.later) q o h in
+            shape_past p asked xs ys o up ∙ ap (λ x. shape_from q x ys o) ((expression_flows e f.0).leaves k p) ∙ asked_at es f.1 (k + length a.later) q o h)
       ]
     where
       start_full : (p : ℕ) (s : Shape) (is : List Instr) → Full is → shape_from p s is p ≡ Some s

@@ -1,27 +1,23 @@
 -- The tree of a text: its names are nonnull and its integers small, as the text's tokens are.
-use Rattle.std.proofs.Common.{◌≡◌, refl, sym, ap, ◌∙◌, subst, ℕ, ◌+◌, ◌<◌, ◌≤◌, ◌^◌, pos, negsuc, ◌==◌, ◌&&◌, ◌||◌, Bool, true, false, not, inl, inr, List, [], ◌∷◌, ◌++◌, length, arith, Option, Some, None, FitsSigned}
-use Rattle.std.specs.Prelude.{Result, Ok, Err, nat_lt, if◌then◌else◌, ◌≢◌}
+use Rattle.std.proofs.Common.{◌≡◌, refl, ℕ, ◌<◌, ◌≤◌, ◌^◌, ◌||◌, Bool, true, false, List, [], ◌∷◌, ◌++◌, arith, Option, Some, None, FitsSigned}
+use Rattle.std.specs.Prelude.{Ok, if◌then◌else◌, ◌≢◌}
 use Rattle.std.specs.Int.{w64}
 use Rattle.std.specs.List.{AllByRecursion}
 use Rattle.std.proofs.lemmas.Bool.Decides.{nat_tests}
-use Rattle.model.specs.declared.tokens.Mark.{Mark}
 use Rattle.model.specs.declared.tokens.TokenKind.{TokenKind}
 use Rattle.model.specs.declared.tokens.TokenKind.TheVariants as kind
-use Rattle.model.specs.declared.trees.Binary.{Binary}
 use Rattle.model.specs.declared.causes.Cause.{Cause}
 use Rattle.model.specs.Cut.{IsToken, Piece, Token, Stray, Unclosed, Cut, toks_of, has, is_stray, is_unclosed, is_too_large, least_lexical}
-use Rattle.model.specs.Digits.{value}
 use Rattle.model.specs.Faults.{read}
 use Rattle.model.specs.Grammar.{gap, link, shown, Phrase, Element, Grade, One, Several, Spells, name, integer, literal, keyword, applied, brackets, call, reference, plain, looser, combined, absent, present, single, comma}
 use Rattle.model.specs.Pieces.{pieces}
 use Rattle.model.specs.Statements as st
 use Rattle.model.specs.Statements.{end_word, IsPlace, InBrackets, IsExits, IsGoto, IsObject, IsBody, IsLabel, IsEntry, Tree}
-use Rattle.model.specs.Tokens.{Tok, Blank, Word, Digits, Quoted, Sign, tok_by}
+use Rattle.model.specs.Tokens.{Tok, Blank, Word, Digits, Sign, tok_by}
 use Rattle.model.specs.Trees.{Bytes, Expr, Name, Integer, Literal, Keyword, Call, Reference, Apply, Combine, Arg, Absent, Given, Args, Nil, More, Place, Label, Computed, Goto, Next, Always, OnSuccess, OnFailure, Both, Body, Nothing, Evaluate, Match, Assign, Replace, Stmt, Plain, End}
 use Rattle.model.proofs.Cutting.{cut_is}
 use Rattle.model.proofs.DeckEnds.{piece_is}
 use Rattle.model.proofs.DeckVerdicts.{read_is}
-use Rattle.model.proofs.ParseSteps.{if_is}
 use Rattle.model.proofs.StatementSound.{stmt_sound}
 use Rattle.codegen_laws.specs.Fit.{Named}
 use Rattle.codegen_laws.proofs.Standing.{all_left, all_right}

@@ -1,17 +1,13 @@
 -- The code of a part stands in a module, and means what it should wherever it does.
-use Rattle.std.proofs.Common.{◌≡◌, ℕ, zero, suc, ◌+◌, ◌<◌, ◌≤◌, ◌==◌, List, [], ◌∷◌, ◌++◌, length, refl, sym, ap, ◌∙◌, subst, arith, true, false, Bool, Some, None, Option, if◌then◌else◌, slice_get, length-append, append_assoc, append-nil}
+use Rattle.std.proofs.Common.{◌≡◌, ℕ, suc, ◌+◌, ◌<◌, ◌≤◌, ◌==◌, List, [], ◌∷◌, ◌++◌, length, refl, ap, ◌∙◌, subst, arith, true, false, Some, Option, slice_get}
 use Rattle.std.specs.List.{AllByRecursion}
 use Rattle.model.specs.declared.instr.Instr.{Instr}
 use Rattle.model.specs.declared.instr.Instr.TheVariants as op
-use Rattle.model.specs.declared.keys.KeyId.{KeyId}
-use Rattle.model.specs.declared.primitives.PrimId.{PrimId}
 use Rattle.model.specs.Machine.{At, Module}
 use Rattle.model.specs.Modules.{bytes, total, fetch_from}
-use Rattle.model.specs.Placed.{Is, TextAt, CallAt}
-use Rattle.model.specs.Programs.{Program}
 use Rattle.model.specs.Trees.{Bytes, Expr}
 use Rattle.expr_codegen.specs.Texts.{place_of}
-use Rattle.expr_codegen.specs.Code.{Part, nothing, one, with_string, unevaluated, ◌>>◌, handled, call}
+use Rattle.expr_codegen.specs.Code.{Part, nothing, one, with_string, unevaluated, ◌>>◌, handled}
 use Rattle.codegen_laws.proofs.Shapes.{total_join, some_bytes}
 
 pub all_left : {A : Type 0} (P : A → Type 0) (xs ys : List A) → AllByRecursion P (xs ++ ys) → AllByRecursion P xs
@@ -102,14 +98,14 @@ module _ (img : Module) (texts : List Bytes) (strings : (k : ℕ) → img.string
   unfolding ◌>>◌
   means_join {A} {B} {a} {b} m n = record {
     at = λ k p h l s.
-      let xs = a.code texts k p in
-      let r : ℕ = p + total xs in
-      let ys = b.code texts (k + length a.later) r in (
-        r,
-        m.at k p (all_left (Held texts) a.texts b.texts h) (numbered_left trees_at k a.later b.later l) (stands_left img p xs ys s),
-        subst (B r) (let t = total_join xs ys in let e : r + total ys ≡ p + total (xs ++ ys) = omega (arith, t) in e)
-        (n.at (k + length a.later) r (all_right (Held texts) a.texts b.texts h) (numbered_right trees_at k a.later b.later l) (stands_right img p xs ys s)),
-      );
+        let xs = a.code texts k p in
+        let r : ℕ = p + total xs in
+        let ys = b.code texts (k + length a.later) r in (
+          r,
+          m.at k p (all_left (Held texts) a.texts b.texts h) (numbered_left trees_at k a.later b.later l) (stands_left img p xs ys s),
+          subst (B r) (let t = total_join xs ys in let e : r + total ys ≡ p + total (xs ++ ys) = omega (arith, t) in e)
+              (n.at (k + length a.later) r (all_right (Held texts) a.texts b.texts h) (numbered_right trees_at k a.later b.later l) (stands_right img p xs ys s)),
+        );
   }
 
   -- the instruction before both parts leads to the second too
@@ -118,17 +114,17 @@ module _ (img : Module) (texts : List Bytes) (strings : (k : ℕ) → img.string
   unfolding ◌>>◌ handled
   means_handled i five {A} {B} {a} {b} m n = record {
     at = λ k p h l s.
-      let xs = a.code texts k (p + 5) in
-      let t : ℕ = p + 5 + total xs in
-      let ys = b.code texts (k + length a.later) t in
-      let rest : StandsFrom img (p + 5) (xs ++ ys) = subst (λ n. StandsFrom img (p + n) (xs ++ ys)) (five t) s.1 in (
-        t,
-        p + 5,
-        s.0 ∙ ap (λ n. At (i t) (p + n)) (five t),
-        m.at k (p + 5) (all_left (Held texts) a.texts b.texts h) (numbered_left trees_at k a.later b.later l) (stands_left img (p + 5) xs ys rest),
-        subst (B t) (let j = total_join xs ys in let f = five t in let e : t + total ys ≡ p + (bytes (i t) + total (xs ++ ys)) = omega (arith, j, f) in e)
-        (n.at (k + length a.later) t (all_right (Held texts) a.texts b.texts h) (numbered_right trees_at k a.later b.later l) (stands_right img (p + 5) xs ys rest)),
-      );
+        let xs = a.code texts k (p + 5) in
+        let t : ℕ = p + 5 + total xs in
+        let ys = b.code texts (k + length a.later) t in
+        let rest : StandsFrom img (p + 5) (xs ++ ys) = subst (λ n. StandsFrom img (p + n) (xs ++ ys)) (five t) s.1 in (
+          t,
+          p + 5,
+          s.0 ∙ ap (λ n. At (i t) (p + n)) (five t),
+          m.at k (p + 5) (all_left (Held texts) a.texts b.texts h) (numbered_left trees_at k a.later b.later l) (stands_left img (p + 5) xs ys rest),
+          subst (B t) (let j = total_join xs ys in let f = five t in let e : t + total ys ≡ p + (bytes (i t) + total (xs ++ ys)) = omega (arith, j, f) in e)
+              (n.at (k + length a.later) t (all_right (Held texts) a.texts b.texts h) (numbered_right trees_at k a.later b.later l) (stands_right img (p + 5) xs ys rest)),
+        );
   }
 
   pub means_as : {A B : ℕ → ℕ → Type 0} {a : Part} → ((p q : ℕ) → A p q → B p q) → Means A a → Means B a

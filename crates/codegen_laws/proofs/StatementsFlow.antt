@@ -1,25 +1,23 @@
 -- The code of bodies and gotos is sound.
-use Rattle.std.proofs.Common.{◌≡◌, ℕ, zero, suc, ◌+◌, ◌<◌, ◌≤◌, ◌==◌, List, [], ◌∷◌, ◌++◌, length, drop, refl, sym, ap, ◌∙◌, subst, arith, true, false, not, Bool, ◌&&◌, Some, None, Option, slice_get}
+use Rattle.std.proofs.Common.{◌≡◌, ℕ, suc, ◌≤◌, [], ◌∷◌, length, refl, arith, true, Some, None, Option}
 use Rattle.model.specs.declared.image.Image.{Image}
-use Rattle.model.specs.declared.instr.Instr.{Instr}
 use Rattle.model.specs.declared.instr.Instr.TheVariants as op
 use Rattle.model.specs.declared.instr.ReturnKind.{ReturnKind}
 use Rattle.model.specs.declared.keys.KeyId.{KeyId}
 use Rattle.model.specs.declared.trees.Unary.TheVariants as u
 use Rattle.model.specs.Calls.{return_of}
 use Rattle.model.specs.Faults.{is_target, may_be_assigned, subject_fits}
-use Rattle.model.specs.Flow.{InBody, InGoto, Kind, V, N, R, Shape, shape, bare, asked, Asks, Above, floor_of}
+use Rattle.model.specs.Flow.{InBody, V, N, R, Shape, shape, bare, floor_of}
 use Rattle.model.specs.Machine.{OnBegin}
 use Rattle.model.specs.Meaning.{key_target}
-use Rattle.model.specs.Names.{key_named, is_protected}
-use Rattle.model.specs.Trees.{Bytes, Expr, Name, Integer, Literal, Keyword, Call, Reference, Apply, Combine, Place, Label, Computed, Goto, Next, Always, OnSuccess, OnFailure, Both, Body, Nothing, Evaluate, Match, Assign, Replace, Stmt, Plain, End}
+use Rattle.model.specs.Names.{key_named}
+use Rattle.model.specs.Trees.{Bytes, Expr, Name, Integer, Literal, Keyword, Call, Reference, Apply, Combine, Place, Label, Computed, Goto, Next, Always, OnSuccess, OnFailure, Both, Body, Nothing, Evaluate, Match, Assign, Replace}
 use Rattle.model.specs.WellFormed.{is_statement}
-use Rattle.expr_codegen.specs.Code.{Part, nothing, one, ◌>>◌, with_key, value, name}
+use Rattle.expr_codegen.specs.Code.{one, ◌>>◌, with_key}
 use Rattle.codegen.specs.Layout.{object, assignment, body, to_known, to_label, place, after_success, after_failure}
-use Rattle.codegen_laws.specs.Fit.{Fit, FitObject, FitBody, FitPlace, FitGoto, FitStmt}
+use Rattle.codegen_laws.specs.Fit.{Fit, FitObject, FitBody, FitPlace, FitGoto}
 use Rattle.codegen_laws.proofs.ExpressionsFlow.{Floors, value_flows, name_flows, null_flows, drop_flows}
-use Rattle.codegen_laws.proofs.Flows.{Fits, Small, push, Flows, flows_nothing, flows_one, flows_join, flows_as}
-use Rattle.codegen_laws.proofs.StatementsPlaced.{assigned_key}
+use Rattle.codegen_laws.proofs.Flows.{push, Flows, flows_nothing, flows_one, flows_join}
 
 -- in a body that goes on at f after a failure
 abbrev pub begun : ℕ → Shape

@@ -1,5 +1,5 @@
 -- The code of a statement means it, wherever it stands.
-use Rattle.std.proofs.Common.{◌≡◌, ℕ, suc, List, [], ◌∷◌, refl, sym, ap, ◌∙◌, subst, true, false, not, Bool, Some, None, Option, slice_get, inl, inr, ◌⊎◌}
+use Rattle.std.proofs.Common.{◌≡◌, ℕ, suc, List, refl, ap, ◌∙◌, subst, true, not, Some, None, Option, slice_get, inl, inr}
 use Rattle.model.specs.declared.instr.Instr.{Instr}
 use Rattle.model.specs.declared.instr.Instr.TheVariants as op
 use Rattle.model.specs.declared.instr.ReturnKind.{ReturnKind}
@@ -10,10 +10,10 @@ use Rattle.model.specs.Faults.{is_target, may_be_assigned, subject_fits}
 use Rattle.model.specs.Machine.{Module}
 use Rattle.model.specs.Meaning.{key_target, onward_of, other_of}
 use Rattle.model.specs.Names.{key_named, is_protected}
-use Rattle.model.specs.Placed.{CodeV, CodeN, CodeO, CodeAssign, CodeB, CodeKnown, CodeLabel, CodeG, CodeS, KeyAt, Is}
-use Rattle.model.specs.Programs.{Program, labelled_from, program}
-use Rattle.model.specs.Trees.{Bytes, Expr, Name, Integer, Literal, Keyword, Call, Reference, Apply, Combine, Place, Label, Computed, Goto, Next, Always, OnSuccess, OnFailure, Both, Body, Nothing, Evaluate, Match, Assign, Replace, Stmt, Plain, End}
-use Rattle.expr_codegen.specs.Code.{Part, nothing, one, ◌>>◌, with_key, value, name}
+use Rattle.model.specs.Placed.{CodeV, CodeN, CodeO, CodeAssign, CodeB, CodeKnown, CodeLabel, CodeG, CodeS, Is}
+use Rattle.model.specs.Programs.{Program}
+use Rattle.model.specs.Trees.{Bytes, Expr, Name, Integer, Literal, Keyword, Call, Reference, Apply, Combine, Place, Label, Computed, Goto, Next, Always, OnSuccess, OnFailure, Both, Body, Nothing, Evaluate, Match, Assign, Replace, Plain, End}
+use Rattle.expr_codegen.specs.Code.{Part, one, ◌>>◌, value, name}
 use Rattle.codegen.specs.Layout.{object, assignment, body, to_known, to_label, place, after_success, after_failure, statement}
 use Rattle.codegen_laws.specs.Fit.{Fit, FitObject, FitBody, FitPlace, FitGoto, FitStmt}
 use Rattle.codegen_laws.proofs.Standing.{Means, means_nothing, means_one, means_join, means_join3, means_handled, means_as}
