@@ -21,15 +21,12 @@ use Rattle.model.proofs.DeckSizes.{accepted_fit}
 use Rattle.model.proofs.DeckVerdicts.{Have, accepts, none_left, none_right}
 use Rattle.codegen.specs.Layout.{label_texts}
 use Rattle.codegen_laws.specs.Fit.{Named, Fit, FitArgs, FitObject, FitBody, FitPlace, FitGoto, FitStmt, EndsInEnd, NewLabels, IsFit}
-use Rattle.codegen_laws.proofs.SpeltTrees.{Spelt, SpeltArgs, SpeltObject, SpeltBody, SpeltPlace, SpeltGoto, SpeltStmt, read_spelt, no_cause}
+use Rattle.codegen_laws.proofs.SpeltTrees.{Spelt, SpeltArgs, SpeltObject, SpeltBody, SpeltPlace, SpeltGoto, SpeltStmt, read_spelt, no_cause, or_false}
+use Rattle.codegen_laws.proofs.TextPlaces.{same_text}
 
 and_true : (a b : Bool) → (a && b) ≡ true → (a ≡ true) × (b ≡ true)
 and_true true b h = (refl, h)
 and_true false b h = absurd (cc)
-
-or_false : (a b : Bool) → (a || b) ≡ false → (a ≡ false) × (b ≡ false)
-or_false true b h = absurd (cc)
-or_false false b h = (refl, h)
 
 not_false : (a : Bool) → not a ≡ false → a ≡ true
 not_false true h = refl
@@ -144,9 +141,6 @@ fit_stmt earlier all (Plain l b g) k (x, s, r) w =
 fit_stmt earlier all (End e) k s w = tt
 
 -- ---- labels
-
-same_text : (s t : Bytes) → bytes_eq s t ≡ true → s ≡ t
-same_text s t e = search (rules, e)
 
 differs_back : (s t : Bytes) → bytes_eq s t ≡ false → bytes_eq t s ≡ false
 differs_back s t h = elim (bytes_eq t s) as (λ b. bytes_eq t s ≡ b → b ≡ false) [

@@ -19,6 +19,7 @@ use Rattle.model.specs.WellFormed.{is_nonnull, indices_fit}
 use Rattle.expr_codegen.specs.Code.{Part, one, with_string, ◌>>◌, call, with_key, value, name, arguments}
 use Rattle.codegen_laws.specs.Fit.{Named, Fit, FitArgs}
 use Rattle.codegen_laws.proofs.Flows.{Fits, Small, push, tried, Flows, flows_nothing, flows_one, flows_string, flows_later, flows_join, flows_as, flows_try}
+use Rattle.codegen_laws.proofs.Offsets.{within}
 use Rattle.codegen_laws.proofs.Shapes.{next_shape, Targets}
 
 -- the newest handler keeps no more than there is
@@ -30,11 +31,6 @@ up k s f = omega (arith, f)
 
 abbrev pushes : ℕ → Shape → Shape
 pushes n s = shape s.mode (replicate n V ++ s.kinds) s.handlers
-
-within : {A : Type 0} (xs : List A) (k : ℕ) (x : A) → slice_get xs k ≡ Some x → k < length xs
-within [] k x e = absurd (cc)
-within (y ∷ xs) zero x e = omega arith
-within (y ∷ xs) (suc k) x e = let h = within xs k x e in omega (arith, h)
 
 vs_snoc : (n : ℕ) (ks : List Kind) → replicate n V ++ (V ∷ ks) ≡ V ∷ (replicate n V ++ ks)
 vs_snoc zero ks = refl

@@ -20,6 +20,7 @@ use Rattle.expr_codegen.specs.Texts.{place_of, with_texts}
 use Rattle.codegen.specs.Layout.{labels, label_texts, code_of, image_of}
 use Rattle.codegen_laws.specs.Fit.{NewLabels, EndsInEnd, IsFit}
 use Rattle.codegen_laws.proofs.Flows.{Fits, shape_past}
+use Rattle.codegen_laws.proofs.Offsets.{get_within}
 use Rattle.codegen_laws.proofs.Placing.{later_of, stmts_placed, offsets_count, entry_among}
 use Rattle.codegen_laws.proofs.Shapes.{next_shape, after, shape_from, Targets, Sound, above, behind, some_bytes, total_join, ends_well, IsSound}
 use Rattle.codegen_laws.proofs.Sounding.{is_sound, statement_there}
@@ -189,11 +190,6 @@ last_is [] ends = absurd ends
 last_is (End x ∷ []) ends = (0, x, refl, refl)
 last_is (End x ∷ s ∷ ss) ends = absurd ends
 last_is (Plain l b g ∷ ss) ends = let (j, e, h, c) = last_is ss ends in (suc j, e, h, ap suc c)
-
-get_within : {A : Type 0} (xs : List A) (k : ℕ) → k < length xs → (x : A) × (slice_get xs k ≡ Some x)
-get_within [] k h = absurd (let e : ⊥ = omega (arith, h) in e)
-get_within (x ∷ xs) zero h = (x, refl)
-get_within (x ∷ xs) (suc k) h = get_within xs k (omega (arith, h))
 
 module _ (ss : List Stmt) (fit : IsFit ss) where
   abbrev im : Image

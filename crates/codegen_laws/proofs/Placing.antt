@@ -18,7 +18,7 @@ use Rattle.codegen_laws.proofs.ExpressionsPlaced.{value_placed}
 use Rattle.codegen_laws.proofs.Offsets.{numbered, offsets_length, statements_length, statements_full, get_within}
 use Rattle.codegen_laws.proofs.Queue.{later_statements, later_expressions}
 use Rattle.codegen_laws.proofs.Sizes.{all_written, statements_weigh, rest_weighs}
-use Rattle.codegen_laws.proofs.Standing.{Held, AllHeld, all_left, all_right, Numbered, numbered_left, numbered_right, StandsFrom, stands_left, stands_right, whole_stands, means_one, means_join}
+use Rattle.codegen_laws.proofs.Standing.{Held, AllHeld, all_left, all_right, all_join, Numbered, numbered_left, numbered_right, StandsFrom, stands_left, stands_right, whole_stands, means_one, means_join}
 use Rattle.codegen_laws.proofs.StatementsPlaced.{statement_placed, end_placed}
 use Rattle.codegen_laws.proofs.TextPlaces.{all_held, all_stay}
 
@@ -154,11 +154,11 @@ module _ (ss : List Stmt) (ends : EndsInEnd ss) (fit : AllByRecursion FitStmt ss
   held : AllHeld all (code_of ss).texts
   held = all_stay (label_texts ss) (with_texts (code_of ss).texts []) (code_of ss).texts (all_held (code_of ss).texts [])
 
-  held_first : AllHeld all first.texts
+  pub held_first : AllHeld all first.texts
   unfolding ◌>>◌
   held_first = all_left (Held all) first.texts second.texts held
 
-  held_second : AllHeld all second.texts
+  pub held_second : AllHeld all second.texts
   unfolding ◌>>◌
   held_second = all_right (Held all) first.texts second.texts held
 
@@ -191,11 +191,7 @@ module _ (ss : List Stmt) (ends : EndsInEnd ss) (fit : AllByRecursion FitStmt ss
 
   pub later_fits : AllByRecursion Fit later_of
   unfolding ◌>>◌
-  later_fits = joins first.later second.later (later_statements prog.label 1 ss fit) (later_expressions (weights.total weight ss) first.later (later_statements prog.label 1 ss fit))
-    where
-      joins : (xs ys : List Expr) → AllByRecursion Fit xs → AllByRecursion Fit ys → AllByRecursion Fit (xs ++ ys)
-      joins [] ys a b = b
-      joins (x ∷ xs) ys (c, a) b = (c, joins xs ys a b)
+  later_fits = all_join Fit first.later second.later (later_statements prog.label 1 ss fit) (later_expressions (weights.total weight ss) first.later (later_statements prog.label 1 ss fit))
 
   pub written : expressions_of ss ≡ map expression later_of
   unfolding ◌>>◌

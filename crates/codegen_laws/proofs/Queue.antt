@@ -13,15 +13,12 @@ use Rattle.model.specs.Names.{key_named, prim_named}
 use Rattle.model.specs.Trees.{Bytes, Expr, Name, Integer, Literal, Keyword, Call, Reference, Apply, Combine, Args, Nil, More, Absent, Given, Place, Label, Computed, Goto, Next, Always, OnSuccess, OnFailure, Both, Body, Nothing, Evaluate, Match, Assign, Replace, Stmt, Plain, End}
 use Rattle.expr_codegen.specs.Code.{Part, nothing, one, with_string, unevaluated, ◌>>◌, handled, call, with_key, value, name, arguments}
 use Rattle.codegen.specs.Layout.{object, assignment, body, place, after_success, after_failure, statement, statements, expression, expressions, joined}
+use Rattle.codegen_laws.proofs.Standing.{all_join}
 use Rattle.codegen_laws.specs.Fit.{Fit, FitArgs, FitObject, FitBody, FitPlace, FitGoto, FitStmt}
 
 -- each unevaluated expression of the part is fit
 abbrev pub FitLater : Part → Type 0
 FitLater a = AllByRecursion Fit a.later
-
-all_join : {A : Type 0} (P : A → Type 0) (xs ys : List A) → AllByRecursion P xs → AllByRecursion P ys → AllByRecursion P (xs ++ ys)
-all_join P [] ys a b = b
-all_join P (x ∷ xs) ys (c, a) b = (c, all_join P xs ys a b)
 
 later_nothing : FitLater nothing
 unfolding nothing

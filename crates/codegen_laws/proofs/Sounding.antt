@@ -17,8 +17,8 @@ use Rattle.codegen.specs.Layout.{body, after_success, after_failure, statement, 
 use Rattle.codegen_laws.specs.Fit.{Fit, FitStmt, EndsInEnd}
 use Rattle.codegen_laws.proofs.ExpressionsFlow.{value_flows}
 use Rattle.codegen_laws.proofs.Flows.{Fits, shape_past, Flows, flows_nothing, flows_one, flows_join}
-use Rattle.codegen_laws.proofs.Offsets.{Full, full_left, statement_full, expression_full}
-use Rattle.codegen_laws.proofs.Placing.{later_of, code_is, later_fits, written, offsets_count, labelled_within, some_statement}
+use Rattle.codegen_laws.proofs.Offsets.{offsets_length, Full, full_left, statement_full, expression_full}
+use Rattle.codegen_laws.proofs.Placing.{held_first, held_second, later_of, code_is, later_fits, written, offsets_count, labelled_within, some_statement}
 use Rattle.codegen_laws.proofs.Shapes.{after, shape_from, Sound, after_join, sound_join, ends_well, contains_cons, contains_nil, IsSound, no_break}
 use Rattle.codegen_laws.proofs.Standing.{Held, AllHeld, all_left, all_right}
 use Rattle.codegen_laws.proofs.StatementsFlow.{begun, inner_flows, failure_flows}
@@ -225,15 +225,8 @@ module _ (ss : List Stmt) (ends : EndsInEnd ss) (fit : AllByRecursion FitStmt ss
   abbrev second : Part
   second = joined (expressions_of ss)
 
-  held : AllHeld im.strings (code_of ss).texts
-  held = all_stay (label_texts ss) (with_texts (code_of ss).texts []) (code_of ss).texts (all_held (code_of ss).texts [])
-
   pub expressions_count : length im.expressions ≡ length (later_of ss ends fit)
-  expressions_count = offsets_all (expressions_of ss) im.strings (length first.later) (total (first.code im.strings 0 0)) ∙ ap length (written ss ends fit) ∙ length-map (later_of ss ends fit) expression
-    where
-      offsets_all : (ps : List Part) (texts : List Bytes) (k at : ℕ) → length (offsets ps texts k at) ≡ length ps
-      offsets_all [] texts k at = refl
-      offsets_all (p ∷ ps) texts k at = ap suc (offsets_all ps texts (k + length p.later) (at + total (p.code texts k at)))
+  expressions_count = offsets_length (expressions_of ss) im.strings (length first.later) (total (first.code im.strings 0 0)) ∙ ap length (written ss ends fit) ∙ length-map (later_of ss ends fit) expression
 
   pub statement_there : (i : ℕ) → 1 ≤ i → i < 1 + length ss → is_statement im i ≡ true
   statement_there i a b =
@@ -248,14 +241,6 @@ module _ (ss : List Stmt) (ends : EndsInEnd ss) (fit : AllByRecursion FitStmt ss
   room : length first.later + length second.later ≤ length im.expressions
   unfolding ◌>>◌
   room = let c = expressions_count in let j = length-append first.later second.later in omega (arith, c, j)
-
-  held_first : AllHeld im.strings first.texts
-  unfolding ◌>>◌
-  held_first = all_left (Held im.strings) first.texts second.texts held
-
-  held_second : AllHeld im.strings second.texts
-  unfolding ◌>>◌
-  held_second = all_right (Held im.strings) first.texts second.texts held
 
   abbrev code_first : List Instr
   code_first = first.code im.strings 0 0
@@ -274,9 +259,9 @@ module _ (ss : List Stmt) (ends : EndsInEnd ss) (fit : AllByRecursion FitStmt ss
 
   sound_all : Sound (Fits im) im.statements 0 bare (code_first ++ code_second)
   sound_all = sound_join (Fits im) im.statements 0 bare code_first code_second
-      (list_sound im (labelled_from 1 ss) label_there 1 ss ends fit statement_there 0 0 held_first (let r = room in omega (arith, r)) (λ x h. h))
+      (list_sound im (labelled_from 1 ss) label_there 1 ss ends fit statement_there 0 0 (held_first ss ends fit) (let r = room in omega (arith, r)) (λ x h. h))
       (subst (λ m. Sound (Fits im) im.statements m (after code_first bare) code_second) (let e : total code_first ≡ 0 + total code_first = omega arith in e)
-      (subst (λ x. Sound (Fits im) im.statements (total code_first) x code_second) (sym leaves_first) (second_flows.sound (length first.later) (total code_first) held_second room)))
+      (subst (λ x. Sound (Fits im) im.statements (total code_first) x code_second) (sym leaves_first) (second_flows.sound (length first.later) (total code_first) (held_second ss ends fit) room)))
 
   asked_second : (o : ℕ) → Contains im.expressions o → shape_from 0 bare (code_first ++ code_second) o ≡ Some asked
   asked_second o c =

@@ -173,7 +173,7 @@ tok_sound kind.Integer (b ∷ bs) t small = grind (arith, nat_tests, small)
 tok_sound kind.Literal (b ∷ bs) t small = tt
 tok_sound (kind.Mark m) (b ∷ bs) t small = tt
 
-or_false : (a b : Bool) → (a || b) ≡ false → (a ≡ false) × (b ≡ false)
+pub or_false : (a b : Bool) → (a || b) ≡ false → (a ≡ false) × (b ≡ false)
 or_false true b h = absurd (cc)
 or_false false b h = (refl, h)
 

@@ -18,6 +18,10 @@ pub all_right : {A : Type 0} (P : A → Type 0) (xs ys : List A) → AllByRecurs
 all_right P [] ys h = h
 all_right P (x ∷ xs) ys (a, b) = all_right P xs ys b
 
+pub all_join : {A : Type 0} (P : A → Type 0) (xs ys : List A) → AllByRecursion P xs → AllByRecursion P ys → AllByRecursion P (xs ++ ys)
+all_join P [] ys a b = b
+all_join P (x ∷ xs) ys (c, a) b = (c, all_join P xs ys a b)
+
 -- a string stands where it is looked for
 abbrev pub Held : List Bytes → Bytes → Type 0
 Held texts t = slice_get texts (place_of t texts) ≡ Some t

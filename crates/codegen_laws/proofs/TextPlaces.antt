@@ -4,7 +4,7 @@ use Rattle.model.specs.Trees.{Bytes}
 use Rattle.expr_codegen.specs.Texts.{place_of, with_text, with_texts}
 use Rattle.codegen_laws.proofs.Standing.{Held, AllHeld}
 
-same_text : (s t : Bytes) → bytes_eq s t ≡ true → s ≡ t
+pub same_text : (s t : Bytes) → bytes_eq s t ≡ true → s ≡ t
 same_text s t e = search (rules, e)
 
 put_held : (t : Bytes) (ts : List Bytes) → Held (with_text t ts) t
