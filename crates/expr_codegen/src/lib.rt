@@ -1,2 +1,8 @@
 //! Code of expressions.
 #![tactic(auto)]
+
+mod generator;
+mod strings;
+
+pub use generator::Generator;
+pub use strings::Strings;

@@ -1,0 +1,2 @@
+pub mod TextPlaces
+pub mod Joins
