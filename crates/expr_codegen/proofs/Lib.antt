@@ -1,2 +1,3 @@
 pub mod TextPlaces
 pub mod Joins
+pub mod Constructs

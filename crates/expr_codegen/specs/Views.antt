@@ -6,9 +6,9 @@ use Rattle.model.specs.declared.instr.ArithOp.TheVariants as arith
 use Rattle.model.specs.declared.trees.Binary.{Binary}
 use Rattle.model.specs.declared.trees.Binary.TheVariants as b
 use Rattle.model.specs.Names.{prim_named}
-use Rattle.model.specs.Trees.{Bytes, Expr}
+use Rattle.model.specs.Trees.{Bytes, Expr, Args}
 use Rattle.model.specs.TreeViews.{expr_of}
-use Rattle.expr_codegen.specs.Code.{Part, one, ◌>>◌, call, value, name}
+use Rattle.expr_codegen.specs.Code.{Part, one, with_string, ◌>>◌, call, value, name, arguments}
 use Rattle.expr_codegen.specs.Emitting.{Gen}
 use Rattle.expr_codegen.specs.declared.generator.Generator.{Generator}
 
@@ -40,3 +40,7 @@ wanted false = value
 abbrev pub call_of : Bool → Bytes → ℕ → Part
 call_of true f n = call op.PrimN op.CallN (prim_named f) f n
 call_of false f n = call op.PrimV op.CallV (prim_named f) f n
+
+-- the element of a reference with n subscripts
+abbrev pub element : Bytes → Args → ℕ → Part
+element x args n = with_string op.Var x >> one op.Fetch >> arguments args >> one (op.Elem n)

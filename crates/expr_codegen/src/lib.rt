@@ -2,6 +2,7 @@
 #![tactic(auto)]
 
 mod generator;
+mod single;
 mod strings;
 
 pub use generator::Generator;
