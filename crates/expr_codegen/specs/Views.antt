@@ -44,3 +44,7 @@ call_of false f n = call op.PrimV op.CallV (prim_named f) f n
 -- the element of a reference with n subscripts
 abbrev pub element : Bytes → Args → ℕ → Part
 element x args n = with_string op.Var x >> one op.Fetch >> arguments args >> one (op.Elem n)
+
+-- a call with n arguments
+abbrev pub called : Bool → Bytes → Args → ℕ → Part
+called wants f args n = arguments args >> call_of wants f n
