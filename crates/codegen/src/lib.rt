@@ -1,2 +1,6 @@
 //! Code of programs.
 #![tactic(auto)]
+
+mod labels;
+
+pub use labels::{Labels, labels_of};

@@ -36,6 +36,7 @@ as_same {g} {h} p q s x = record {
   code = λ texts l. x.code texts l ∙ ap (λ c. g.code ++ c) (s.code texts (length g.waiting) (total g.code));
   texts = x.texts ∙ ap (λ t. with_texts t g.texts) s.texts;
   waiting = x.waiting ∙ ap (λ w. g.waiting ++ w) s.later;
+  taken = x.taken;
 }
 
 trans : (p q r : Part) → Same p q → Same q r → Same p r

@@ -1,12 +1,14 @@
 -- Parts that were put, joined.
-use Rattle.std.proofs.Common.{◌≡◌, ℕ, zero, suc, ◌+◌, List, [], ◌∷◌, ◌++◌, length, refl, sym, ap, ◌∙◌, subst, append_assoc, arith, Bool, true, false, bytes_eq, if◌then◌else◌, Some, slice_get, slice_set, map, length-append}
+use Rattle.std.proofs.Common.{◌≡◌, ℕ, zero, suc, ◌+◌, List, [], ◌∷◌, ◌++◌, length, refl, sym, ap, ◌∙◌, subst, append_assoc, arith, Bool, true, false, bytes_eq, if◌then◌else◌, Some, slice_get, slice_set, map, length-append, ◌*◌, ◌≤◌, ◌<◌, drop, nat_lt, slice_index_or, get_or}
+use Rattle.std.proofs.lemmas.List.{drop-map, drop_more}
 use Rattle.model.specs.declared.instr.Instr.{Instr}
 use Rattle.model.specs.declared.instr.Instr.TheVariants as op
 use Rattle.model.specs.Trees.{Bytes, Expr}
 use Rattle.model.specs.Modules.{bytes, total}
+use Rattle.model.specs.Weights.{of_expr}
 use Rattle.expr_codegen.specs.Texts.{place_of, with_text, with_texts}
 use Rattle.expr_codegen.specs.Code.{Part, nothing, one, with_string, unevaluated, ◌>>◌, handled}
-use Rattle.expr_codegen.specs.Emitting.{Gen, Emits, Longer, Numbered, SameBytes, size, with_instr, with_changed, with_waiting}
+use Rattle.expr_codegen.specs.Emitting.{Gen, Emits, Longer, Numbered, SameBytes, due, size, with_instr, with_changed, with_waiting}
 use Rattle.expr_codegen.proofs.TextPlaces.{place_stays}
 
 -- ---- lists
@@ -39,6 +41,31 @@ get_at : (a : List Instr) (i : Instr) (b : List Instr) → slice_get (a ++ i ∷
 get_at [] i b = refl
 get_at (y ∷ a) i b = get_at a i b
 
+pub drop_join : {A : Type 0} (n : ℕ) (xs ys : List A) → n ≤ length xs → drop n (xs ++ ys) ≡ drop n xs ++ ys
+drop_join zero xs ys h = refl
+drop_join (suc n) [] ys h = absurd (omega (arith, h))
+drop_join (suc n) (x ∷ xs) ys h = drop_join n xs ys (omega (arith, h))
+
+pub due_join : (xs ys : List Expr) → due (xs ++ ys) ≡ due xs + due ys
+due_join [] ys = omega arith
+due_join (x ∷ xs) ys = let h = due_join xs ys in omega (arith, h)
+
+pub due_more : (n : ℕ) (xs : List Expr) (x : Expr) → n ≤ length xs → due (drop n (xs ++ x ∷ [])) ≡ due (drop n xs) + (9 * of_expr x + 1)
+due_more n xs x h = ap due (drop_join n xs (x ∷ []) h) ∙ due_join (drop n xs) (x ∷ []) ∙ (let e : due (drop n xs) + (9 * of_expr x + 1 + 0) ≡ due (drop n xs) + (9 * of_expr x + 1) = omega arith in e)
+
+pub drop_here : {A B : Type 0} (f : A → B) (xs ys : List A) (i : ℕ) (x d : A) → ys ≡ xs → true ≡ nat_lt i (length ys) → x ≡ slice_index_or ys i d → drop i (map f xs) ≡ f x ∷ drop (i + 1) (map f xs)
+drop_here f xs ys i x d same within at =
+    let less : i < length xs = let l = ap length same in grind (arith, within, l) in
+    let is : get_or xs i d ≡ x = ap (λ l. get_or l i d) (sym same) ∙ sym at in
+    drop-map f i xs ∙ ap (map f) (drop_more xs i d less) ∙ ap (λ y. f y ∷ map f (drop (i + 1) xs)) is ∙ ap (λ l. f x ∷ l) (sym (drop-map f (i + 1) xs))
+
+pub size_waiting : (x : Expr) (g : Gen) (w : List Expr) → g.taken ≤ length g.waiting → w ≡ g.waiting ++ x ∷ [] → size (record { code = g.code; texts = g.texts; waiting = w; taken = g.taken }) ≡ size g + (9 * of_expr x + 2)
+unfolding size
+size_waiting x g w h e =
+    let a = ap length e ∙ length-append g.waiting (x ∷ []) in
+    let b = ap (λ w. due (drop g.taken w)) e ∙ due_more g.taken g.waiting x h in
+    omega (arith, a, b)
+
 -- ---- strings
 
 longer_text : (t : Bytes) (ss : List Bytes) → Longer ss (with_text t ss)
@@ -63,7 +90,7 @@ texts_append (t ∷ ts) us ss = texts_append ts us (with_text t ss)
 
 pub nothing_put : (g : Gen) → Emits nothing g g
 unfolding nothing
-nothing_put g = record { code = λ texts l. nil_right g.code; texts = refl; waiting = nil_right g.waiting }
+nothing_put g = record { code = λ texts l. nil_right g.code; texts = refl; waiting = nil_right g.waiting; taken = refl }
 
 -- one part, then another
 pub both : {a b : Part} {g h k : Gen} → Emits a g h → Emits b h k → Emits (a >> b) g k
@@ -80,12 +107,13 @@ both {a} {b} {g} {h} {k} x y = record {
     ∙ append_assoc g.code first (b.code texts (length g.waiting + length a.later) (total g.code + total first));
   texts = y.texts ∙ ap (with_texts b.texts) x.texts ∙ sym (texts_append a.texts b.texts g.texts);
   waiting = y.waiting ∙ ap (λ w. w ++ b.later) x.waiting ∙ append_assoc g.waiting a.later b.later;
+  taken = y.taken ∙ x.taken;
 }
 
 -- an instruction
 pub instr : (i : Instr) (g h : Gen) → h ≡ with_instr i g → Emits (one i) g h
 unfolding one
-instr i g h e = subst (Emits (one i) g) (sym e) (record { code = λ texts l. refl; texts = refl; waiting = nil_right g.waiting })
+instr i g h e = subst (Emits (one i) g) (sym e) (record { code = λ texts l. refl; texts = refl; waiting = nil_right g.waiting; taken = refl })
 
 -- an instruction with a string
 pub text : (i : ℕ → Instr) (s : Bytes) (k : ℕ) (g h j : Gen) → Numbered s k g h → j ≡ with_instr (i k) h → Emits (with_string i s) g j
@@ -96,12 +124,13 @@ text i s k g h j n e = subst (Emits (with_string i s) g) (sym e) (record {
     ap (λ c. c ++ i k ∷ []) n.code ∙ ap (λ m. g.code ++ i m ∷ []) place;
   texts = n.texts;
   waiting = n.waiting ∙ nil_right g.waiting;
+  taken = n.taken;
 })
 
 -- an unevaluated expression
 pub deferred : (x : Expr) (g h j : Gen) → h ≡ with_instr (op.Expr (length g.waiting)) g → j ≡ with_waiting x h → Emits (unevaluated x) g j
 unfolding unevaluated
-deferred x g h j e f = subst (Emits (unevaluated x) g) (sym (f ∙ ap (with_waiting x) e)) (record { code = λ texts l. refl; texts = refl; waiting = refl })
+deferred x g h j e f = subst (Emits (unevaluated x) g) (sym (f ∙ ap (with_waiting x) e)) (record { code = λ texts l. refl; texts = refl; waiting = refl; taken = refl })
 
 -- an instruction that is changed once what follows it is put: i is its operand at first, t the offset after the first part
 pub changed : {a b : Part} (i : ℕ → Instr) (n t : ℕ) (g g1 h k k1 : Gen) → ((m : ℕ) → bytes (i m) ≡ 5) → g1 ≡ with_instr (i n) g → Emits a g1 h → t ≡ total h.code → Emits b h k
@@ -121,6 +150,7 @@ changed {a} {b} i n t g g1 h k k1 five put x at y set = subst (Emits (handled i 
     ap (λ c. slice_set c (length g.code) (i t)) all ∙ set_at g.code whole (i n) (i t) ∙ ap (λ m. g.code ++ i m ∷ whole) there;
   texts = (both x y).texts ∙ ap (λ (z : Gen). with_texts (a.texts ++ b.texts) z.texts) put;
   waiting = (both x y).waiting ∙ ap (λ (z : Gen). z.waiting ++ (a.later ++ b.later)) put;
+  taken = (both x y).taken ∙ ap (λ (z : Gen). z.taken) put;
 })
 
 -- and until then it stands where it was put

@@ -1,13 +1,14 @@
 //! The state of a generator.
 
-ghost use Rattle.std.specs.Prelude.{◌≡◌, ◌<◌, ◌≤◌, ◌+◌, ◌^◌, [], length, map, IfOk, OnOk};
+ghost use Rattle.std.specs.Prelude.{◌≡◌, ◌<◌, ◌≤◌, ◌+◌, ◌*◌, ◌^◌, [], length, map, option_map, IfOk, OnOk};
 ghost use Rattle.model.specs.Modules.{bytes, total};
 ghost use Rattle.model.specs.TreeViews.{expr_of};
+ghost use Rattle.model.specs.Weights.{of_expr};
 ghost use Rattle.expr_codegen.specs.Emitting.{size};
 ghost use Rattle.model.specs.declared.instr.Instr.{Instr};
 
 use crate::strings::Strings;
-use model::{Expr, Instr};
+use model::{Bytes, Expr, Instr, Seq};
 use std::alloc::{AllocError, Global};
 
 /// The code so far and its tables.
@@ -17,7 +18,9 @@ pub struct Generator<'a> {
     at: u32,
     strings: Strings,
     waiting: Vec<&'a Expr>,
+    taken: usize,
     ghost counted: { at ≡ total code.items },
+    ghost within: { taken ≤ length waiting.items },
 }
 
 impl<'a> Generator<'a> {
@@ -26,13 +29,14 @@ impl<'a> Generator<'a> {
 
     /// No code.
     pub fn new(alloc: Global) -> Self
-        ensures { gen_of result ≡ record { code = []; texts = []; waiting = [] } }
+        ensures { gen_of result ≡ record { code = []; texts = []; waiting = []; taken = 0 } }
     {
         Generator {
             code: Vec::new(alloc),
             at: 0,
             strings: Strings::new(alloc),
             waiting: Vec::new(alloc),
+            taken: 0,
         }
     }
 
@@ -73,16 +77,43 @@ impl<'a> Generator<'a> {
     }
 
     /// Puts the number of an expression that stays unevaluated.
-    #[tactic(auto, using(crate::proofs::Joins::total_snoc), unfolding(crate::specs::Emitting::size))]
+    #[tactic(auto, unfolding(crate::specs::Emitting::size))]
     pub fn defer(&mut self, x: &'a Expr) -> Result<(), AllocError>
-        requires { size (gen_of self.old) + 6 < 2 ^ 31 }
+        requires { size (gen_of self.old) + 9 * of_expr (expr_of x.now) + 7 < 2 ^ 31 }
         ensures put { OnOk result (gen_of self.new ≡ spec.with_waiting (expr_of x.now) (spec.with_instr (Instr.Expr (length (gen_of self.old).waiting)) (gen_of self.old))) }
-        ensures size { OnOk result (size (gen_of self.new) ≡ size (gen_of self.old) + 6) }
+        ensures size { OnOk result (size (gen_of self.new) ≡ size (gen_of self.old) + 9 * of_expr (expr_of x.now) + 7) }
     {
         let number = self.waiting.len() as u32;
         self.put(Instr::Expr(number))?;
         self.waiting.push(x)?;
         Ok(())
+    }
+
+    /// Takes the next unevaluated expression.
+    pub fn take(&mut self) -> Option<&'a Expr>
+        ensures { spec.Takes (option_map (λ e. expr_of e.now) result) (gen_of self.old) (gen_of self.new) }
+    {
+        match self.waiting.get(self.taken) {
+            Some(next) => {
+                self.taken += 1;
+                Some(*next)
+            }
+            None => None,
+        }
+    }
+
+    /// The strings by number.
+    pub fn strings(&self, alloc: Global) -> Result<Seq<Bytes>, AllocError>
+        ensures { IfOk result (λ s. s ≡ (gen_of self.now).texts) }
+    {
+        self.strings.to_seq(alloc)
+    }
+
+    /// The code.
+    pub fn into_code(self) -> Seq<Instr>
+        ensures { result ≡ (gen_of self.entry).code }
+    {
+        Seq::from_vec(self.code)
     }
 
     /// Changes instruction number `n` to one of the same length.
