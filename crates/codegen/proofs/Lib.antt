@@ -1,1 +1,2 @@
 pub mod ImageRows
+pub mod LabelTables
