@@ -2,8 +2,9 @@
 use Rattle.std.proofs.Common.{slice_get}
 use Rattle.model.proofs.AgreementLaw.{agrees_where_placed}
 use Rattle.codegen.specs.Layout.{image_of}
-use Rattle.codegen_laws.specs.CodegenLaws.{AreFit, IsPlaced, IsSpelt, IsSound, IsSmall, DoesAsMeant}
+use Rattle.codegen_laws.specs.CodegenLaws.{AreFit, AreCountable, IsPlaced, IsSpelt, IsSound, IsSmall, DoesAsMeant}
 use Rattle.codegen_laws.proofs.Accepted.{accepted_is_fit}
+use Rattle.codegen_laws.proofs.Counting.{all_statements}
 use Rattle.codegen_laws.proofs.Limits as Limits
 use Rattle.codegen_laws.proofs.Parts.{parts}
 use Rattle.codegen_laws.proofs.Placing as Placing
@@ -11,6 +12,9 @@ use Rattle.codegen_laws.proofs.Sounding.{flows}
 
 pub are_fit : AreFit
 are_fit text ss h = accepted_is_fit text ss h
+
+pub are_countable : AreCountable
+are_countable text ss h = all_statements ss (are_fit text ss h).statements
 
 pub placed : IsPlaced
 placed text ss h = let f = are_fit text ss h in (slice_get (Placing.later_of ss f.ends f.statements), Placing.placed ss f.ends f.statements)

@@ -15,4 +15,5 @@ pub mod Parts
 pub mod Limits
 pub mod SpeltTrees
 pub mod Accepted
+pub mod Counting
 pub mod Images

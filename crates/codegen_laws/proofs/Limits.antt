@@ -132,7 +132,7 @@ below p s (i ∷ is) at t h = elim (p == at) as (λ b. (p == at) ≡ b → (if b
   | false ↦ λ e f. let x = below (p + bytes i) (next_shape i s) is at t f in omega (arith, x)
 ] refl h
 
-few_args : (p : PrimId) → most_args p < 2 ^ 8
+pub few_args : (p : PrimId) → most_args p < 2 ^ 8
 few_args prim.Eq = omega arith
 few_args prim.Ne = omega arith
 few_args prim.Lt = omega arith

@@ -1,5 +1,6 @@
 -- What is so of the image of each accepted deck.
 use Rattle.std.specs.Prelude.{◌≡◌, ◌≤◌, ℕ, List, Option}
+use Rattle.std.specs.List.{AllByRecursion}
 use Rattle.model.specs.Agreement.{Agrees}
 use Rattle.model.specs.Faults.{Accepted, verdict}
 use Rattle.model.specs.Modules.{module_of, total}
@@ -8,12 +9,17 @@ use Rattle.model.specs.Programs.{program}
 use Rattle.model.specs.Spelling.{IsImage}
 use Rattle.model.specs.Trees.{Expr, Stmt}
 use Rattle.model.specs.WellFormed.{IsWellFormed}
+use Rattle.codegen.specs.Countable.{CountableStmt}
 use Rattle.codegen.specs.Layout.{image_of}
 use Rattle.codegen_laws.specs.Fit.{IsFit}
 
 -- its trees keep what their code relies on
 abbrev pub AreFit : Type 0
 AreFit = (text : List ℕ) (ss : List Stmt) → verdict text ≡ Accepted ss → IsFit ss
+
+-- its calls and references have as few arguments as instructions can count
+abbrev pub AreCountable : Type 0
+AreCountable = (text : List ℕ) (ss : List Stmt) → verdict text ≡ Accepted ss → AllByRecursion CountableStmt ss
 
 -- the code of each statement and expression stands in its image
 abbrev pub IsPlaced : Type 0

@@ -1,11 +1,12 @@
 //! The laws of images. Each function does nothing; its contract states a law.
 
-ghost use Rattle.codegen_laws.specs.CodegenLaws.{AreFit, DoesAsMeant, IsPlaced, IsSmall, IsSound, IsSpelt};
+ghost use Rattle.codegen_laws.specs.CodegenLaws.{AreCountable, AreFit, DoesAsMeant, IsPlaced, IsSmall, IsSound, IsSpelt};
 
 /// The trees of an accepted deck keep what their code relies on: names are nonnull, keywords known, targets targets, END
-/// is last, and no label is there twice.
+/// is last, no label is there twice, and calls and references have as few arguments as instructions can count.
 pub fn accepted_trees()
-    ensures { AreFit }
+    ensures fit { AreFit }
+    ensures countable { AreCountable }
 {}
 
 /// The code of each statement and expression of an accepted deck stands in its image.
