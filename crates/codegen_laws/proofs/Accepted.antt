@@ -1,5 +1,5 @@
 -- The trees of an accepted deck keep what their code relies on.
-use Rattle.std.proofs.Common.{◌≡◌, refl, sym, ◌∙◌, subst, ℕ, ◌<◌, ◌≤◌, ◌^◌, ◌&&◌, ◌||◌, Bool, true, false, not, List, [], ◌∷◌, ◌++◌, arith, Option, Some, None, bytes_eq, rules}
+use Rattle.std.proofs.Common.{◌≡◌, refl, sym, ◌∙◌, subst, ℕ, ◌<◌, ◌≤◌, ◌^◌, ◌&&◌, Bool, true, false, not, List, [], ◌∷◌, ◌++◌, arith, Option, Some, None, bytes_eq, rules}
 use Rattle.std.specs.Prelude.{Ok, is_some, is_none, ◌≢◌, codes}
 use Rattle.std.specs.List.{AllByRecursion, list_any}
 use Rattle.model.specs.declared.cards.Statement.{Statement}

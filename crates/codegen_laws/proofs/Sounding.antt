@@ -11,9 +11,8 @@ use Rattle.model.specs.Modules.{total}
 use Rattle.model.specs.Programs.{labelled_from}
 use Rattle.model.specs.Trees.{Bytes, Expr, Body, Goto, Stmt, Plain, End}
 use Rattle.model.specs.WellFormed.{is_statement}
-use Rattle.expr_codegen.specs.Texts.{with_texts}
 use Rattle.expr_codegen.specs.Code.{Part, nothing, one, ◌>>◌, handled, value}
-use Rattle.codegen.specs.Layout.{body, after_success, after_failure, statement, statements, statements_of, expression, expressions_of, joined, offsets, label_texts, code_of, image_of}
+use Rattle.codegen.specs.Layout.{body, after_success, after_failure, statement, statements, statements_of, expression, expressions_of, joined, offsets, image_of}
 use Rattle.codegen_laws.specs.Fit.{Fit, FitStmt, EndsInEnd}
 use Rattle.codegen_laws.proofs.ExpressionsFlow.{value_flows}
 use Rattle.codegen_laws.proofs.Flows.{Fits, shape_past, Flows, flows_nothing, flows_one, flows_join}
@@ -22,7 +21,6 @@ use Rattle.codegen_laws.proofs.Placing.{held_first, held_second, later_of, code_
 use Rattle.codegen_laws.proofs.Shapes.{after, shape_from, Sound, after_join, sound_join, ends_well, contains_cons, contains_nil, IsSound, no_break}
 use Rattle.codegen_laws.proofs.Standing.{Held, AllHeld, all_left, all_right}
 use Rattle.codegen_laws.proofs.StatementsFlow.{begun, inner_flows, failure_flows}
-use Rattle.codegen_laws.proofs.TextPlaces.{all_held, all_stay}
 
 -- where there is code, it begins with what stands there
 start : (p : ℕ) (s : Shape) (ys zs : List Instr) → Full zs → shape_from p s (ys ++ zs) p ≡ Some s
