@@ -54,9 +54,10 @@ pub(crate) fn trees(alloc: Global, reads: Vec<Read>) -> Result<Vec<Stmt>, AllocE
 {
     let mut trees = Vec::new(alloc);
     for read in reads {
-        if let Ok(tree) = read.tree {
-            trees.push(tree)?;
-        }
+        let Ok(tree) = read.tree else {
+            continue;
+        };
+        trees.push(tree)?;
     }
     Ok(trees)
 }

@@ -7,13 +7,13 @@ use Rattle.parser.proofs.reading.trees.Goals as goal
 pub loop-read-init : goal.loop-read-init
 loop-read-init c = ap₂ (λ ts rs. map stmt_of ts ++ trees_of (map shown rs)) c.new-trees.ensures.items c.into_iter-read-iterator.ensures.into_iter_gives.0
 
-pub loop-read-preserved-in-Continue-1 : goal.loop-read-preserved-in-Continue-1
-loop-read-preserved-in-Continue-1 c =
+pub loop-read-preserved : goal.loop-read-preserved
+loop-read-preserved c =
     tree_more c.loop-read.trees.items c.push.new.self.items c.in-Ok.tree c.loop-read.read-iterator.rest.items c.next.new.self.rest.items c.in-Some.read _
     c.in-Some.ensures.steps.0 c.in-Ok.is (c.in_ok-push.ensures.items ∙ ap (λ t. c.loop-read.trees.items ++ t ∷ []) c.in-Ok.tree-is) c.loop-read.invariant
 
-pub loop-read-preserved : goal.loop-read-preserved
-loop-read-preserved c =
+pub loop-read-preserved-in_default : goal.loop-read-preserved-in_default
+loop-read-preserved-in_default c =
     no_tree_more c.loop-read.trees.items c.in_default.field-0 c.loop-read.read-iterator.rest.items c.next.new.self.rest.items c.in-Some.read _
     c.in-Some.ensures.steps.0 c.in_default.is c.loop-read.invariant
 
