@@ -1,41 +1,48 @@
 //! Kinds of patterns at their edges, and code from a list.
 
-use crate::made::{Play, comes_to, played};
-use match_machine::Event;
+use crate::made::{Play, Seen, played};
 use pattern_compiler::{Basic, Instr, Kind, PatCode};
-use std::alloc::Global;
+use std::alloc::{AllocError, Global};
+use std::test::Fail;
 use strings::{StrFault, Text};
 
-// A match of LEN of a count and a further part, on the subject AB.
-fn behind(alloc: Global, count: u64, part: Basic) -> Result<(Event, u64), StrFault> {
+fn of_count(kind: Kind, n: u64) -> Basic {
+    match kind {
+        Kind::Len => Basic::Len(n),
+        Kind::Pos => Basic::Pos(n),
+        Kind::RPos => Basic::RPos(n),
+        Kind::Tab => Basic::Tab(n),
+        _ => Basic::RTab(n),
+    }
+}
+
+// LEN of a count, and behind it the kind with another.
+fn behind(alloc: Global, count: u64, kind: Kind, n: u64) -> Result<PatCode, StrFault> {
     let first = PatCode::prim(alloc, Basic::Len(count))?;
-    let code = PatCode::cat(alloc, &first, &PatCode::prim(alloc, part)?)?;
-    played(alloc, "AB", code, false, Play::Steps(1_000))
+    let second = PatCode::prim(alloc, of_count(kind, n))?;
+    Ok(PatCode::cat(alloc, &first, &second)?)
 }
 
 #[test]
 fn counts(rt: HostRuntime) {
-    for (count, part, want) in [
-        (0, Basic::Len(3), None),
-        (0, Basic::Len(2), Some((0, 2))),
-        (0, Basic::Len(u64::MAX), None),
-        (0, Basic::Pos(2), Some((2, 2))),
-        (0, Basic::Pos(3), None),
-        (0, Basic::RPos(0), Some((2, 2))),
-        (2, Basic::Tab(1), None),
-        (1, Basic::Tab(1), Some((0, 1))),
-        (2, Basic::RTab(1), None),
-        (0, Basic::RTab(0), Some((0, 2))),
-        (1, Basic::Rem, Some((0, 2))),
-        (0, Basic::Fail, None),
-        (0, Basic::Arb, Some((0, 0))),
+    for (count, kind, n, want) in [
+        (0, Kind::Len, 3, Seen::Failed),
+        (0, Kind::Len, 2, Seen::Matched(0, 2)),
+        (0, Kind::Len, u64::MAX, Seen::Failed),
+        (0, Kind::Pos, 2, Seen::Matched(2, 2)),
+        (0, Kind::Pos, 3, Seen::Failed),
+        (0, Kind::RPos, 0, Seen::Matched(2, 2)),
+        (2, Kind::Tab, 1, Seen::Failed),
+        (1, Kind::Tab, 1, Seen::Matched(0, 1)),
+        (2, Kind::RTab, 1, Seen::Failed),
+        (0, Kind::RTab, 0, Seen::Matched(0, 2)),
     ] {
-        assert!(rt; comes_to(&behind(rt.alloc(), count, part), want));
+        let code = behind(rt.alloc(), count, kind, n);
+        assert!(rt; played(rt.alloc(), "AB", code, Play::Steps(1_000)) == want);
     }
 }
 
-// A match of the kind with a set of bytes.
-fn of_set(alloc: Global, subject: &str, kind: Kind, set: &str) -> Result<(Event, u64), StrFault> {
+fn of_set(alloc: Global, kind: Kind, set: &str) -> Result<PatCode, StrFault> {
     let set = Text::from_slice(alloc, set.as_bytes())?;
     let part = match kind {
         Kind::Any => Basic::Any(set),
@@ -43,36 +50,39 @@ fn of_set(alloc: Global, subject: &str, kind: Kind, set: &str) -> Result<(Event,
         Kind::Span => Basic::Span(set),
         _ => Basic::Break(set),
     };
-    let code = PatCode::prim(alloc, part)?;
-    played(alloc, subject, code, false, Play::Steps(1_000))
+    Ok(PatCode::prim(alloc, part)?)
 }
 
 #[test]
 fn sets(rt: HostRuntime) {
     for (subject, kind, set, want) in [
-        ("A", Kind::Any, "B", None),
-        ("AB", Kind::Any, "CB", Some((1, 2))),
-        ("AB", Kind::NotAny, "A", Some((1, 2))),
-        ("A", Kind::NotAny, "A", None),
-        ("ABBC", Kind::Span, "B", Some((1, 3))),
-        ("AC", Kind::Span, "B", None),
-        ("AB", Kind::Break, "C", None),
-        ("AB", Kind::Break, "A", Some((0, 0))),
+        ("A", Kind::Any, "B", Seen::Failed),
+        ("AB", Kind::Any, "CB", Seen::Matched(1, 2)),
+        ("AB", Kind::NotAny, "A", Seen::Matched(1, 2)),
+        ("A", Kind::NotAny, "A", Seen::Failed),
+        ("ABBC", Kind::Span, "B", Seen::Matched(1, 3)),
+        ("AC", Kind::Span, "B", Seen::Failed),
+        ("AB", Kind::Break, "C", Seen::Failed),
+        ("AB", Kind::Break, "A", Seen::Matched(0, 0)),
     ] {
-        assert!(rt; comes_to(&of_set(rt.alloc(), subject, kind, set), want));
+        let code = of_set(rt.alloc(), kind, set);
+        assert!(rt; played(rt.alloc(), subject, code, Play::Steps(1_000)) == want);
     }
 }
 
-// Whether code from a list and its copy hold the list.
-fn listed(alloc: Global) -> Result<bool, StrFault> {
+fn listed(alloc: Global) -> Result<PatCode, AllocError> {
     let mut instrs = Vec::new(alloc);
     instrs.push(Instr::Split(2))?;
     instrs.push(Instr::Fence)?;
-    let copy = PatCode::from_list(instrs)?.clone()?;
-    Ok(copy.len() == 2 && matches!(copy.get(1), Some(Instr::Fence)) && copy.get(2).is_none())
+    PatCode::from_list(instrs)?.clone()
+}
+
+fn is_listed(copy: &PatCode) -> bool {
+    copy.len() == 2 && matches!(copy.get(1), Some(Instr::Fence)) && copy.get(2).is_none()
 }
 
 #[test]
-fn code_of_a_list(rt: HostRuntime) {
-    assert!(rt; matches!(listed(rt.alloc()), Ok(true)));
+fn code_of_a_list(rt: HostRuntime) -> Result<(), Fail> {
+    assert!(rt; is_listed(&listed(rt.alloc())?));
+    Ok(())
 }

@@ -1,6 +1,6 @@
 //! Patterns in short, and what matches come to.
 
-use match_machine::{Answer, Event, Matcher};
+use match_machine::{Answer, Assignment, Event, Matcher, Told};
 use pattern_compiler::{Basic, Kind, Name, PatCode};
 use std::alloc::{AllocError, Global};
 use strings::{StrFault, Text};
@@ -12,6 +12,7 @@ fn basic(alloc: Global, letter: u8) -> Result<Basic, StrFault> {
         b'b' => Basic::Bal,
         b'f' => Basic::Fail,
         b'l' => Basic::Len(1),
+        b'm' => Basic::Rem,
         b'r' => Basic::RPos(0),
         _ => Basic::Lit(Text::from_slice(alloc, &[letter])?),
     })
@@ -82,81 +83,156 @@ pub fn pattern(alloc: Global, signs: &str) -> Result<PatCode, StrFault> {
     Ok(last(&mut parts))
 }
 
-/// What is done with a match, which one function alone holds: each more that does costs 10 seconds to prove.
-#[derive(Drop)]
-pub enum Play {
+/// What is done with a match.
+#[derive(Clone, Copy)]
+pub enum Play<'a> {
     /// So many steps.
     Steps(u64),
+    /// This pattern answers each of so many questions.
+    Enter(&'a str, u32),
     /// An answer to the first question.
-    Answer(Answer),
-    /// A pattern for each of so many questions.
-    Enter(PatCode, u32),
+    Pattern(&'a str),
+    Count(u64),
+    Bytes(&'a str),
+    Failed,
+    Said,
 }
 
-/// The last event of an anchored match or one from any place, and how many steps led to it from the event before.
-pub fn played(
-    alloc: Global,
-    subject: &str,
-    code: PatCode,
-    anchored: bool,
-    play: Play,
-) -> Result<(Event, u64), StrFault> {
-    let subject = Text::from_slice(alloc, subject.as_bytes())?;
-    Ok(of_match(alloc, subject, code, anchored, play)?)
+/// What is seen of a match: plain values, since each place that holds an event or a matcher is dear to prove.
+#[derive(Clone, Copy, PartialEq)]
+pub enum Seen {
+    NoMemory,
+    /// After so many steps.
+    Running(u64),
+    /// For this expression.
+    Asked(u32),
+    /// A value of so many bytes, or a cursor.
+    Told(usize),
+    /// From a place to another.
+    Matched(usize, usize),
+    /// The same with one assignment of so many bytes.
+    Assigned(usize, usize, usize),
+    Failed,
 }
 
-/// The same on a text.
-pub fn of_match(
-    alloc: Global,
-    subject: Text,
-    code: PatCode,
-    anchored: bool,
-    play: Play,
-) -> Result<(Event, u64), AllocError> {
-    play_on(&mut Matcher::start(alloc, code, subject, anchored), play)
+fn answer(alloc: Global, play: Play<'_>) -> Result<Answer, StrFault> {
+    Ok(match play {
+        Play::Pattern(signs) => Answer::Pattern(pattern(alloc, signs)?),
+        Play::Count(n) => Answer::Count(n),
+        Play::Bytes(bytes) => Answer::Bytes(Text::from_slice(alloc, bytes.as_bytes())?),
+        Play::Said => Answer::Said,
+        _ => Answer::Failed,
+    })
 }
 
-fn play_on(matcher: &mut Matcher, play: Play) -> Result<(Event, u64), AllocError> {
-    match play {
-        Play::Steps(bound) => matcher.advance(bound),
-        Play::Answer(answer) => answered(matcher, answer),
-        Play::Enter(inner, depth) => entered(matcher, &inner, depth),
-    }
-}
-
-fn answered(matcher: &mut Matcher, answer: Answer) -> Result<(Event, u64), AllocError> {
+fn supplied(matcher: &mut Matcher, answer: Answer) -> Result<(), AllocError> {
     let (question, _) = matcher.advance(100)?;
     match &question {
         Event::Ask { .. } => matcher.supply(answer),
         Event::Say { .. } => matcher.supply(answer),
         _ => {}
     }
-    matcher.advance(100)
+    Ok(())
 }
 
-fn entered(matcher: &mut Matcher, inner: &PatCode, depth: u32) -> Result<(Event, u64), AllocError> {
+fn entered(matcher: &mut Matcher, inner: &PatCode, depth: u32) -> Result<(), AllocError> {
     for _ in 0..depth {
-        let (question, _) = matcher.advance(100)?;
-        match &question {
-            Event::Ask { .. } => matcher.supply(Answer::Pattern(inner.clone()?)),
-            _ => {}
-        }
+        supplied(matcher, Answer::Pattern(inner.clone()?))?;
     }
-    matcher.advance(100)
+    Ok(())
 }
 
-/// Whether a match begins and ends so, or fails if no places are wanted.
-pub fn comes_to(found: &Result<(Event, u64), StrFault>, want: Option<(usize, usize)>) -> bool {
-    match found {
-        Ok((event, _)) => is_at(event, want),
-        Err(_) => false,
+// What is done before the last steps, and how many they are.
+fn begun(alloc: Global, matcher: &mut Matcher, play: Play<'_>) -> Result<u64, StrFault> {
+    match play {
+        Play::Steps(bound) => return Ok(bound),
+        Play::Enter(signs, depth) => entered(matcher, &pattern(alloc, signs)?, depth)?,
+        _ => supplied(matcher, answer(alloc, play)?)?,
     }
+    Ok(100)
 }
 
-fn is_at(event: &Event, want: Option<(usize, usize)>) -> bool {
+fn ended(alloc: Global, matcher: &mut Matcher, play: Play<'_>) -> Result<Seen, StrFault> {
+    let bound = begun(alloc, matcher, play)?;
+    let (event, steps) = matcher.advance(bound)?;
+    Ok(shown(&event, steps))
+}
+
+fn shown(event: &Event, steps: u64) -> Seen {
     match event {
-        Event::Matched { start, end, .. } => want == Some((*start, *end)),
-        Event::Failed => want.is_none(),
-        _ => false,
+        Event::Running => Seen::Running(steps),
+        Event::Ask { expr, .. } => Seen::Asked(*expr),
+        Event::Say { value, .. } => Seen::Told(size(value)),
+        Event::Matched {
+            start,
+            end,
+            pending,
+        } => assigned(*start, *end, pending),
+        Event::Failed => Seen::Failed,
+    }
+}
+
+fn size(value: &Told) -> usize {
+    match value {
+        Told::Text(text) => text.len(),
+        Told::Number(n) => *n as usize,
+    }
+}
+
+fn assigned(start: usize, end: usize, pending: &[Assignment]) -> Seen {
+    match pending {
+        [one] => Seen::Assigned(start, end, one.value.len()),
+        _ => Seen::Matched(start, end),
+    }
+}
+
+fn of_text(
+    alloc: Global,
+    subject: Text,
+    code: PatCode,
+    anchored: bool,
+    play: Play<'_>,
+) -> Result<Seen, StrFault> {
+    ended(
+        alloc,
+        &mut Matcher::start(alloc, code, subject, anchored),
+        play,
+    )
+}
+
+fn of_code(
+    alloc: Global,
+    subject: &str,
+    code: Result<PatCode, StrFault>,
+    play: Play<'_>,
+) -> Result<Seen, StrFault> {
+    let subject = Text::from_slice(alloc, subject.as_bytes())?;
+    of_text(alloc, subject, code?, false, play)
+}
+
+/// What is seen of a match from any place.
+pub fn played(
+    alloc: Global,
+    subject: &str,
+    code: Result<PatCode, StrFault>,
+    play: Play<'_>,
+) -> Seen {
+    of_code(alloc, subject, code, play).unwrap_or(Seen::NoMemory)
+}
+
+fn of_front(alloc: Global, text: Text, signs: &str, play: Play<'_>) -> Result<Seen, StrFault> {
+    of_text(alloc, text, pattern(alloc, signs)?, true, play)
+}
+
+/// What is seen of an anchored match.
+pub fn anchored(
+    alloc: Global,
+    subject: Result<Text, StrFault>,
+    signs: &str,
+    play: Play<'_>,
+) -> Seen {
+    match subject {
+        Ok(text) => of_front(alloc, text, signs, play).unwrap_or(Seen::NoMemory),
+        Err(_) => Seen::NoMemory,
     }
 }

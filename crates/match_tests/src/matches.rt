@@ -1,90 +1,55 @@
 //! Matches that ask for nothing.
 
-use crate::made::{Play, comes_to, pattern, played};
-use match_machine::{Assignment, Event};
-use std::alloc::Global;
-use strings::StrFault;
-
-fn matched(
-    alloc: Global,
-    subject: &str,
-    signs: &str,
-    anchored: bool,
-) -> Result<(Event, u64), StrFault> {
-    let code = pattern(alloc, signs)?;
-    played(alloc, subject, code, anchored, Play::Steps(1_000))
-}
+use crate::made::{Play, Seen, anchored, pattern, played};
+use strings::Text;
 
 #[test]
 fn places(rt: HostRuntime) {
-    for (subject, signs, anchored, want) in [
-        // 'B', and the same anchored
-        ("ABC", "B", false, Some((1, 2))),
-        ("ABC", "B", true, None),
+    for (subject, signs, want) in [
+        ("ABC", "B", Seen::Matched(1, 2)),
         // FENCE 'B': no further start
-        ("ABC", "!B&", false, None),
+        ("ABC", "!B&", Seen::Failed),
         // 'A' FENCE 'B' | 'C': FENCE that is backed into ends the match
-        ("AC", "A!&B&C|", false, None),
+        ("AC", "A!&B&C|", Seen::Failed),
         // ABORT | 'B'
-        ("BBC", "xB|", false, None),
+        ("BBC", "xB|", Seen::Failed),
         // BAL on a closing bracket, on an open one, on a nest, on null
-        (")A", "b", false, Some((1, 2))),
-        ("(A", "b", false, Some((1, 2))),
-        ("((A)B", "b", false, Some((1, 4))),
-        ("", "b", false, None),
-        // null and 'A' RPOS(0)
-        ("AB", "n", false, Some((0, 0))),
-        ("AA", "Ar&", false, Some((1, 2))),
+        (")A", "b", Seen::Matched(1, 2)),
+        ("(A", "b", Seen::Matched(1, 2)),
+        ("((A)B", "b", Seen::Matched(1, 4)),
+        ("", "b", Seen::Failed),
+        // null, 'A' RPOS(0), REM, ARB, FAIL
+        ("AB", "n", Seen::Matched(0, 0)),
+        ("AA", "Ar&", Seen::Matched(1, 2)),
+        ("AB", "m", Seen::Matched(0, 2)),
+        ("AB", "a", Seen::Matched(0, 0)),
+        ("AB", "f", Seen::Failed),
     ] {
-        assert!(rt; comes_to(&matched(rt.alloc(), subject, signs, anchored), want));
-    }
-}
-
-// Whether a match assigns this once, and nothing else.
-fn assigns(found: &Result<(Event, u64), StrFault>, want: &str) -> bool {
-    match found {
-        Ok((Event::Matched { pending, .. }, _)) => is_one(pending, want.as_bytes()),
-        _ => false,
-    }
-}
-
-fn is_one(pending: &[Assignment], value: &[u8]) -> bool {
-    match pending {
-        [one] => one.value.as_slice() == value,
-        _ => false,
+        let code = pattern(rt.alloc(), signs);
+        assert!(rt; played(rt.alloc(), subject, code, Play::Steps(1_000)) == want);
     }
 }
 
 #[test]
 fn assignments(rt: HostRuntime) {
     for (subject, signs, want) in [
+        // 'B' alone, on A B: anchored
+        ("AB", "B", Seen::Failed),
         // ('BE' | 'BEA') . X: the first end
-        ("BEADS", "BE&BE&A&|.", "BE"),
+        ("BEADS", "BE&BE&A&|.", Seen::Assigned(0, 2, 2)),
         // BAL . X 'C'
-        ("A(B)C", "b.C&", "A(B)"),
+        ("A(B)C", "b.C&", Seen::Assigned(0, 5, 4)),
         // ARBNO('A') . X, alone and before 'B'
-        ("AA", "A*.", ""),
-        ("AAB", "A*.B&", "AA"),
+        ("AA", "A*.", Seen::Assigned(0, 0, 0)),
+        ("AAB", "A*.B&", Seen::Assigned(0, 3, 2)),
         // 'A' . X 'X' | 'AB' . X: nothing stays of the branch given up
-        ("AB", "A.X&AB&.|", "AB"),
+        ("AB", "A.X&AB&.|", Seen::Assigned(0, 2, 2)),
         // ARB . X RPOS(0), on null and on bytes
-        ("", "a.r&", ""),
-        ("AB", "a.r&", "AB"),
+        ("", "a.r&", Seen::Assigned(0, 0, 0)),
+        ("AB", "a.r&", Seen::Assigned(0, 2, 2)),
     ] {
-        assert!(rt; assigns(&matched(rt.alloc(), subject, signs, true), want));
-    }
-}
-
-// What a match comes to after so many steps, and how many it took.
-fn after(alloc: Global, subject: &str, signs: &str, bound: u64) -> Result<(Event, u64), StrFault> {
-    let code = pattern(alloc, signs)?;
-    played(alloc, subject, code, false, Play::Steps(bound))
-}
-
-fn runs_on(found: &Result<(Event, u64), StrFault>, steps: u64) -> bool {
-    match found {
-        Ok((Event::Running, n)) => *n == steps,
-        _ => false,
+        let text = Text::from_slice(rt.alloc(), subject.as_bytes());
+        assert!(rt; anchored(rt.alloc(), text, signs, Play::Steps(1_000)) == want);
     }
 }
 
@@ -92,7 +57,12 @@ fn runs_on(found: &Result<(Event, u64), StrFault>, steps: u64) -> bool {
 // SUCCEED FAIL runs on for ever.
 #[test]
 fn steps(rt: HostRuntime) {
-    assert!(rt; runs_on(&after(rt.alloc(), "B", "AB|", 4), 4));
-    assert!(rt; comes_to(&after(rt.alloc(), "B", "AB|", 5), Some((0, 1))));
-    assert!(rt; runs_on(&after(rt.alloc(), "AB", "sf&", 1_000_000), 1_000_000));
+    for (signs, bound, want) in [
+        ("AB|", 4, Seen::Running(4)),
+        ("AB|", 5, Seen::Matched(0, 1)),
+        ("sf&", 1_000_000, Seen::Running(1_000_000)),
+    ] {
+        let code = pattern(rt.alloc(), signs);
+        assert!(rt; played(rt.alloc(), "B", code, Play::Steps(bound)) == want);
+    }
 }
