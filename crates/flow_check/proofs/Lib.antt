@@ -1,2 +1,3 @@
 pub mod Stacks
 pub mod RunLaws
+pub mod SameShapes

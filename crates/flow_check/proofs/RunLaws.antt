@@ -1,6 +1,7 @@
 -- Operands as runs: each list of kinds has one list of runs, and a pop takes what the list has.
-use Rattle.std.proofs.Common.{◌≡◌, ℕ, zero, suc, ◌+◌, ◌-◌, ◌<◌, ◌≤◌, List, [], ◌∷◌, ◌++◌, length, replicate, refl, sym, ap, ◌∙◌, subst, arith, Option, Some, None, Bool, true, false, if◌then◌else◌, nat_lt, append_assoc, inl, inr, ◌⊎◌}
+use Rattle.std.proofs.Common.{◌≡◌, ℕ, zero, suc, ◌+◌, ◌-◌, ◌<◌, ◌≤◌, ◌^◌, List, [], ◌∷◌, ◌++◌, length, replicate, refl, sym, ap, ◌∙◌, subst, arith, Option, Some, None, Bool, true, false, if◌then◌else◌, nat_lt, append_assoc, inl, inr, ◌⊎◌, is_some, not}
 use Rattle.std.specs.Prelude.{◌==◌}
+use Rattle.std.specs.Bool.{Decides}
 use Rattle.std.proofs.lemmas.Bool.{cases_lt, cases_eq}
 use Rattle.std.proofs.lemmas.Bool.Decides.{nat_tests}
 use Rattle.model.specs.Flow as flow
@@ -10,7 +11,8 @@ use Rattle.flow_check.specs.declared.pool.Kind.TheVariants.{Value, Name, Span}
 use Rattle.flow_check.specs.declared.pool.Top.{Top}
 use Rattle.flow_check.specs.declared.pool.Top.TheVariants.{Run, Begin, Try}
 use Rattle.flow_check.specs.declared.pool.Node.{Node}
-use Rattle.flow_check.specs.Numbers.{Is, AreBoth, same_kind, run_length, below_run, onto, popped}
+use Rattle.flow_check.proofs.Stacks.{grown, one_stack}
+use Rattle.flow_check.specs.Numbers.{Is, Grows, AreBoth, node, node_at, same_kind, run_length, below_run, onto, popped}
 use Rattle.flow_check.specs.Shapes.{kind_of, to_kind, runs, IsTaken}
 
 same_itself : (k : Kind) → same_kind k k ≡ true
@@ -201,3 +203,68 @@ taken_by ns (Some i) (Some ts) n k ks a h = (h.0, h.1, subst (λ l. Is ns i l) h
 -- a pop takes as many of the kind
 pub pop_takes : (ns : List Node) (r : Option (Option ℕ)) (n : ℕ) (k : flow.Kind) (ks : List flow.Kind) → AreBoth ns r (popped (to_kind k) n (runs ks)) → IsTaken ns r (replicate n k) ks
 pop_takes ns r n k ks a = taken_by ns r (popped (to_kind k) n (runs ks)) n k ks a (popped_kinds k n ks)
+
+pub kind_there : (k : Kind) → to_kind (kind_of k) ≡ k
+kind_there Value = refl
+kind_there Name = refl
+kind_there Span = refl
+
+pub run_takes : (ns : List Node) (r : Option (Option ℕ)) (n : ℕ) (k : Kind) (ks : List flow.Kind) → AreBoth ns r (popped k n (runs ks)) → IsTaken ns r (replicate n (kind_of k)) ks
+run_takes ns r n k ks a = pop_takes ns r n (kind_of k) ks (subst (λ j. AreBoth ns r (popped j n (runs ks))) (sym (kind_there k)) a)
+
+cancel : (ts a b : List flow.Kind) → ts ++ a ≡ ts ++ b → a ≡ b
+cancel [] a b e = e
+cancel (t ∷ ts) a b e = cancel ts a b (let z : ts ++ a ≡ ts ++ b = cc in z)
+
+-- what is taken after more was
+pub then_taken : (ns : List Node) (r : Option (Option ℕ)) (ts us ks below : List flow.Kind) → ks ≡ ts ++ below → IsTaken ns r us below → IsTaken ns r (ts ++ us) ks
+then_taken ns None ts us ks below e h = λ b f. h b (cancel ts below (us ++ b) (sym e ∙ f ∙ append_assoc ts us b))
+then_taken ns (Some k) ts us ks below e h = (h.0, e ∙ ap (λ l. ts ++ l) h.1 ∙ sym (append_assoc ts us h.0), h.2)
+
+-- one more operand
+pub pushed : (ns more : List Node) → Grows ns more → (k : Kind) (n : ℕ) (below i : Option ℕ) (ks : List flow.Kind)
+    → n ≡ run_length k (runs ks) → Is ns below (below_run k (runs ks)) → node_at more i ≡ Some (node (Run k (n + 1)) below)
+    → Is more i (runs (kind_of k ∷ ks))
+pushed ns more g k n below i ks e h at =
+    subst (λ j. Is more i (onto j (runs ks))) (sym (kind_there k))
+    (below, at ∙ ap (λ m. Some (node (Run k (m + 1)) below)) e, grown ns more g below (below_run k (runs ks)) h)
+
+pub count_fits : (k : Kind) (n : ℕ) (ks : List flow.Kind) → n ≡ run_length k (runs ks) → length ks < 2 ^ 31 → n + 1 < 2 ^ 32
+count_fits k n ks e h = let w = run_within k ks in omega (arith, e, w, h)
+
+-- the same of what a call gave
+pub then_some : (a b : List Node) (r r' : Option (Option ℕ)) (rest : Option ℕ) (ts us ks : List flow.Kind)
+    → r ≡ Some rest → IsTaken a r ts ks → ((below : List flow.Kind) → Is a rest (runs below) → IsTaken b r' us below) → IsTaken b r' (ts ++ us) ks
+then_some a b r r' rest ts us ks e h next =
+    let g : IsTaken a (Some rest) ts ks = subst (λ x. IsTaken a x ts ks) e h in
+    then_taken b r' ts us ks g.0 g.1 (next g.0 g.2)
+
+pub then_none : (a b : List Node) (r : Option (Option ℕ)) (ts us ks : List flow.Kind) → r ≡ None → IsTaken a r ts ks → IsTaken b None (ts ++ us) ks
+then_none a b r ts us ks e h =
+    let g : IsTaken a None ts ks = subst (λ x. IsTaken a x ts ks) e h in
+    λ below f. g (us ++ below) (f ∙ append_assoc ts us below)
+
+none_empty : (ns : List Node) (i : Option ℕ) (ts : List Top) → i ≡ None → Is ns i ts → ts ≡ []
+none_empty ns i [] e h = refl
+none_empty ns i (t ∷ ts) e h = let f : node_at ns None ≡ Some (node t h.0) = subst (λ j. node_at ns j ≡ Some (node t h.0)) e h.1 in absurd (cc)
+
+module _ (ns : List Node) (n : ℕ) (below : Option ℕ) (ks : List flow.Kind) (long : n ≡ run_length Value (runs ks)) (rest : Is ns below (below_run Value (runs ks))) where
+  pub one_value : n ≡ 1 → below ≡ None → ks ≡ V ∷ []
+  one_value e b =
+      let z = none_empty ns below (below_run Value (runs ks)) b rest in
+      elim (split Value (runs ks) (positive_runs ks)) [
+        inl h ↦ absurd (omega (arith, h.0, long, e))
+      | inr h ↦ runs_one ks (V ∷ []) (h.1 ∙ ap (λ l. Run Value (run_length Value (runs ks)) ∷ l) z ∙ ap (λ m. Run Value m ∷ []) (sym long ∙ e))
+      ]
+
+  pub value_once : ks ≡ V ∷ [] → n ≡ 1
+  value_once e = long ∙ ap (λ l. run_length Value (runs l)) e
+
+  pub value_alone : ks ≡ V ∷ [] → below ≡ None
+  value_alone e = subst (λ l. Is ns below (below_run Value (runs l))) e rest
+
+pub none_from : (o : Option ℕ) (b : Bool) → is_some o ≡ not b → Decides b (o ≡ None)
+none_from None true e = (λ t. refl, λ t. refl)
+none_from None false e = absurd (cc)
+none_from (Some x) true e = absurd (cc)
+none_from (Some x) false e = (λ t. absurd (cc), λ t. absurd (cc))

@@ -6,12 +6,23 @@ use Rattle.model.specs.declared.image.Image.{Image}
 use Rattle.model.specs.Machine.{Handler, OnBegin, OnTry}
 use Rattle.model.specs.Flow as flow
 use Rattle.model.specs.Flow.{Shape, shape, bare, V, N, R, InBody, InGoto, InEvaluation, Above, IsInTry, to_target}
+use Rattle.flow_check.specs.declared.pool.Kind.{Kind}
+use Rattle.flow_check.specs.declared.pool.Kind.TheVariants.{Value, Name, Span}
+use Rattle.flow_check.specs.declared.rules.Run.{Run}
 use Rattle.flow_check.specs.declared.rules.Takes.{Takes}
 use Rattle.flow_check.specs.declared.rules.Takes.TheVariants as takes
 use Rattle.flow_check.specs.declared.rules.Leaves.{Leaves}
 use Rattle.flow_check.specs.declared.rules.Leaves.TheVariants as leaves
 use Rattle.flow_check.specs.declared.rules.Rule.{Rule}
 use Rattle.flow_check.specs.declared.rules.Rule.TheVariants.{Leave, Begin, Body, Jump, Answer, Try, Untry, Fail, Operate}
+
+abbrev pub kind_of : Kind → flow.Kind
+kind_of Value = flow.V
+kind_of Name = flow.N
+kind_of Span = flow.R
+
+abbrev pub run_kinds : Run → List flow.Kind
+run_kinds r = replicate r.count (kind_of r.kind)
 
 abbrev pub taken : Takes → List flow.Kind
 taken (takes.Values n) = replicate n V
@@ -27,9 +38,6 @@ left leaves.Value = V ∷ []
 left leaves.Name = N ∷ []
 left leaves.ValueName = V ∷ N ∷ []
 left leaves.SpanName = R ∷ N ∷ []
-
-abbrev pub operate : Takes → Leaves → Rule
-operate ts ls = Operate ts ls
 
 abbrev pub rule_of : Instr → Rule
 rule_of op.End = Leave

@@ -12,13 +12,9 @@ use Rattle.flow_check.specs.declared.shapes.Mode.TheVariants.{Body, Goto, Evalua
 use Rattle.flow_check.specs.declared.shapes.Shape.{Shape}
 use Rattle.flow_check.specs.declared.shapes.Led.{Led}
 use Rattle.flow_check.specs.declared.rules.Rule.{Rule}
+pub use Rattle.flow_check.specs.Rules.{kind_of}
 use Rattle.flow_check.specs.Rules.{Asked, next_of, target_of}
 use Rattle.flow_check.specs.Numbers.{Is, onto}
-
-abbrev pub kind_of : Kind → flow.Kind
-kind_of Value = flow.V
-kind_of Name = flow.N
-kind_of Span = flow.R
 
 abbrev pub to_kind : flow.Kind → Kind
 to_kind flow.V = Value
@@ -85,3 +81,7 @@ IsTarget ns _ _ = ⊥
 abbrev pub Advances : List Node → Option Led → Rule → flow.Shape → Type 0
 Advances ns None r s = Asked r s → ⊥
 Advances ns (Some led) r s = Asked r s × IsNext ns led.next (next_of r s) × IsTarget ns led.target (target_of r s)
+
+-- in a mode, with nothing
+abbrev pub empty_shape : Mode → Shape
+empty_shape m = record { mode = m; kinds = None; depth = 0; handlers = None }

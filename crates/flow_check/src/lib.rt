@@ -1,7 +1,9 @@
 //! The flow of a module's code: what each instruction asks, and what the code before it leaves.
 #![tactic(auto)]
 
+mod flow;
 mod marks;
+mod operands;
 mod pool;
 mod rules;
 mod shapes;

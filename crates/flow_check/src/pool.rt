@@ -1,8 +1,10 @@
 //! Stacks of operands and of handlers, with equal numbers for equal stacks.
 
-ghost use Rattle.std.specs.Prelude.{◌≡◌, ◌<◌, ◌^◌, List, [], IfOk, OnErr, OnOk, IfSome, IfNone, Some, None, option_map, slice_get};
+ghost use Rattle.std.specs.Prelude.{◌≡◌, ◌<◌, ◌^◌, List, [], ◌∷◌, length, IfOk, OnErr, OnOk, IfSome, IfNone, Some, None, option_map, slice_get};
 ghost use Rattle.flow_check.specs.declared.pool.Top.{Top};
-ghost use Rattle.flow_check.specs.Numbers.{Is, Grows, AreBoth, node_at, run_length, below_run, onto, popped};
+ghost use Rattle.flow_check.specs.Numbers.{Is, Grows, AreBoth, node_at, run_length, below_run, popped};
+ghost use Rattle.flow_check.specs.Shapes.{kind_of, runs};
+ghost use Rattle.model.specs.Flow as flow;
 
 use indexmap::IndexSet;
 use std::alloc::{AllocError, Global};
@@ -68,7 +70,7 @@ impl Pool {
     }
 
     /// How many operands of a kind stand uppermost, and the stack below them.
-    fn run(&self, kind: Kind, stack: Stack) -> (u32, Stack)
+    pub(crate) fn run(&self, kind: Kind, stack: Stack) -> (u32, Stack)
         ensures { (ts : List Top) → Is self.now.nodes.keys stack ts → (result.0 ≡ run_length kind ts) × Is self.now.nodes.keys result.1 (below_run kind ts) }
     {
         match self.top(stack) {
@@ -82,9 +84,9 @@ impl Pool {
 
     /// The stack with one more operand.
     pub(crate) fn push(&mut self, kind: Kind, stack: Stack) -> Result<Stack, AllocError>
-        requires { (ts : List Top) × Is self.old.nodes.keys stack ts × (run_length kind ts < 2 ^ 31) }
+        requires { (ks : List flow.Kind) × Is self.old.nodes.keys stack (runs ks) × (length ks < 2 ^ 31) }
         ensures grows { OnOk result (Grows self.old.nodes.keys self.new.nodes.keys) }
-        ensures pushed { IfOk result (λ k. (ts : List Top) → Is self.old.nodes.keys stack ts → Is self.new.nodes.keys k (onto kind ts)) }
+        ensures pushed { IfOk result (λ k. (ks : List flow.Kind) → Is self.old.nodes.keys stack (runs ks) → Is self.new.nodes.keys k (runs (kind_of kind ∷ ks))) }
     {
         let (count, below) = self.run(kind, stack);
         let more = self.put(Top::Run(kind, count + 1), below)?;

@@ -1,10 +1,46 @@
 //! What each instruction asks, takes and leaves.
 
-ghost use Rattle.std.specs.Prelude.{◌≡◌};
-ghost use Rattle.flow_check.specs.Rules.{rule_of};
+ghost use Rattle.std.specs.Prelude.{◌≡◌, [], ◌∷◌, ◌++◌, length, replicate};
+ghost use Rattle.flow_check.specs.Rules.{rule_of, taken, left, run_kinds};
+ghost use Rattle.model.specs.Flow.{V, N, R};
 ghost use Rattle.model.specs.Modules.{bytes};
 
+use crate::pool::Kind;
 use model::Instr;
+
+/// So many operands of a kind.
+#[derive(Clone, Copy)]
+pub(crate) struct Run {
+    pub kind: Kind,
+    pub count: u32,
+}
+
+fn values(count: u32) -> Run
+    ensures { run_kinds result ≡ replicate count V }
+{
+    Run {
+        kind: Kind::Value,
+        count,
+    }
+}
+
+fn name() -> Run
+    ensures { run_kinds result ≡ N ∷ [] }
+{
+    Run {
+        kind: Kind::Name,
+        count: 1,
+    }
+}
+
+fn span() -> Run
+    ensures { run_kinds result ≡ R ∷ [] }
+{
+    Run {
+        kind: Kind::Span,
+        count: 1,
+    }
+}
 
 /// The operands that an instruction takes, the newest first.
 #[derive(Clone, Copy)]
@@ -25,6 +61,47 @@ pub(crate) enum Leaves {
     Name,
     ValueName,
     SpanName,
+}
+
+impl Takes {
+    /// How many.
+    pub(crate) fn count(self) -> u32
+        ensures { result ≡ length (taken self) }
+    {
+        match self {
+            Takes::Values(count) => count,
+            Takes::Name => 1,
+            Takes::ValueName | Takes::NameValue => 2,
+            Takes::ValuesName | Takes::ValueSpanName => 3,
+        }
+    }
+
+    /// As runs of a kind.
+    pub(crate) fn runs(self) -> (Run, Run, Run)
+        ensures { taken self ≡ run_kinds result.0 ++ (run_kinds result.1 ++ run_kinds result.2) }
+    {
+        match self {
+            Takes::Values(count) => (values(count), values(0), values(0)),
+            Takes::Name => (name(), values(0), values(0)),
+            Takes::ValueName => (values(1), name(), values(0)),
+            Takes::NameValue => (name(), values(1), values(0)),
+            Takes::ValuesName => (values(2), name(), values(0)),
+            Takes::ValueSpanName => (values(1), span(), name()),
+        }
+    }
+}
+
+impl Leaves {
+    /// How many.
+    pub(crate) fn count(self) -> u32
+        ensures { result ≡ length (left self) }
+    {
+        match self {
+            Leaves::Nothing => 0,
+            Leaves::Value | Leaves::Name => 1,
+            Leaves::ValueName | Leaves::SpanName => 2,
+        }
+    }
 }
 
 /// What an instruction asks of the code before it, and where it leads.

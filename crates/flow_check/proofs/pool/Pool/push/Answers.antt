@@ -1,10 +1,16 @@
-use Rattle.std.proofs.Common.{◌≡◌, ◌∙◌, ap, ◌+◌, Some}
-use Rattle.flow_check.specs.declared.pool.Top.TheVariants.{Run}
-use Rattle.flow_check.specs.Numbers.{node}
-use Rattle.flow_check.proofs.Stacks.{grown}
+use Rattle.std.proofs.Common.{arith}
+use Rattle.flow_check.specs.Shapes.{runs}
+use Rattle.flow_check.proofs.RunLaws.{pushed, run_within}
 use Rattle.flow_check.proofs.pool.Pool.push.Goals as goal
 
+pub overflow_add-count : goal.overflow_add-count
+overflow_add-count c =
+    let q = c.requires in
+    let r = c.run-count.ensures (runs q.0) q.1 in
+    let w = run_within c.args.kind q.0 in
+    omega (arith, r.0, w, q.2)
+
 pub returns-clause-pushed : goal.returns-clause-pushed
-returns-clause-pushed c = λ ts h.
-    let r = c.run-count.ensures ts h in
-    (_, c.in_ok-more.ensures.put ∙ ap (λ n. Some (node (Run c.args.kind (n + 1)) c.run-count.result.1)) r.0, grown _ _ c.in_ok-more.ensures.grows _ _ r.1)
+returns-clause-pushed c = λ ks h.
+    let r = c.run-count.ensures (runs ks) h in
+    pushed _ _ c.in_ok-more.ensures.grows c.args.kind c.run-count.result.0 c.run-count.result.1 _ ks r.0 r.1 c.in_ok-more.ensures.put
