@@ -1,3 +1,4 @@
 pub mod Stacks
 pub mod RunLaws
 pub mod SameShapes
+pub mod Steps

@@ -212,7 +212,7 @@ kind_there Span = refl
 pub run_takes : (ns : List Node) (r : Option (Option ℕ)) (n : ℕ) (k : Kind) (ks : List flow.Kind) → AreBoth ns r (popped k n (runs ks)) → IsTaken ns r (replicate n (kind_of k)) ks
 run_takes ns r n k ks a = pop_takes ns r n (kind_of k) ks (subst (λ j. AreBoth ns r (popped j n (runs ks))) (sym (kind_there k)) a)
 
-cancel : (ts a b : List flow.Kind) → ts ++ a ≡ ts ++ b → a ≡ b
+pub cancel : (ts a b : List flow.Kind) → ts ++ a ≡ ts ++ b → a ≡ b
 cancel [] a b e = e
 cancel (t ∷ ts) a b e = cancel ts a b (let z : ts ++ a ≡ ts ++ b = cc in z)
 
@@ -244,7 +244,7 @@ then_none a b r ts us ks e h =
     let g : IsTaken a None ts ks = subst (λ x. IsTaken a x ts ks) e h in
     λ below f. g (us ++ below) (f ∙ append_assoc ts us below)
 
-none_empty : (ns : List Node) (i : Option ℕ) (ts : List Top) → i ≡ None → Is ns i ts → ts ≡ []
+pub none_empty : (ns : List Node) (i : Option ℕ) (ts : List Top) → i ≡ None → Is ns i ts → ts ≡ []
 none_empty ns i [] e h = refl
 none_empty ns i (t ∷ ts) e h = let f : node_at ns None ≡ Some (node t h.0) = subst (λ j. node_at ns j ≡ Some (node t h.0)) e h.1 in absurd (cc)
 

@@ -1,5 +1,5 @@
 -- Shapes by the numbers of their stacks.
-use Rattle.std.specs.Prelude.{◌≡◌, ℕ, suc, List, [], ◌∷◌, ◌++◌, length, map, Option, Some, None, Bool, true, false, ◌&&◌, ◌==◌, ◌+◌, if◌then◌else◌, nat_eq}
+use Rattle.std.specs.Prelude.{◌≡◌, ℕ, suc, List, [], ◌∷◌, ◌++◌, length, map, Option, Some, None, Bool, true, false, ◌&&◌, ◌==◌, ◌+◌, ◌<◌, ◌≤◌, if◌then◌else◌, nat_eq}
 use Rattle.model.specs.Machine.{Handler, OnBegin, OnTry}
 use Rattle.model.specs.Flow as flow
 use Rattle.flow_check.specs.declared.pool.Kind.{Kind}
@@ -71,6 +71,11 @@ abbrev pub IsNext : List Node → Option Shape → Option flow.Shape → Type 0
 IsNext ns None None = Unit {0}
 IsNext ns (Some a) (Some s) = IsShape ns a s
 IsNext ns _ _ = ⊥
+
+-- whether the handler keeps no more than these operands, and these with others on them
+abbrev pub IsPut : List Node → Option Led → Mode → List flow.Kind → List flow.Kind → List Handler → Type 0
+IsPut ns None m us ks hs = length ks < flow.floor_of hs
+IsPut ns (Some led) m us ks hs = (flow.floor_of hs ≤ length ks) × IsNext ns led.next (Some (flow.shape (mode_of m) (us ++ ks) hs)) × (led.target ≡ None)
 
 abbrev pub IsTarget : List Node → Option (ℕ × Shape) → Option (ℕ × flow.Shape) → Type 0
 IsTarget ns None None = Unit {0}
