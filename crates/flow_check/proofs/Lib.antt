@@ -2,3 +2,8 @@ pub mod Stacks
 pub mod RunLaws
 pub mod SameShapes
 pub mod Steps
+pub mod ByRule
+pub mod Forward
+pub mod Telling
+pub mod Walking
+pub mod Seeding

@@ -167,7 +167,7 @@ fn fail(pool: &Pool, shape: Shape) -> Option<Led>
 
 /// The other half of an operation: what it leaves on the stack below what it took.
 fn put_back(pool: &mut Pool, leaves: Leaves, below: Stack, depth: u32, shape: Shape) -> Result<Option<Led>, AllocError>
-    requires { (ks : List flow.Kind) × Is pool.old.nodes.keys below (runs ks) × (length ks < 2 ^ 30) × (depth ≡ length ks) }
+    requires { (ks : List flow.Kind) × Is pool.old.nodes.keys below (runs ks) × (length ks < 2 ^ 31) × (depth ≡ length ks) }
     ensures grows { OnOk result (Grows pool.old.nodes.keys pool.new.nodes.keys) }
     ensures put { IfOk result (λ led. (ks : List flow.Kind) → (hs : List Handler) → Is pool.old.nodes.keys below (runs ks) → depth ≡ length ks → Is pool.old.nodes.keys shape.handlers (map top_of hs) → IsPut pool.new.nodes.keys led shape.mode (left leaves) ks hs) }
 {
@@ -187,7 +187,7 @@ fn put_back(pool: &mut Pool, leaves: Leaves, below: Stack, depth: u32, shape: Sh
 }
 
 fn operate(pool: &mut Pool, takes: Takes, leaves: Leaves, shape: Shape) -> Result<Option<Led>, AllocError>
-    requires { (s : flow.Shape) × IsShape pool.old.nodes.keys shape s × (length s.kinds < 2 ^ 30) }
+    requires { (s : flow.Shape) × IsShape pool.old.nodes.keys shape s × (length s.kinds < 2 ^ 31) }
     ensures grows { OnOk result (Grows pool.old.nodes.keys pool.new.nodes.keys) }
     ensures advanced { IfOk result (λ led. (s : flow.Shape) → IsShape pool.old.nodes.keys shape s → Advances pool.new.nodes.keys led (rules.Operate takes leaves) s) }
 {
@@ -202,7 +202,7 @@ fn operate(pool: &mut Pool, takes: Takes, leaves: Leaves, shape: Shape) -> Resul
 
 /// Whether what the rule asks is there, and where it leads.
 pub(crate) fn advance(pool: &mut Pool, rule: Rule, shape: Shape) -> Result<Option<Led>, AllocError>
-    requires { (s : flow.Shape) × IsShape pool.old.nodes.keys shape s × (length s.kinds < 2 ^ 30) }
+    requires { (s : flow.Shape) × IsShape pool.old.nodes.keys shape s × (length s.kinds < 2 ^ 31) }
     ensures grows { OnOk result (Grows pool.old.nodes.keys pool.new.nodes.keys) }
     ensures advanced { IfOk result (λ led. (s : flow.Shape) → IsShape pool.old.nodes.keys shape s → Advances pool.new.nodes.keys led rule s) }
 {

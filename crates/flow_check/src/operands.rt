@@ -52,7 +52,7 @@ impl Pool {
 
     /// The stack with what an instruction leaves.
     pub(crate) fn leave(&mut self, leaves: Leaves, stack: Stack) -> Result<Stack, AllocError>
-        requires { (ks : List flow.Kind) × Is self.old.nodes.keys stack (runs ks) × (length ks < 2 ^ 30) }
+        requires { (ks : List flow.Kind) × Is self.old.nodes.keys stack (runs ks) × (length ks < 2 ^ 31) }
         ensures grows { OnOk result (Grows self.old.nodes.keys self.new.nodes.keys) }
         ensures left { IfOk result (λ k. (ks : List flow.Kind) → Is self.old.nodes.keys stack (runs ks) → Is self.new.nodes.keys k (runs (left leaves ++ ks))) }
     {
@@ -67,7 +67,7 @@ impl Pool {
 
     /// With a name, and one of a kind on it.
     fn push_both(&mut self, kind: Kind, stack: Stack) -> Result<Stack, AllocError>
-        requires { (ks : List flow.Kind) × Is self.old.nodes.keys stack (runs ks) × (length ks < 2 ^ 30) }
+        requires { (ks : List flow.Kind) × Is self.old.nodes.keys stack (runs ks) × (length ks < 2 ^ 31) }
         ensures grows { OnOk result (Grows self.old.nodes.keys self.new.nodes.keys) }
         ensures pushed { IfOk result (λ k. (ks : List flow.Kind) → Is self.old.nodes.keys stack (runs ks) → Is self.new.nodes.keys k (runs (kind_of kind ∷ flow.N ∷ ks))) }
     {

@@ -1,6 +1,6 @@
 //! Stacks of operands and of handlers, with equal numbers for equal stacks.
 
-ghost use Rattle.std.specs.Prelude.{◌≡◌, ◌<◌, ◌^◌, List, [], ◌∷◌, length, IfOk, OnErr, OnOk, IfSome, IfNone, Some, None, option_map, slice_get};
+ghost use Rattle.std.specs.Prelude.{◌≡◌, ◌<◌, ◌-◌, ◌^◌, List, [], ◌∷◌, length, IfOk, OnErr, OnOk, IfSome, IfNone, Some, None, option_map, slice_get};
 ghost use Rattle.flow_check.specs.declared.pool.Top.{Top};
 ghost use Rattle.flow_check.specs.Numbers.{Is, Grows, AreBoth, node_at, run_length, below_run, popped};
 ghost use Rattle.flow_check.specs.Shapes.{kind_of, runs};
@@ -84,7 +84,7 @@ impl Pool {
 
     /// The stack with one more operand.
     pub(crate) fn push(&mut self, kind: Kind, stack: Stack) -> Result<Stack, AllocError>
-        requires { (ks : List flow.Kind) × Is self.old.nodes.keys stack (runs ks) × (length ks < 2 ^ 31) }
+        requires { (ks : List flow.Kind) × Is self.old.nodes.keys stack (runs ks) × (length ks < 2 ^ 32 - 1) }
         ensures grows { OnOk result (Grows self.old.nodes.keys self.new.nodes.keys) }
         ensures pushed { IfOk result (λ k. (ks : List flow.Kind) → Is self.old.nodes.keys stack (runs ks) → Is self.new.nodes.keys k (runs (kind_of kind ∷ ks))) }
     {
