@@ -7,3 +7,4 @@ pub mod Forward
 pub mod Telling
 pub mod Walking
 pub mod Seeding
+pub mod Whole
