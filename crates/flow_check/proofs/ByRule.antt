@@ -1,12 +1,12 @@
 -- What an instruction asks and where it leads, by its rule.
-use Rattle.std.proofs.Common.{◌≡◌, ℕ, zero, suc, ◌+◌, ◌<◌, ◌≤◌, List, [], ◌∷◌, ◌++◌, length, refl, sym, ap, ◌∙◌, subst, arith, Option, Some, None, Bool, true, false, inl, inr, ◌⊎◌, ◌&&◌, nat_lt, if◌then◌else◌}
+use Rattle.std.proofs.Common.{◌≡◌, ℕ, zero, suc, ◌+◌, ◌<◌, ◌≤◌, List, [], ◌∷◌, ◌++◌, refl, sym, ap, subst, arith, Option, Some, None, Bool, true, false, inl, inr, ◌⊎◌, if◌then◌else◌}
 use Rattle.std.specs.Prelude.{◌==◌}
 use Rattle.std.specs.List.{Contains}
 use Rattle.std.proofs.lemmas.Bool.Decides.{nat_tests}
 use Rattle.model.specs.declared.instr.Instr.{Instr}
 use Rattle.model.specs.declared.instr.Instr.TheVariants as op
 use Rattle.model.specs.declared.image.Image.{Image}
-use Rattle.model.specs.Machine.{Fetched, Nowhere, At}
+use Rattle.model.specs.Machine.{At}
 use Rattle.model.specs.Modules.{bytes, fetch_from, total}
 use Rattle.model.specs.Flow.{Shape, Asks, leads, is_target}
 use Rattle.flow_check.specs.declared.rules.Rule.{Rule}
@@ -45,9 +45,9 @@ to_tail q p ps (k, lt, e) = (suc k, omega (arith, lt), e)
 module _ (im : Image) (at : ℕ) (y : ℕ) (t : Shape) where
   target_if : (q : Place) (b : Bool) → is_target im at q.0 ≡ b → Contains {X = Place} (if b then (q.0, q.1) ∷ [] else []) (y, t) → (Some q ≡ Some (y, t)) × (is_target im at y ≡ true)
   target_if q true e h = elim (in_cons q (y, t) [] h) [
-      inl f ↦ (ap Some f, subst (λ (z : Place). is_target im at z.0 ≡ true) f e)
+    | inl f ↦ (ap Some f, subst (λ (z : Place). is_target im at z.0 ≡ true) f e)
     | inr g ↦ absurd (in_none (y, t) g)
-    ]
+  ]
   target_if q false e h = absurd (in_none (y, t) h)
 
   target_from : (p : Option Place) → Contains (go_to im at p) (y, t) → (p ≡ Some (y, t)) × (is_target im at y ≡ true)
@@ -57,9 +57,9 @@ module _ (im : Image) (at : ℕ) (y : ℕ) (t : Shape) where
   led_parts : (next : ℕ) (o : Option Shape) (p : Option Place) → Contains (go_on next o ++ go_to im at p) (y, t) → ((next ≡ y) × (o ≡ Some t)) ⊎ ((p ≡ Some (y, t)) × (is_target im at y ≡ true))
   led_parts next None p h = inr (target_from p h)
   led_parts next (Some s) p h = elim (in_cons (next, s) (y, t) (go_to im at p) h) [
-      inl f ↦ inl (ap (λ (z : Place). z.0) f, ap (λ (z : Place). Some z.1) f)
+    | inl f ↦ inl (ap (λ (z : Place). z.0) f, ap (λ (z : Place). Some z.1) f)
     | inr g ↦ inr (target_from p g)
-    ]
+  ]
 
   go_target : (p : Option Place) → p ≡ Some (y, t) → is_target im at y ≡ true → Contains (go_to im at p) (y, t)
   go_target p e g = subst (λ q. Contains (go_to im at q) (y, t)) (sym e) (rw g (to_head (y, t) []))

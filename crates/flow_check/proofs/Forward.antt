@@ -1,16 +1,13 @@
 -- The code leads forward: what is known from the instructions before an offset is all that reaches it.
-use Rattle.std.proofs.Common.{◌≡◌, ℕ, zero, suc, ◌+◌, ◌*◌, ◌<◌, ◌≤◌, List, [], ◌∷◌, ◌++◌, length, drop, refl, sym, ap, ◌∙◌, subst, arith, Option, Some, None, Bool, true, false, inl, inr, ◌⊎◌, ◌&&◌, nat_lt}
-use Rattle.std.specs.List.{Contains}
-use Rattle.std.proofs.lemmas.Bool.{cases_eq, cases_lt}
+use Rattle.std.proofs.Common.{◌≡◌, ℕ, zero, suc, ◌+◌, ◌*◌, ◌<◌, ◌≤◌, [], ◌∷◌, ◌++◌, length, drop, refl, sym, subst, arith, Option, Some, Bool, true, false, inl, inr, ◌⊎◌, ◌&&◌, nat_lt}
 use Rattle.std.proofs.lemmas.Bool.Decides.{nat_tests}
 use Rattle.std.proofs.lemmas.List.{length-drop}
 use Rattle.model.specs.declared.instr.Instr.{Instr}
 use Rattle.model.specs.declared.image.Image.{Image}
-use Rattle.model.specs.Machine.{Fetched, Nowhere, At, Handler, OnBegin, OnTry}
-use Rattle.model.specs.Modules.{bytes, fetch_from, total}
+use Rattle.model.specs.Machine.{At, OnBegin, OnTry}
+use Rattle.model.specs.Modules.{fetch_from}
 use Rattle.model.specs.Flow as flow
 use Rattle.model.specs.Flow.{Shape, shape, bare, asked, Asks, Begins, Reach, Reaches, BreaksFlow, IsLeast, begins_at, is_target, leads}
-use Rattle.flow_check.specs.declared.rules.Takes.{Takes}
 use Rattle.flow_check.specs.declared.rules.Leaves.{Leaves}
 use Rattle.flow_check.specs.declared.rules.Leaves.TheVariants as leaves
 use Rattle.flow_check.specs.declared.rules.Rule.{Rule}
@@ -46,9 +43,9 @@ led_on im before next i s y t e (inr h) = let l : nat_lt before y ≡ true = bot
 pub known_reaches : (im : Image) (x y : ℕ) (t : Shape) → Known im x y t → Reaches im y t
 known_reaches im x y t (inl h) = (0, h)
 known_reaches im x y t (inr k) = (
-    suc k.reached.0,
-    (k.before, k.next, k.first, k.instr, k.reached.1, k.fetched, (asks_are k.instr k.first).1 k.met, led_to im k.before y t k.instr k.next k.first k.led)
-  )
+  suc k.reached.0,
+  (k.before, k.next, k.first, k.instr, k.reached.1, k.fetched, (asks_are k.instr k.first).1 k.met, led_to im k.before y t k.instr k.next k.first k.led),
+)
 
 pub reaches_known : (im : Image) (y : ℕ) (t : Shape) → Reaches im y t → Known im y y t
 reaches_known im y t (zero, h) = inl h
@@ -63,7 +60,7 @@ reaches_known im y t (suc n, (before, next, s, i, r, e, a, l)) =
       reached = (n, r);
       fetched = e;
       met = (asks_are i s).0 a;
-      led = led
+      led = led;
     })
 
 -- ---- at most two operands more at each instruction

@@ -2,7 +2,6 @@
 use Rattle.std.proofs.Common.{◌≡◌, ℕ, zero, suc, ◌+◌, ◌-◌, ◌<◌, ◌≤◌, ◌^◌, List, [], ◌∷◌, ◌++◌, length, replicate, refl, sym, ap, ◌∙◌, subst, arith, Option, Some, None, Bool, true, false, if◌then◌else◌, nat_lt, append_assoc, inl, inr, ◌⊎◌, is_some, not}
 use Rattle.std.specs.Prelude.{◌==◌}
 use Rattle.std.specs.Bool.{Decides}
-use Rattle.std.proofs.lemmas.Bool.{cases_lt, cases_eq}
 use Rattle.std.proofs.lemmas.Bool.Decides.{nat_tests}
 use Rattle.model.specs.Flow as flow
 use Rattle.model.specs.Flow.{V, N, R}
@@ -11,7 +10,7 @@ use Rattle.flow_check.specs.declared.pool.Kind.TheVariants.{Value, Name, Span}
 use Rattle.flow_check.specs.declared.pool.Top.{Top}
 use Rattle.flow_check.specs.declared.pool.Top.TheVariants.{Run, Begin, Try}
 use Rattle.flow_check.specs.declared.pool.Node.{Node}
-use Rattle.flow_check.proofs.Stacks.{grown, one_stack}
+use Rattle.flow_check.proofs.Stacks.{grown}
 use Rattle.flow_check.specs.Numbers.{Is, Grows, AreBoth, node, node_at, same_kind, run_length, below_run, onto, popped}
 use Rattle.flow_check.specs.Shapes.{kind_of, to_kind, runs, IsTaken}
 
@@ -124,7 +123,7 @@ Split k ts = ((run_length k ts ≡ 0) × (below_run k ts ≡ ts)) ⊎ ((0 < run_
 
 split_run : (k j : Kind) (n : ℕ) (ts : List Top) → 0 < n → (b : Bool) → same_kind k j ≡ b
     → (((if b then n else 0) ≡ 0) × ((if b then ts else Run j n ∷ ts) ≡ Run j n ∷ ts))
-      ⊎ ((0 < (if b then n else 0)) × (Run j n ∷ ts ≡ Run k (if b then n else 0) ∷ (if b then ts else Run j n ∷ ts)))
+    ⊎ ((0 < (if b then n else 0)) × (Run j n ∷ ts ≡ Run k (if b then n else 0) ∷ (if b then ts else Run j n ∷ ts)))
 split_run k j n ts h true e = inr (h, ap (λ x. Run x n ∷ ts) (sym (same_means k j e)))
 split_run k j n ts h false e = inl (refl, refl)
 
@@ -186,11 +185,11 @@ popped_kinds k zero ks = (ks, refl, refl)
 popped_kinds k (suc n) [] = subst (λ r. PoppedIs r (suc n) k []) (sym (pop_empty (to_kind k) n)) (λ below e. absurd (cc))
 popped_kinds k (suc n) (j ∷ ks) =
     elim (kinds_cases k j) [
-      inl same ↦ subst (λ x. PoppedIs (popped (to_kind k) (suc n) (onto (to_kind x) (runs ks))) (suc n) k (x ∷ ks)) same
-        (subst (λ r. PoppedIs r (suc n) k (k ∷ ks)) (sym (pop_same (to_kind k) n (runs ks) (positive_runs ks)))
+      | inl same ↦ subst (λ x. PoppedIs (popped (to_kind k) (suc n) (onto (to_kind x) (runs ks))) (suc n) k (x ∷ ks)) same
+          (subst (λ r. PoppedIs r (suc n) k (k ∷ ks)) (sym (pop_same (to_kind k) n (runs ks) (positive_runs ks)))
           (popped_more (popped (to_kind k) n (runs ks)) n k ks (popped_kinds k n ks)))
-    | inr ne ↦ subst (λ r. PoppedIs r (suc n) k (j ∷ ks)) (sym (pop_other (to_kind k) (to_kind j) n (runs ks) ne.0))
-        (λ below e. ne.1 (let z : k ≡ j = cc in z))
+      | inr ne ↦ subst (λ r. PoppedIs r (suc n) k (j ∷ ks)) (sym (pop_other (to_kind k) (to_kind j) n (runs ks) ne.0))
+          (λ below e. ne.1 (let z : k ≡ j = cc in z))
     ]
 
 taken_by : (ns : List Node) (r : Option (Option ℕ)) (p : Option (List Top)) (n : ℕ) (k : flow.Kind) (ks : List flow.Kind)
@@ -253,8 +252,8 @@ module _ (ns : List Node) (n : ℕ) (below : Option ℕ) (ks : List flow.Kind) (
   one_value e b =
       let z = none_empty ns below (below_run Value (runs ks)) b rest in
       elim (split Value (runs ks) (positive_runs ks)) [
-        inl h ↦ absurd (omega (arith, h.0, long, e))
-      | inr h ↦ runs_one ks (V ∷ []) (h.1 ∙ ap (λ l. Run Value (run_length Value (runs ks)) ∷ l) z ∙ ap (λ m. Run Value m ∷ []) (sym long ∙ e))
+        | inl h ↦ absurd (omega (arith, h.0, long, e))
+        | inr h ↦ runs_one ks (V ∷ []) (h.1 ∙ ap (λ l. Run Value (run_length Value (runs ks)) ∷ l) z ∙ ap (λ m. Run Value m ∷ []) (sym long ∙ e))
       ]
 
   pub value_once : ks ≡ V ∷ [] → n ≡ 1

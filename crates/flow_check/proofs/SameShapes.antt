@@ -1,13 +1,10 @@
 -- Equal numbers exactly for equal shapes.
-use Rattle.std.proofs.Common.{◌≡◌, ℕ, List, [], ◌∷◌, length, map, refl, sym, ap, ◌∙◌, subst, arith, Option, Some, None, Bool, true, false, ◌&&◌}
-use Rattle.std.specs.Prelude.{◌==◌}
+use Rattle.std.proofs.Common.{◌≡◌, ℕ, List, [], ◌∷◌, map, refl, sym, ap, ◌∙◌, subst, arith, Option, Some, None, Bool, true, false, ◌&&◌}
 use Rattle.std.specs.Bool.{Decides}
 use Rattle.std.proofs.lemmas.Bool.Decides.{nat_tests}
 use Rattle.model.specs.Machine.{Handler, OnBegin, OnTry}
 use Rattle.model.specs.Flow as flow
 use Rattle.flow_check.specs.declared.pool.Node.{Node}
-use Rattle.flow_check.specs.declared.pool.Top.{Top}
-use Rattle.flow_check.specs.declared.pool.Top.TheVariants.{Begin, Try}
 use Rattle.flow_check.specs.declared.shapes.Mode.{Mode}
 use Rattle.flow_check.specs.declared.shapes.Mode.TheVariants.{Body, Goto, Evaluation}
 use Rattle.flow_check.specs.declared.shapes.Shape.{Shape}
@@ -99,7 +96,7 @@ shape_grown ns more g a s h = record {
   mode = h.mode;
   kinds = grown ns more g a.kinds (runs s.kinds) h.kinds;
   depth = h.depth;
-  handlers = grown ns more g a.handlers (map top_of s.handlers) h.handlers
+  handlers = grown ns more g a.handlers (map top_of s.handlers) h.handlers;
 }
 
 pub empty_is : (ns : List Node) (m : Mode) → IsShape ns (empty_shape m) (flow.shape (mode_of m) [] [])
@@ -112,5 +109,5 @@ bare_test ns a b s r e f h =
       λ x. g ∙ all_true (same_mode a.mode Goto) (same_stack a.kinds None) (same_stack a.handlers None)
           (mode_back a.mode Goto (h.mode ∙ ap (λ (y : flow.Shape). y.mode) x))
           (stack_back a.kinds None (subst (λ (y : flow.Shape). Is ns a.kinds (runs y.kinds)) x h.kinds))
-          (stack_back a.handlers None (subst (λ (y : flow.Shape). Is ns a.handlers (map top_of y.handlers)) x h.handlers))
+          (stack_back a.handlers None (subst (λ (y : flow.Shape). Is ns a.handlers (map top_of y.handlers)) x h.handlers)),
     )

@@ -1,5 +1,5 @@
 -- Marks at some offsets, one after another.
-use Rattle.std.proofs.Common.{◌≡◌, ℕ, zero, suc, ◌+◌, ◌<◌, List, [], ◌∷◌, length, drop, get_or, refl, sym, ap, ◌∙◌, subst, arith, Option, None, true, false, nat_eq, if◌then◌else◌}
+use Rattle.std.proofs.Common.{◌≡◌, ℕ, zero, suc, ◌+◌, ◌<◌, List, [], ◌∷◌, length, drop, get_or, refl, sym, ap, ◌∙◌, arith, Option, true, false, nat_eq, if◌then◌else◌}
 use Rattle.flow_check.specs.declared.shapes.Shape.{Shape}
 use Rattle.flow_check.specs.declared.marks.Mark.{Mark}
 use Rattle.flow_check.specs.Marks.{joined, noted, seeded}

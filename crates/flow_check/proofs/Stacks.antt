@@ -1,14 +1,13 @@
 -- Numbers of stacks: more nodes leave them, and distinct nodes give one number a stack.
-use Rattle.std.proofs.Common.{◌≡◌, ℕ, zero, suc, ◌+◌, ◌-◌, ◌<◌, ◌≤◌, List, [], ◌∷◌, ◌++◌, length, refl, sym, ap, ◌∙◌, subst, arith, Option, Some, None, Bool, true, false, if◌then◌else◌, nat_lt, slice_get, append_assoc, append-nil}
+use Rattle.std.proofs.Common.{◌≡◌, ℕ, zero, suc, ◌-◌, List, [], ◌∷◌, ◌++◌, refl, sym, ap, ◌∙◌, subst, Option, Some, None, Bool, true, false, if◌then◌else◌, nat_lt, slice_get, append_assoc, append-nil}
 use Rattle.std.specs.Prelude.{◌==◌}
 use Rattle.std.specs.List.{AllByRecursion, IsDistinct, list_any}
 use Rattle.indexmap.specs.IndexSet.{insert_key}
 use Rattle.flow_check.specs.declared.pool.Kind.{Kind}
-use Rattle.flow_check.specs.declared.pool.Kind.TheVariants.{Value, Name, Span}
 use Rattle.flow_check.specs.declared.pool.Top.{Top}
-use Rattle.flow_check.specs.declared.pool.Top.TheVariants.{Run, Begin, Try}
+use Rattle.flow_check.specs.declared.pool.Top.TheVariants.{Run}
 use Rattle.flow_check.specs.declared.pool.Node.{Node}
-use Rattle.flow_check.specs.Numbers.{Is, Distinct, Grows, AreBoth, node_at, node, same_kind, run_length, below_run, onto, popped}
+use Rattle.flow_check.specs.Numbers.{Is, Distinct, Grows, node_at, node, run_length, below_run, popped}
 
 get_more : {A : Type 0} (xs ys : List A) (k : ℕ) (x : A) → slice_get xs k ≡ Some x → slice_get (xs ++ ys) k ≡ Some x
 get_more [] ys k x e = absurd (cc)
@@ -27,7 +26,7 @@ pub grows_on : (a b c : List Node) → Grows a b → Grows b c → Grows a c
 grows_on a b c g h = record {
   late = g.late ++ h.late;
   longer = h.longer ∙ ap (λ l. l ++ h.late) g.longer ∙ append_assoc a g.late h.late;
-  distinct = λ d. h.distinct (g.distinct d)
+  distinct = λ d. h.distinct (g.distinct d);
 }
 
 pub stays : (a b : List Node) → b ≡ a → Grows a b
@@ -81,8 +80,8 @@ one_number ns d i j [] h g = h ∙ sym g
 one_number ns d i j (t ∷ ts) h g =
     let b : h.0 ≡ g.0 = one_number ns d h.0 g.0 ts h.2 g.2 in
     one_node ns d i j (node t g.0) (subst (λ z. node_at ns i ≡ Some (node t z)) b h.1) g.1
-    where
-      one_node : (ns : List Node) → Distinct ns → (i j : Option ℕ) (n : Node) → node_at ns i ≡ Some n → node_at ns j ≡ Some n → i ≡ j
-      one_node ns d None j n e f = absurd (cc)
-      one_node ns d (Some i) None n e f = absurd (cc)
-      one_node ns d (Some i) (Some j) n e f = ap Some (d i j n e f)
+  where
+    one_node : (ns : List Node) → Distinct ns → (i j : Option ℕ) (n : Node) → node_at ns i ≡ Some n → node_at ns j ≡ Some n → i ≡ j
+    one_node ns d None j n e f = absurd (cc)
+    one_node ns d (Some i) None n e f = absurd (cc)
+    one_node ns d (Some i) (Some j) n e f = ap Some (d i j n e f)

@@ -1,21 +1,20 @@
 -- What the steps of one instruction tell of the shape.
-use Rattle.std.proofs.Common.{◌≡◌, ℕ, List, [], ◌∷◌, ◌++◌, ◌+◌, ◌-◌, ◌≤◌, ◌<◌, length, drop, map, refl, sym, ap, ◌∙◌, subst, arith, Option, Some, None, Bool, true, false}
-use Rattle.model.specs.Machine.{Handler, OnBegin, OnTry}
+use Rattle.std.proofs.Common.{◌≡◌, ℕ, List, [], ◌∷◌, ◌++◌, ◌+◌, ◌-◌, ◌≤◌, ◌<◌, length, drop, map, refl, sym, ap, ◌∙◌, subst, arith, Option, Some, None}
+use Rattle.model.specs.Machine.{Handler, OnBegin}
 use Rattle.model.specs.Flow as flow
 use Rattle.flow_check.specs.declared.pool.Node.{Node}
-use Rattle.flow_check.specs.declared.pool.Top.{Top}
-use Rattle.flow_check.specs.declared.pool.Top.TheVariants.{Begin, Try}
+use Rattle.flow_check.specs.declared.pool.Top.TheVariants.{Begin}
 use Rattle.flow_check.specs.declared.rules.Takes.{Takes}
 use Rattle.flow_check.specs.declared.rules.Leaves.{Leaves}
 use Rattle.flow_check.specs.declared.rules.Rule.TheVariants.{Operate}
 use Rattle.flow_check.specs.declared.shapes.Led.{Led}
 use Rattle.flow_check.specs.declared.shapes.Mode.{Mode}
-use Rattle.flow_check.specs.declared.shapes.Mode.TheVariants.{Body, Goto, Evaluation}
+use Rattle.flow_check.specs.declared.shapes.Mode.TheVariants.{Body}
 use Rattle.flow_check.specs.declared.shapes.Shape.{Shape}
-use Rattle.flow_check.specs.Numbers.{Is, Grows, node, node_at}
+use Rattle.flow_check.specs.Numbers.{Is, node, node_at}
 use Rattle.flow_check.specs.Rules.{taken, left}
 use Rattle.flow_check.specs.Shapes.{IsShape, IsTaken, IsNext, IsTarget, IsPut, Advances, mode_of, top_of, runs}
-use Rattle.flow_check.proofs.Stacks.{one_stack, grown, node_grown}
+use Rattle.flow_check.proofs.Stacks.{one_stack}
 use Rattle.flow_check.proofs.RunLaws.{runs_one, none_empty, cancel}
 use Rattle.flow_check.proofs.SameShapes.{shapes, tops_one}
 
@@ -76,7 +75,7 @@ pub put_advances : (ns : List Node) (led : Option Led) (m : Mode) (s : flow.Shap
     → IsPut ns led m (left ls) bs s.handlers → Advances ns led (Operate ts ls) s
 put_advances ns None m s ts ls bs e f h = not_above s (taken ts) bs f h
 put_advances ns (Some led) m s ts ls bs e f h = (
-    (bs, f, h.0),
-    subst (λ x. IsNext ns led.next (Some x)) (taken_put (mode_of m) s (taken ts) (left ls) bs e f) h.1,
-    subst (λ t. IsTarget ns t None) (sym h.2) tt
-  )
+  (bs, f, h.0),
+  subst (λ x. IsNext ns led.next (Some x)) (taken_put (mode_of m) s (taken ts) (left ls) bs e f) h.1,
+  subst (λ t. IsTarget ns t None) (sym h.2) tt,
+)

@@ -1,25 +1,18 @@
 -- Marks tell which shapes reach the offsets from here on, and an instruction is one step of that.
-use Rattle.std.proofs.Common.{◌≡◌, ℕ, zero, suc, ◌+◌, ◌*◌, ◌<◌, ◌≤◌, List, [], ◌∷◌, ◌++◌, length, refl, sym, ap, ◌∙◌, subst, arith, Option, Some, None, Bool, true, false, inl, inr, ◌⊎◌, ◌&&◌, nat_lt, nat_eq, if◌then◌else◌}
+use Rattle.std.proofs.Common.{◌≡◌, ℕ, zero, suc, ◌<◌, List, [], ◌∷◌, refl, sym, ap, ◌∙◌, subst, arith, Option, Some, None, Bool, true, false, inl, inr, ◌⊎◌, nat_lt, nat_eq, if◌then◌else◌}
 use Rattle.std.specs.List.{Contains}
 use Rattle.std.proofs.lemmas.Bool.{cases_eq, cases_lt}
 use Rattle.std.proofs.lemmas.Bool.Decides.{nat_tests}
-use Rattle.model.specs.declared.instr.Instr.{Instr}
 use Rattle.model.specs.declared.image.Image.{Image}
-use Rattle.model.specs.Machine.{Fetched, Nowhere, At}
-use Rattle.model.specs.Modules.{bytes, fetch_from, total}
 use Rattle.model.specs.Flow as flow
 use Rattle.model.specs.Flow.{Asks, Begins, Reaches, BreaksFlow, IsLeast, begins_at, is_target}
 use Rattle.flow_check.specs.declared.pool.Node.{Node}
-use Rattle.flow_check.specs.declared.rules.Rule.{Rule}
 use Rattle.flow_check.specs.declared.shapes.Shape.{Shape}
 use Rattle.flow_check.specs.declared.marks.Mark.{Mark}
 use Rattle.flow_check.specs.declared.marks.Mark.TheVariants.{One, Torn}
 use Rattle.flow_check.specs.Numbers.{Distinct, Grows}
-use Rattle.flow_check.specs.Rules.{rule_of, Asked, next_of, target_of}
 use Rattle.flow_check.specs.Shapes.{IsShape, IsNext, IsTarget, same_shape}
 use Rattle.flow_check.specs.Marks.{joined, met, noted, followed, seeded}
-use Rattle.flow_check.proofs.ByRule.{asks_are, LedTo, fetch_lies, some_bytes}
-use Rattle.flow_check.proofs.Forward.{Known, Comes, known_reaches, reaches_known}
 use Rattle.flow_check.proofs.SameShapes.{same_true, same_back, shape_grown}
 
 -- a mark tells the shapes of which R holds: none, just one, or two that differ
@@ -64,16 +57,16 @@ tells_noted : (ns : List Node) → Distinct ns → (R : flow.Shape → Type 0) (
     → Tells ns (λ t. R t ⊎ ((o ≡ y) × (t ≡ e))) (noted o a m y)
 tells_noted ns d R o a e m y ha h =
     elim (cases_eq o y) [
-      inl same ↦
-        let b : nat_eq o y ≡ true = grind (arith, nat_tests, same) in
-        let g : Tells ns R (m o) = subst (λ z. Tells ns R (m z)) (sym same) h in
-        rw b (tells_same ns _ _ (joined a (m o))
+      | inl same ↦
+          let b : nat_eq o y ≡ true = grind (arith, nat_tests, same) in
+          let g : Tells ns R (m o) = subst (λ z. Tells ns R (m z)) (sym same) h in
+          rw b (tells_same ns _ _ (joined a (m o))
           (λ t k. elim k [ inl r ↦ inl r | inr q ↦ inr (same, q) ])
           (λ t k. elim k [ inl r ↦ inl r | inr q ↦ inr q.1 ])
           (tells_joined ns d R a e (m o) ha g))
-    | inr ne ↦
-        let b : nat_eq o y ≡ false = grind (arith, nat_tests, ne) in
-        rw b (tells_same ns _ _ (m y) (λ t r. inl r) (λ t k. elim k [ inl r ↦ r | inr q ↦ absurd (ne q.0) ]) h)
+      | inr ne ↦
+          let b : nat_eq o y ≡ false = grind (arith, nat_tests, ne) in
+          rw b (tells_same ns _ _ (m y) (λ t r. inl r) (λ t k. elim k [ inl r ↦ r | inr q ↦ absurd (ne q.0) ]) h)
     ]
 
 in_cons : (q p : ℕ) (ps : List ℕ) → Contains (q ∷ ps) p → (q ≡ p) ⊎ Contains ps p
@@ -91,9 +84,9 @@ tells_seeded ns d a e ha (o ∷ os) K m h y =
     (λ t k. elim k [ inl r ↦ elim r [ inl u ↦ inl u | inr v ↦ inr (first v.0, v.1) ] | inr q ↦ inr (to_tail o y os q.0, q.1) ])
     (λ t k. elim k [ inl r ↦ inl (inl r) | inr q ↦ elim (in_cons o y os q.0) [ inl u ↦ inl (inr (u, q.1)) | inr v ↦ inr (v, q.1) ] ])
     (tells_seeded ns d a e ha os (λ z t. K z t ⊎ ((o ≡ z) × (t ≡ e))) (noted o a m) (λ z. tells_noted ns d (K z) o a e m z ha (h z)) y)
-    where
-      first : o ≡ y → Contains (o ∷ os) y
-      first same = (0, omega arith, same)
+  where
+    first : o ≡ y → Contains (o ∷ os) y
+    first same = (0, omega arith, same)
 
 abbrev Place : Type 0
 Place = ℕ × flow.Shape
@@ -120,14 +113,14 @@ tells_followed im ns d R o (Some a) (Some b) m y lt at n h =
     let before : nat_lt o y ≡ true = grind (arith, nat_tests, lt) in
     let fits : is_target im o y ≡ true = rw (before, at) refl in
     elim (cases_lt o a.0) [
-      inl after ↦
-        let l : nat_lt o a.0 ≡ true = grind (arith, nat_tests, after) in
-        rw l (tells_same ns (λ t. R t ⊎ ((a.0 ≡ y) × (t ≡ b.1))) (λ t. R t ⊎ ((Some b ≡ Some (pair y t)) × (is_target im o y ≡ true))) (noted a.0 a.1 m y)
+      | inl after ↦
+          let l : nat_lt o a.0 ≡ true = grind (arith, nat_tests, after) in
+          rw l (tells_same ns (λ t. R t ⊎ ((a.0 ≡ y) × (t ≡ b.1))) (λ t. R t ⊎ ((Some b ≡ Some (pair y t)) × (is_target im o y ≡ true))) (noted a.0 a.1 m y)
           (λ t k. elim k [ inl x ↦ inl x | inr q ↦ inr (place_is b y t (sym n.0 ∙ q.0) q.1, fits) ])
           (λ t k. elim k [ inl x ↦ inl x | inr q ↦ let z = place_at b y t q.0 in inr (n.0 ∙ z.0, z.1) ])
           (tells_noted ns d R a.0 a.1 b.1 m y n.1 h))
-    | inr lacks ↦
-        let l : nat_lt o a.0 ≡ false = grind (arith, nat_tests, lacks) in
-        rw l (tells_same ns R (λ t. R t ⊎ ((Some b ≡ Some (pair y t)) × (is_target im o y ≡ true))) (m y) (λ t k. inl k)
+      | inr lacks ↦
+          let l : nat_lt o a.0 ≡ false = grind (arith, nat_tests, lacks) in
+          rw l (tells_same ns R (λ t. R t ⊎ ((Some b ≡ Some (pair y t)) × (is_target im o y ≡ true))) (m y) (λ t k. inl k)
           (λ t k. elim k [ inl x ↦ x | inr q ↦ let z = place_at b y t q.0 in let w = z.0 in let v = n.0 in absurd (omega (arith, w, v, lacks, lt)) ]) h)
     ]

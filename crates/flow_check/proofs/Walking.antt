@@ -1,20 +1,18 @@
 -- One step of the walk over the code.
-use Rattle.std.proofs.Common.{◌≡◌, ℕ, zero, suc, ◌+◌, ◌*◌, ◌<◌, ◌≤◌, List, [], ◌∷◌, length, refl, sym, ap, ◌∙◌, subst, arith, Option, Some, None, Bool, true, false, inl, inr, ◌⊎◌}
+use Rattle.std.proofs.Common.{◌≡◌, ℕ, ◌<◌, ◌≤◌, List, refl, sym, ap, ◌∙◌, subst, arith, Option, Some, None, true, inl, inr, ◌⊎◌}
 use Rattle.std.proofs.lemmas.Bool.{cases_eq, cases_lt}
 use Rattle.model.specs.declared.instr.Instr.{Instr}
 use Rattle.model.specs.declared.image.Image.{Image}
-use Rattle.model.specs.Machine.{Fetched, Nowhere, At}
-use Rattle.model.specs.Modules.{bytes, fetch_from, total}
+use Rattle.model.specs.Machine.{At}
+use Rattle.model.specs.Modules.{fetch_from}
 use Rattle.model.specs.Flow as flow
 use Rattle.model.specs.Flow.{Asks, Begins, Reaches, BreaksFlow, IsLeast, begins_at, is_target}
 use Rattle.flow_check.specs.declared.pool.Node.{Node}
-use Rattle.flow_check.specs.declared.rules.Rule.{Rule}
 use Rattle.flow_check.specs.declared.shapes.Shape.{Shape}
 use Rattle.flow_check.specs.declared.marks.Mark.{Mark}
-use Rattle.flow_check.specs.declared.marks.Mark.TheVariants.{One, Torn}
 use Rattle.flow_check.specs.Numbers.{Distinct, Grows}
 use Rattle.flow_check.specs.Rules.{rule_of, Asked, next_of, target_of}
-use Rattle.flow_check.specs.Shapes.{IsShape, IsNext, IsTarget}
+use Rattle.flow_check.specs.Shapes.{IsNext, IsTarget}
 use Rattle.flow_check.specs.Marks.{met, followed}
 use Rattle.flow_check.proofs.ByRule.{asks_are, LedTo, fetch_lies, some_bytes}
 use Rattle.flow_check.proofs.Forward.{Known, Comes, known_reaches, reaches_known}
@@ -42,10 +40,10 @@ module _ (im : Image) (o next : ℕ) (i : Instr) (at : fetch_from 0 im.code o �
   comes_cases : (y : ℕ) (t : flow.Shape) (k : Comes im next y t) → Comes im o y t ⊎ (k.before ≡ o)
   comes_cases y t k =
       elim (cases_eq k.before o) [
-        inl same ↦ inr same
-      | inr ne ↦ elim (cases_lt o k.before) [
-          inl lt ↦ let g = gap k.before k.instr k.next lt k.fetched in let e = k.earlier in absurd (omega (arith, g, e))
-        | inr le ↦ inl (comes_at o y t k (omega (arith, ne, le)))
+        | inl same ↦ inr same
+        | inr ne ↦ elim (cases_lt o k.before) [
+          | inl lt ↦ let g = gap k.before k.instr k.next lt k.fetched in let e = k.earlier in absurd (omega (arith, g, e))
+          | inr le ↦ inl (comes_at o y t k (omega (arith, ne, le)))
         ]
       ]
 
@@ -56,9 +54,9 @@ module _ (im : Image) (o next : ℕ) (i : Instr) (at : fetch_from 0 im.code o �
   known_skip : ((s : flow.Shape) → Reaches im o s → ⊥) → (y : ℕ) (t : flow.Shape) → Known im next y t → Known im o y t
   known_skip none y t (inl h) = inl h
   known_skip none y t (inr k) = elim (comes_cases y t k) [
-      inl c ↦ inr c
+    | inl c ↦ inr c
     | inr same ↦ absurd (none k.first (subst (λ z. Reaches im z k.first) same k.reached))
-    ]
+  ]
 
   module _ (s : flow.Shape) (only : (t : flow.Shape) → Reaches im o t → t ≡ s) where
     led_here : (y : ℕ) (t : flow.Shape) (k : Comes im next y t) → k.before ≡ o → LedTo im o next (rule_of i) s y t
@@ -84,7 +82,7 @@ module _ (im : Image) (o next : ℕ) (i : Instr) (at : fetch_from 0 im.code o �
   pub told_skip : (ns : List Node) (m : ℕ → Option Mark) (c : Option Shape) → ((s : flow.Shape) → Reaches im o s → ⊥) → Told im ns m c o → Told im ns m None next
   told_skip ns m c none h = record {
     here = λ b. tells_same ns (Known im o next) (Known im next next) (m next) (known_more next) (known_skip none next) (h.later next onward b);
-    later = λ y lt b. tells_same ns (Known im o y) (Known im next y) (m y) (known_more y) (known_skip none y) (h.later y (let n = onward in omega (arith, lt, n)) b)
+    later = λ y lt b. tells_same ns (Known im o y) (Known im next y) (m y) (known_more y) (known_skip none y) (h.later y (let n = onward in omega (arith, lt, n)) b);
   }
 
   -- one shape comes here, and has what is asked
@@ -93,15 +91,15 @@ module _ (im : Image) (o next : ℕ) (i : Instr) (at : fetch_from 0 im.code o �
       → ((y : ℕ) → m' y ≡ followed o l m y) → Told im ns m c o → Told im more m' c' next
   told_step ns more m m' c c' l s g d r only a n t e h = record {
     here = λ b.
-      tells_same more (λ u. (Known im o next u ⊎ To next u) ⊎ (next_of (rule_of i) s ≡ Some u)) (Known im next next) (met c' (m' next))
-      (λ u k. back next u (elim k [ inl x ↦ elim x [ inl p ↦ inl p | inr q ↦ inr (inr q) ] | inr w ↦ inr (inl (refl, w)) ]))
-      (λ u k. elim (known_step s only next u k) [ inl p ↦ inl (inl p) | inr led ↦ elim led [ inl w ↦ inr w.1 | inr q ↦ inl (inr q) ] ])
-      (tells_next more d (λ u. Known im o next u ⊎ To next u) c' (next_of (rule_of i) s) (m' next) n (at_target next onward b));
+        tells_same more (λ u. (Known im o next u ⊎ To next u) ⊎ (next_of (rule_of i) s ≡ Some u)) (Known im next next) (met c' (m' next))
+        (λ u k. back next u (elim k [ inl x ↦ elim x [ inl p ↦ inl p | inr q ↦ inr (inr q) ] | inr w ↦ inr (inl (refl, w)) ]))
+        (λ u k. elim (known_step s only next u k) [ inl p ↦ inl (inl p) | inr led ↦ elim led [ inl w ↦ inr w.1 | inr q ↦ inl (inr q) ] ])
+        (tells_next more d (λ u. Known im o next u ⊎ To next u) c' (next_of (rule_of i) s) (m' next) n (at_target next onward b));
     later = λ y lt b.
-      tells_same more (λ u. Known im o y u ⊎ To y u) (Known im next y) (m' y)
-      (λ u k. back y u (elim k [ inl p ↦ inl p | inr q ↦ inr (inr q) ]))
-      (λ u k. elim (known_step s only y u k) [ inl p ↦ inl p | inr led ↦ elim led [ inl w ↦ (let z = w.0 in absurd (omega (arith, z, lt))) | inr q ↦ inr q ] ])
-      (at_target y (let z = onward in omega (arith, lt, z)) b)
+        tells_same more (λ u. Known im o y u ⊎ To y u) (Known im next y) (m' y)
+        (λ u k. back y u (elim k [ inl p ↦ inl p | inr q ↦ inr (inr q) ]))
+        (λ u k. elim (known_step s only y u k) [ inl p ↦ inl p | inr led ↦ elim led [ inl w ↦ (let z = w.0 in absurd (omega (arith, z, lt))) | inr q ↦ inr q ] ])
+        (at_target y (let z = onward in omega (arith, lt, z)) b);
   }
     where
       To : ℕ → flow.Shape → Type 0
@@ -131,21 +129,21 @@ module _ (im : Image) (o next : ℕ) (i : Instr) (at : fetch_from 0 im.code o �
   pub clear_more : ((y : ℕ) → y < o → BreaksFlow im y → ⊥) → (BreaksFlow im o → ⊥) → (y : ℕ) → y < next → BreaksFlow im y → ⊥
   clear_more below here y lt b =
       elim (cases_eq y o) [
-        inl same ↦ here (subst (BreaksFlow im) same b)
-      | inr ne ↦ elim (cases_lt o y) [
-          inl after ↦ let g = gap y b.0 b.1 after b.2 in absurd (omega (arith, g, lt))
-        | inr le ↦ below y (omega (arith, ne, le)) b
+        | inl same ↦ here (subst (BreaksFlow im) same b)
+        | inr ne ↦ elim (cases_lt o y) [
+          | inl after ↦ let g = gap y b.0 b.1 after b.2 in absurd (omega (arith, g, lt))
+          | inr le ↦ below y (omega (arith, ne, le)) b
         ]
       ]
 
   pub least_lacks : ((y : ℕ) → y < o → BreaksFlow im y → ⊥) → (s : flow.Shape) → Reaches im o s → (Asked (rule_of i) s → ⊥) → IsLeast (BreaksFlow im) (Some o)
   least_lacks below s r lacks = (
-      (i, next, at, inl (s, r, λ h. lacks ((asks_are i s).0 h))),
-      λ y b. elim (cases_lt y o) [ inl lt ↦ absurd (below y lt b) | inr le ↦ le ]
-    )
+    (i, next, at, inl (s, r, λ h. lacks ((asks_are i s).0 h))),
+    λ y b. elim (cases_lt y o) [ inl lt ↦ absurd (below y lt b) | inr le ↦ le ],
+  )
 
   pub least_torn : ((y : ℕ) → y < o → BreaksFlow im y → ⊥) → (s t : flow.Shape) → Reaches im o s → Reaches im o t → (s ≡ t → ⊥) → IsLeast (BreaksFlow im) (Some o)
   least_torn below s t r q ne = (
-      (i, next, at, inr (s, t, r, q, ne)),
-      λ y b. elim (cases_lt y o) [ inl lt ↦ absurd (below y lt b) | inr le ↦ le ]
-    )
+    (i, next, at, inr (s, t, r, q, ne)),
+    λ y b. elim (cases_lt y o) [ inl lt ↦ absurd (below y lt b) | inr le ↦ le ],
+  )

@@ -1,13 +1,10 @@
 -- The whole walk.
-use Rattle.std.proofs.Common.{◌≡◌, ℕ, zero, suc, ◌+◌, ◌*◌, ◌^◌, ◌<◌, ◌≤◌, List, [], ◌∷◌, ◌++◌, length, drop, get_or, refl, sym, ap, ◌∙◌, subst, arith, Option, Some, None, Bool, true, false, inl, inr, ◌⊎◌, length-append}
+use Rattle.std.proofs.Common.{◌≡◌, ℕ, zero, suc, ◌+◌, ◌^◌, ◌<◌, ◌≤◌, List, [], ◌∷◌, ◌++◌, length, drop, get_or, refl, sym, ap, ◌∙◌, subst, arith, Option, Some, None, Bool, true, false, inl, inr, length-append}
 use Rattle.std.specs.Prelude.{◌==◌}
-use Rattle.std.specs.List.{flat_map}
-use Rattle.std.specs.Int.{w16, w32, w64, to_be_bytes}
-use Rattle.std.proofs.lemmas.Bool.{cases_eq, cases_lt}
 use Rattle.model.specs.declared.instr.Instr.{Instr}
 use Rattle.model.specs.declared.instr.Instr.TheVariants as op
 use Rattle.model.specs.declared.image.Image.{Image}
-use Rattle.model.specs.Machine.{Fetched, Nowhere, At}
+use Rattle.model.specs.Machine.{At}
 use Rattle.model.specs.Modules.{bytes, fetch_from, total}
 use Rattle.model.specs.Spelling.{instr, code_bytes, u16, u32, u64}
 use Rattle.model.specs.Flow as flow
@@ -15,15 +12,14 @@ use Rattle.model.specs.Flow.{Reaches, BreaksFlow, IsLeast, begins_at}
 use Rattle.flow_check.specs.declared.pool.Node.{Node}
 use Rattle.flow_check.specs.declared.shapes.Shape.{Shape}
 use Rattle.flow_check.specs.declared.shapes.Mode.TheVariants.{Goto, Evaluation}
-use Rattle.flow_check.specs.declared.shapes.Led.{Led}
 use Rattle.flow_check.specs.declared.marks.Mark.{Mark}
 use Rattle.flow_check.specs.declared.marks.Mark.TheVariants.{One, Torn}
-use Rattle.flow_check.specs.Numbers.{Distinct, Grows}
+use Rattle.flow_check.specs.Numbers.{Distinct}
 use Rattle.flow_check.specs.Rules.{rule_of, next_of}
 use Rattle.flow_check.specs.Shapes.{IsShape, IsNext, empty_shape}
-use Rattle.flow_check.specs.Marks.{met, seeded, Goes, Followed, Stepped}
+use Rattle.flow_check.specs.Marks.{met, seeded, Followed, Stepped}
 use Rattle.flow_check.proofs.ByRule.{fetch_lies, some_bytes}
-use Rattle.flow_check.proofs.Forward.{Known, Comes, short}
+use Rattle.flow_check.proofs.Forward.{Known, short}
 use Rattle.flow_check.proofs.SameShapes.{empty_is}
 use Rattle.flow_check.proofs.Telling.{Tells, tells_same, tells_seeded}
 use Rattle.flow_check.proofs.Walking.{Told, here_tells, told_skip, told_step, no_fault_none, no_fault_one, clear_more, least_lacks, least_torn}
@@ -106,7 +102,7 @@ walk_starts im ns m e h = record {
   stands = record { tail = λ x le. refl; whole = omega arith };
   told = record { here = λ b. tells 0; later = λ y lt b. tells y };
   clear = λ y lt b. absurd (omega (arith, lt));
-  distinct = none_twice
+  distinct = none_twice;
 }
   where
     none_twice : Distinct ns
@@ -116,10 +112,10 @@ walk_starts im ns m e h = record {
     tells y =
         subst (λ z. Tells ns (Known im 0 y) z) (sym (h y))
         (tells_same ns _ (Known im 0 y) (seeded im.expressions (empty_shape Evaluation) (seeded im.statements (empty_shape Goto) (λ z. None)) y)
-          (λ t k. elim k [ inl x ↦ elim x [ inl f ↦ absurd f | inr q ↦ inl (inl q) ] | inr q ↦ inl (inr q) ])
-          (λ t k. elim (begins_known im y t k) [ inl q ↦ inl (inr q) | inr q ↦ inr q ])
-          (tells_seeded ns none_twice (empty_shape Evaluation) flow.asked (empty_is ns Evaluation) im.expressions _ _
-            (tells_seeded ns none_twice (empty_shape Goto) flow.bare (empty_is ns Goto) im.statements (λ z t. ⊥) (λ z. None) (λ z t x. x)) y))
+        (λ t k. elim k [ inl x ↦ elim x [ inl f ↦ absurd f | inr q ↦ inl (inl q) ] | inr q ↦ inl (inr q) ])
+        (λ t k. elim (begins_known im y t k) [ inl q ↦ inl (inr q) | inr q ↦ inr q ])
+        (tells_seeded ns none_twice (empty_shape Evaluation) flow.asked (empty_is ns Evaluation) im.expressions _ _
+        (tells_seeded ns none_twice (empty_shape Goto) flow.bare (empty_is ns Goto) im.statements (λ z t. ⊥) (λ z. None) (λ z t x. x)) y))
 
 pub walk_ends : (im : Image) (ns : List Node) (m : ℕ → Option Mark) (c : Option Shape) (k o : ℕ) → Walked im ns m c k o → length im.code ≡ k → IsLeast (BreaksFlow im) None
 walk_ends im ns m c k o w e = λ y b.
@@ -177,15 +173,15 @@ module _ (im : Image) (ns : List Node) (m : ℕ → Option Mark) (c : Option Sha
       stands = stands_next;
       told = same_told (told_skip im o (o + bytes i) i at gap ns m c none w.told);
       clear = clear_more im o (o + bytes i) i at gap w.clear (no_fault_none im o (o + bytes i) i at gap none);
-      distinct = subst Distinct (sym e) w.distinct
+      distinct = subst Distinct (sym e) w.distinct;
     }
       where
         same_told : Told im ns m None (o + bytes i) → Told im more m' c' (o + bytes i)
         same_told t = record {
           here = λ b. subst (λ x. Tells x (Known im (o + bytes i) (o + bytes i)) (met c' (m' (o + bytes i)))) (sym e)
-            (subst (λ x. Tells ns (Known im (o + bytes i) (o + bytes i)) (met x (m' (o + bytes i)))) (sym f)
-            (subst (λ x. Tells ns (Known im (o + bytes i) (o + bytes i)) x) (sym (g (o + bytes i))) (t.here b)));
-          later = λ y less b. subst (λ x. Tells x (Known im (o + bytes i) y) (m' y)) (sym e) (subst (λ x. Tells ns (Known im (o + bytes i) y) x) (sym (g y)) (t.later y less b))
+              (subst (λ x. Tells ns (Known im (o + bytes i) (o + bytes i)) (met x (m' (o + bytes i)))) (sym f)
+              (subst (λ x. Tells ns (Known im (o + bytes i) (o + bytes i)) x) (sym (g (o + bytes i))) (t.here b)));
+          later = λ y less b. subst (λ x. Tells x (Known im (o + bytes i) y) (m' y)) (sym e) (subst (λ x. Tells ns (Known im (o + bytes i) y) x) (sym (g y)) (t.later y less b));
         }
 
     walk_one : (a : Shape) → Tells ns (Reaches im o) (Some (One a)) → Followed ns more m m' c' o (rule_of i) a true → Walked im more m' c' (k + 1) (o + bytes i)
@@ -197,7 +193,7 @@ module _ (im : Image) (ns : List Node) (m : ℕ → Option Mark) (c : Option Sha
           stands = stands_next;
           told = told_step im o (o + bytes i) i at gap ns more m m' c c' led.target t.0 g d t.2 t.3 s.0 (subst (λ x. IsNext more x (next_of (rule_of i) t.0)) (sym goes.1) s.1) s.2 goes.2 w.told;
           clear = clear_more im o (o + bytes i) i at gap w.clear (no_fault_one im o (o + bytes i) i at gap t.0 t.3 s.0);
-          distinct = d
+          distinct = d;
         }
 
     walk_by : (mark : Option Mark) → Tells ns (Reaches im o) mark → Stepped ns more m m' c' o (rule_of i) mark true → Walked im more m' c' (k + 1) (o + bytes i)

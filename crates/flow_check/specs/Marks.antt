@@ -1,5 +1,5 @@
 -- What is known of the shapes at an offset.
-use Rattle.std.specs.Prelude.{◌≡◌, true, false, ℕ, List, [], ◌∷◌, Option, Some, None, Bool, ◌&&◌, nat_lt, nat_eq, if◌then◌else◌}
+use Rattle.std.specs.Prelude.{◌≡◌, true, false, ℕ, List, [], ◌∷◌, Option, Some, None, Bool, nat_lt, nat_eq, if◌then◌else◌}
 use Rattle.flow_check.specs.declared.shapes.Shape.{Shape}
 use Rattle.indexmap.specs.IndexMap.{get}
 use Rattle.flow_check.specs.declared.marks.Marks.{Marks}

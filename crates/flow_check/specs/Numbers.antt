@@ -2,7 +2,7 @@
 use Rattle.std.specs.Prelude.{◌≡◌, ℕ, List, [], ◌∷◌, ◌++◌, Option, Some, None, Bool, true, false, ◌==◌, ◌+◌, ◌-◌, nat_lt, if◌then◌else◌, slice_get}
 use Rattle.flow_check.specs.declared.pool.Kind.{Kind}
 use Rattle.flow_check.specs.declared.pool.Kind.TheVariants.{Value, Name, Span}
-use Rattle.flow_check.specs.declared.pool.Top.TheVariants.{Run, Begin, Try}
+use Rattle.flow_check.specs.declared.pool.Top.TheVariants.{Run}
 use Rattle.flow_check.specs.declared.pool.Top.{Top}
 use Rattle.flow_check.specs.declared.pool.Node.{Node}
 

@@ -1,9 +1,9 @@
 -- What an instruction asks, takes and leaves, by its rule.
-use Rattle.std.specs.Prelude.{◌≡◌, ℕ, zero, suc, List, [], ◌∷◌, ◌++◌, length, drop, replicate, Option, Some, None}
+use Rattle.std.specs.Prelude.{◌≡◌, ℕ, suc, List, [], ◌∷◌, ◌++◌, length, drop, replicate, Option, Some, None}
 use Rattle.model.specs.declared.instr.Instr.{Instr}
 use Rattle.model.specs.declared.instr.Instr.TheVariants as op
 use Rattle.model.specs.declared.image.Image.{Image}
-use Rattle.model.specs.Machine.{Handler, OnBegin, OnTry}
+use Rattle.model.specs.Machine.{OnBegin, OnTry}
 use Rattle.model.specs.Flow as flow
 use Rattle.model.specs.Flow.{Shape, shape, bare, V, N, R, InBody, InGoto, InEvaluation, Above, IsInTry, to_target}
 use Rattle.flow_check.specs.declared.pool.Kind.{Kind}

@@ -1,11 +1,11 @@
 -- Shapes by the numbers of their stacks.
-use Rattle.std.specs.Prelude.{◌≡◌, ℕ, suc, List, [], ◌∷◌, ◌++◌, length, map, Option, Some, None, Bool, true, false, ◌&&◌, ◌==◌, ◌+◌, ◌<◌, ◌≤◌, if◌then◌else◌, nat_eq}
+use Rattle.std.specs.Prelude.{◌≡◌, ℕ, List, [], ◌∷◌, ◌++◌, length, map, Option, Some, None, Bool, true, false, ◌&&◌, ◌==◌, ◌<◌, ◌≤◌}
 use Rattle.model.specs.Machine.{Handler, OnBegin, OnTry}
 use Rattle.model.specs.Flow as flow
 use Rattle.flow_check.specs.declared.pool.Kind.{Kind}
 use Rattle.flow_check.specs.declared.pool.Kind.TheVariants.{Value, Name, Span}
 use Rattle.flow_check.specs.declared.pool.Top.{Top}
-use Rattle.flow_check.specs.declared.pool.Top.TheVariants.{Run, Begin, Try}
+use Rattle.flow_check.specs.declared.pool.Top.TheVariants.{Begin, Try}
 use Rattle.flow_check.specs.declared.pool.Node.{Node}
 use Rattle.flow_check.specs.declared.shapes.Mode.{Mode}
 use Rattle.flow_check.specs.declared.shapes.Mode.TheVariants.{Body, Goto, Evaluation}

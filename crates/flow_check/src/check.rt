@@ -35,7 +35,11 @@ fn roots(alloc: Global, image: &Image) -> Result<Marks, AllocError>
 {
     let mut marks = Marks::new(alloc);
     seed(&mut marks, image.statements.as_slice(), empty(Mode::Goto))?;
-    seed(&mut marks, image.expressions.as_slice(), empty(Mode::Evaluation))?;
+    seed(
+        &mut marks,
+        image.expressions.as_slice(),
+        empty(Mode::Evaluation),
+    )?;
     Ok(marks)
 }
 

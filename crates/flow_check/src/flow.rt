@@ -145,10 +145,12 @@ fn leave_try(pool: &Pool, shape: Shape) -> Option<Led>
     ensures { (s : flow.Shape) → IsShape pool.now.nodes.keys shape s → Advances pool.now.nodes.keys result rules.Untry s }
 {
     match pool.top(shape.handlers) {
-        Some(Node {
-            top: Top::Try(..),
-            below,
-        }) => Some(Led {
+        Some(
+            Node {
+                top: Top::Try(..),
+                below,
+            },
+        ) => Some(Led {
             next: Some(Shape {
                 handlers: below,
                 ..shape
@@ -162,11 +164,21 @@ fn leave_try(pool: &Pool, shape: Shape) -> Option<Led>
 fn fail(pool: &Pool, shape: Shape) -> Option<Led>
     ensures { (s : flow.Shape) → IsShape pool.now.nodes.keys shape s → Advances pool.now.nodes.keys result rules.Fail s }
 {
-    if is_kept(pool, shape) { Some(NOWHERE) } else { None }
+    if is_kept(pool, shape) {
+        Some(NOWHERE)
+    } else {
+        None
+    }
 }
 
 /// The other half of an operation: what it leaves on the stack below what it took.
-fn put_back(pool: &mut Pool, leaves: Leaves, below: Stack, depth: u32, shape: Shape) -> Result<Option<Led>, AllocError>
+fn put_back(
+    pool: &mut Pool,
+    leaves: Leaves,
+    below: Stack,
+    depth: u32,
+    shape: Shape,
+) -> Result<Option<Led>, AllocError>
     requires { (ks : List flow.Kind) × Is pool.old.nodes.keys below (runs ks) × (length ks < 2 ^ 31) × (depth ≡ length ks) }
     ensures grows { OnOk result (Grows pool.old.nodes.keys pool.new.nodes.keys) }
     ensures put { IfOk result (λ led. (ks : List flow.Kind) → (hs : List Handler) → Is pool.old.nodes.keys below (runs ks) → depth ≡ length ks → Is pool.old.nodes.keys shape.handlers (map top_of hs) → IsPut pool.new.nodes.keys led shape.mode (left leaves) ks hs) }
@@ -186,7 +198,12 @@ fn put_back(pool: &mut Pool, leaves: Leaves, below: Stack, depth: u32, shape: Sh
     }))
 }
 
-fn operate(pool: &mut Pool, takes: Takes, leaves: Leaves, shape: Shape) -> Result<Option<Led>, AllocError>
+fn operate(
+    pool: &mut Pool,
+    takes: Takes,
+    leaves: Leaves,
+    shape: Shape,
+) -> Result<Option<Led>, AllocError>
     requires { (s : flow.Shape) × IsShape pool.old.nodes.keys shape s × (length s.kinds < 2 ^ 31) }
     ensures grows { OnOk result (Grows pool.old.nodes.keys pool.new.nodes.keys) }
     ensures advanced { IfOk result (λ led. (s : flow.Shape) → IsShape pool.old.nodes.keys shape s → Advances pool.new.nodes.keys led (rules.Operate takes leaves) s) }

@@ -37,7 +37,12 @@ impl Pool {
         }
     }
 
-    fn pop_both(&mut self, upper: Run, lower: Run, stack: Stack) -> Result<Option<Stack>, AllocError>
+    fn pop_both(
+        &mut self,
+        upper: Run,
+        lower: Run,
+        stack: Stack,
+    ) -> Result<Option<Stack>, AllocError>
         ensures grows { OnOk result (Grows self.old.nodes.keys self.new.nodes.keys) }
         ensures taken { IfOk result (λ k. (ks : List flow.Kind) → Is self.old.nodes.keys stack (runs ks) → IsTaken self.new.nodes.keys k (run_kinds upper ++ run_kinds lower) ks) }
     {
@@ -81,10 +86,12 @@ impl Pool {
         ensures { (hs : List Handler) → Is self.now.nodes.keys handlers (map top_of hs) → result ≡ floor_of hs }
     {
         match self.top(handlers) {
-            Some(Node {
-                top: Top::Try(_, depth),
-                ..
-            }) => depth,
+            Some(
+                Node {
+                    top: Top::Try(_, depth),
+                    ..
+                },
+            ) => depth,
             _ => 0,
         }
     }

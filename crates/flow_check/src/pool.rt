@@ -74,10 +74,12 @@ impl Pool {
         ensures { (ts : List Top) → Is self.now.nodes.keys stack ts → (result.0 ≡ run_length kind ts) × Is self.now.nodes.keys result.1 (below_run kind ts) }
     {
         match self.top(stack) {
-            Some(Node {
-                top: Top::Run(of, count),
-                below,
-            }) if kind == of => (count, below),
+            Some(
+                Node {
+                    top: Top::Run(of, count),
+                    below,
+                },
+            ) if kind == of => (count, below),
             _ => (0, stack),
         }
     }
@@ -94,7 +96,12 @@ impl Pool {
     }
 
     /// The stack without so many operands of a kind, if they stand uppermost.
-    pub(crate) fn pop(&mut self, kind: Kind, count: u32, stack: Stack) -> Result<Option<Stack>, AllocError>
+    pub(crate) fn pop(
+        &mut self,
+        kind: Kind,
+        count: u32,
+        stack: Stack,
+    ) -> Result<Option<Stack>, AllocError>
         ensures grows { OnOk result (Grows self.old.nodes.keys self.new.nodes.keys) }
         ensures popped { IfOk result (λ k. (ts : List Top) → Is self.old.nodes.keys stack ts → AreBoth self.new.nodes.keys k (popped kind count ts)) }
     {

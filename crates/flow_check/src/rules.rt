@@ -131,9 +131,12 @@ pub(crate) fn rule_for(instr: Instr) -> Rule
         Instr::Try(target) => Rule::Try(target),
         Instr::Untry => Rule::Untry,
         Instr::Fail => Rule::Fail,
-        Instr::Str(_) | Instr::Int(_) | Instr::Null | Instr::KeyGet(_) | Instr::Expr(_) | Instr::Pat(_) => {
-            Rule::Operate(Takes::Values(0), Leaves::Value)
-        }
+        Instr::Str(_)
+        | Instr::Int(_)
+        | Instr::Null
+        | Instr::KeyGet(_)
+        | Instr::Expr(_)
+        | Instr::Pat(_) => { Rule::Operate(Takes::Values(0), Leaves::Value) }
         Instr::Var(_) => Rule::Operate(Takes::Values(0), Leaves::Name),
         Instr::Fetch | Instr::NameV | Instr::Cursor => Rule::Operate(Takes::Name, Leaves::Value),
         Instr::KeySet(_) | Instr::Drop => Rule::Operate(Takes::Values(1), Leaves::Nothing),

@@ -1,5 +1,4 @@
-use Rattle.std.proofs.Common.{◌≡◌, ◌<◌, ◌≤◌, length, arith, rules, ap, sym, subst, true, false}
-use Rattle.std.proofs.lemmas.Bool.Decides.{nat_tests}
+use Rattle.std.proofs.Common.{◌≡◌, ◌<◌, length, arith, rules, subst, true, false}
 use Rattle.model.specs.declared.instr.Instr.TheVariants.{End}
 use Rattle.flow_check.proofs.Whole.{walk_starts, walk_ends, walk_short, walk_sum, walk_on, walk_stops, item_at, code_few}
 use Rattle.flow_check.proofs.check.check_flow.Goals as goal
@@ -19,7 +18,7 @@ returns-then-not-fine c =
     let lt = subst (λ l. c.loop-instr.instr-index < length l) c.loop-instr.invariant.code within in
     let stop : c.in_ok-fine.fine ≡ false = search rules in
     record {
-      least = walk_stops _ _ _ _ c.loop-instr.instr-index c.loop-instr.at c.loop-instr.invariant.walked _ lt (item_at c.args.image.now.code c.as_slice-code.result.now c.loop-instr.instr-index _ c.loop-instr.invariant.code within) _ _ _ _ stop c.in_ok-fine.ensures
+      least = walk_stops _ _ _ _ c.loop-instr.instr-index c.loop-instr.at c.loop-instr.invariant.walked _ lt (item_at c.args.image.now.code c.as_slice-code.result.now c.loop-instr.instr-index _ c.loop-instr.invariant.code within) _ _ _ _ stop c.in_ok-fine.ensures;
     }
 
 pub overflow_add-at : goal.overflow_add-at
@@ -36,7 +35,7 @@ loop-instr-preserved c =
     let yes : c.in_ok-fine.fine ≡ true = search rules in
     record {
       code = c.loop-instr.invariant.code;
-      walked = walk_on _ _ _ _ c.loop-instr.instr-index c.loop-instr.at c.loop-instr.invariant.walked _ lt (item_at c.args.image.now.code c.as_slice-code.result.now c.loop-instr.instr-index _ c.loop-instr.invariant.code within) _ _ _ _ _ c.size-at.ensures yes c.in_ok-fine.ensures
+      walked = walk_on _ _ _ _ c.loop-instr.instr-index c.loop-instr.at c.loop-instr.invariant.walked _ lt (item_at c.args.image.now.code c.as_slice-code.result.now c.loop-instr.instr-index _ c.loop-instr.invariant.code within) _ _ _ _ _ c.size-at.ensures yes c.in_ok-fine.ensures;
     }
 
 pub returns : goal.returns

@@ -6,5 +6,5 @@ use Rattle.flow_check.proofs.check.check_flow.Given as goal
 abbrev pub invariant-loop-instr : goal.invariant-loop-instr
 invariant-loop-instr l = record {
   code : l.code ≡ l.image.code;
-  walked : Walked l.image l.walk.pool.nodes.keys (marked l.walk.marks) l.walk.carried l.instr-index l.at
+  walked : Walked l.image l.walk.pool.nodes.keys (marked l.walk.marks) l.walk.carried l.instr-index l.at;
 }

@@ -1,5 +1,4 @@
-use Rattle.std.proofs.Common.{◌≡◌, ◌∙◌, ◌<◌, length, arith, rules, refl}
-use Rattle.std.proofs.lemmas.Bool.Decides.{nat_tests}
+use Rattle.std.proofs.Common.{◌∙◌, ◌<◌, length, arith}
 use Rattle.flow_check.specs.Marks.{marked}
 use Rattle.flow_check.proofs.Seeding.{seed_step, any_default}
 use Rattle.flow_check.proofs.check.seed.Goals as goal

@@ -1,4 +1,4 @@
-use Rattle.std.proofs.Common.{◌≡◌, refl, sym, subst}
+use Rattle.std.proofs.Common.{refl, sym, subst}
 use Rattle.model.specs.Flow as flow
 use Rattle.flow_check.specs.declared.shapes.Mode.TheVariants.{Goto}
 use Rattle.flow_check.specs.Shapes.{IsShape}

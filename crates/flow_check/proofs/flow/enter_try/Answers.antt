@@ -1,8 +1,6 @@
-use Rattle.std.proofs.Common.{◌≡◌, ◌∙◌, refl, ap, Some}
-use Rattle.model.specs.Flow as flow
+use Rattle.std.proofs.Common.{◌∙◌, refl, ap, Some}
 use Rattle.flow_check.specs.declared.pool.Top.TheVariants.{Try}
 use Rattle.flow_check.specs.Numbers.{node}
-use Rattle.flow_check.proofs.Stacks.{grown}
 use Rattle.flow_check.proofs.SameShapes.{shape_grown}
 use Rattle.flow_check.proofs.flow.enter_try.Goals as goal
 

@@ -1,4 +1,4 @@
-use Rattle.std.proofs.Common.{◌≡◌, refl, ap, List}
+use Rattle.std.proofs.Common.{refl, ap}
 use Rattle.model.specs.Flow as flow
 use Rattle.flow_check.proofs.RunLaws.{none_from}
 use Rattle.flow_check.proofs.Steps.{with_value}

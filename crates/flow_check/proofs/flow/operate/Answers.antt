@@ -1,4 +1,4 @@
-use Rattle.std.proofs.Common.{◌≡◌, ◌-◌, arith, length, ◌∙◌, ap}
+use Rattle.std.proofs.Common.{◌≡◌, ◌-◌, length, ◌∙◌, ap}
 use Rattle.flow_check.proofs.Stacks.{grown}
 use Rattle.flow_check.proofs.Steps.{put_advances, taken_at, depth_left}
 use Rattle.flow_check.specs.Rules.{taken}

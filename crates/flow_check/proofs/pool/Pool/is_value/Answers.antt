@@ -10,5 +10,5 @@ returns-then-count-eq1 c = λ ks h.
     let one : c.run-count.result.0 ≡ 1 = grind (arith, nat_tests) in
     let d = none_from _ _ c.is_none.ensures in (
       λ t. one_value _ _ _ ks r.0 r.1 one (d.0 t),
-      λ e. d.1 (value_alone _ _ _ ks r.0 r.1 e)
+      λ e. d.1 (value_alone _ _ _ ks r.0 r.1 e),
     )

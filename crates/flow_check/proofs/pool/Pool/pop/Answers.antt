@@ -1,6 +1,4 @@
-use Rattle.std.proofs.Common.{◌≡◌, ◌∙◌, ap, ◌+◌, ◌-◌, Some, subst, sym, rules}
-use Rattle.flow_check.specs.declared.pool.Top.TheVariants.{Run}
-use Rattle.flow_check.specs.Numbers.{node, AreBoth}
+use Rattle.std.proofs.Common.{rules}
 use Rattle.flow_check.proofs.Stacks.{grown, pop_part}
 use Rattle.flow_check.proofs.pool.Pool.pop.Goals as goal
 

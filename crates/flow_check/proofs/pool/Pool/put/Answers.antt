@@ -1,10 +1,8 @@
-use Rattle.std.proofs.Common.{◌≡◌, ℕ, Bool, true, Option, Some, None, arith, rules}
-use Rattle.std.specs.Prelude.{◌==◌}
+use Rattle.std.proofs.Common.{◌≡◌, ℕ, true, Option, Some, None, rules}
 use Rattle.flow_check.specs.contracts.pool.NodePartialEq.TheImpl as node_eq
 use Rattle.flow_check.specs.declared.pool.Kind.TheVariants.{Value, Name, Span}
 use Rattle.flow_check.specs.declared.pool.Top.{Top}
 use Rattle.flow_check.specs.declared.pool.Top.TheVariants.{Run, Begin, Try}
-use Rattle.flow_check.specs.declared.pool.Node.{Node}
 use Rattle.flow_check.specs.Numbers.{node}
 use Rattle.flow_check.proofs.Stacks.{put_grows}
 use Rattle.flow_check.proofs.pool.Pool.put.Goals as goal
