@@ -1,0 +1,3 @@
+pub mod Variables
+pub mod FirstWorld
+pub mod Integers
