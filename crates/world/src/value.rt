@@ -1,0 +1,70 @@
+//! Values.
+
+ghost use Rattle.std.specs.Prelude.{◌≡◌, []};
+ghost use Rattle.model.specs.Values.{Str};
+ghost use Rattle.model.specs.Conversions.{is_null};
+ghost use Rattle.world.specs.Values.{value_of, has_text};
+
+use pattern_compiler::{Name, PatCode};
+use std::alloc::AllocError;
+use strings::Text;
+
+/// A value. Its clones share its bytes and its code.
+#[derive(Drop)]
+pub enum Value {
+    String(Text),
+    Integer(i64),
+    Pattern(PatCode),
+    Name(Name),
+    /// An expression that isn't evaluated, by its number.
+    Expression(u32),
+    /// An array, a table or a record, by its number in the order of making.
+    Object(usize),
+}
+
+impl Clone for Value {
+    ghost use Rattle.std.specs.Prelude.{◌≡◌};
+
+    ghost is_clone = { λ value copy. copy ≡ value };
+
+    fn clone(&self) -> Result<Value, AllocError> {
+        Ok(match self {
+            Value::String(text) => Value::String(text.clone()?),
+            Value::Integer(n) => Value::Integer(*n),
+            Value::Pattern(code) => Value::Pattern(code.clone()?),
+            Value::Name(name) => Value::Name(name.clone()?),
+            Value::Expression(expr) => Value::Expression(*expr),
+            Value::Object(object) => Value::Object(*object),
+        })
+    }
+}
+
+impl Value {
+    /// The null string. Takes no memory.
+    pub fn null() -> Value
+        ensures { value_of result ≡ Str [] }
+    {
+        Value::String(Text::null())
+    }
+
+    /// Whether it is the null string.
+    pub fn is_null(&self) -> bool
+        ensures { result ≡ is_null (value_of self.now) }
+    {
+        match self {
+            Value::String(text) => text.is_empty(),
+            _ => false,
+        }
+    }
+
+    /// Whether it converts to a string.
+    pub fn has_text(&self) -> bool
+        ensures { result ≡ has_text (value_of self.now) }
+    {
+        match self {
+            Value::String(_) => true,
+            Value::Integer(_) => true,
+            _ => false,
+        }
+    }
+}

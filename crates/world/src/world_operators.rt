@@ -1,0 +1,88 @@
+//! Operators that ask the world, but no unit.
+
+ghost use Rattle.std.specs.Prelude.{◌≡◌, ◌++◌, ◌+◌, ◌<◌, length, IfOk, IfErr, Err, ◌↔◌, take, drop};
+ghost use Rattle.model.specs.Io.{Io};
+ghost use Rattle.model.specs.Machine.{codes_of};
+ghost use Rattle.model.specs.Operators.{cat_op, keyget_op, keyset_op, match_op};
+ghost use Rattle.model.specs.declared.run.Stop.TheVariants.{NoMemory};
+ghost use Rattle.world.specs.Values.{value_of, begun_of};
+ghost use Rattle.world.specs.Held.{world_of};
+ghost use Rattle.world.specs.Answers.{answer_map, done, op_of, Answers, IfStopped};
+
+use crate::fault::Fault;
+use crate::value::Value;
+use crate::world::{World, is_zero};
+use keywords::KeyValue;
+use model::{ErrorCode, KeyId};
+use pattern_compiler::PatCode;
+use std::alloc::Global;
+use strings::Text;
+
+/// What a match begins with.
+#[derive(Drop)]
+pub struct Begun {
+    pub subject: Text,
+    pub pattern: PatCode,
+    /// Whether it matches at the first place alone.
+    pub anchored: bool,
+}
+
+impl World {
+    /// Two values one after the other. The null string gives the other, unconverted.
+    pub fn cat(&self, alloc: Global, left: &Value, right: &Value) -> Result<Value, Fault>
+        ensures value { (io : Io) → Answers (answer_map value_of result) (world_of self.now io) (cat_op codes_of (value_of left.now) (value_of right.now) (world_of self.now io)) }
+        ensures stop { IfStopped result (λ stop. stop ≡ NoMemory) }
+    {
+        if left.is_null() {
+            return Ok(right.clone()?);
+        }
+        if right.is_null() {
+            return Ok(left.clone()?);
+        }
+        if left.has_text() && right.has_text() {
+            let front = left.to_text(alloc)?;
+            let back = right.to_text(alloc)?;
+            let text = Text::concat(alloc, &front, &back, self.keywords.longest())?;
+            return Ok(Value::String(text));
+        }
+        let first = left.to_pattern(alloc)?;
+        let second = right.to_pattern(alloc)?;
+        Ok(Value::Pattern(PatCode::cat(alloc, &first, &second)?))
+    }
+
+    /// The value of a keyword.
+    pub fn keyword(&self, id: KeyId) -> Result<Value, Fault>
+        ensures value { (io : Io) → Answers (answer_map value_of result) (world_of self.now io) (keyget_op id (world_of self.now io)) }
+        ensures stop { IfStopped result (λ stop. stop ≡ NoMemory) }
+    {
+        match self.keywords.get(id) {
+            KeyValue::Integer(n) => Ok(Value::Integer(n)),
+            KeyValue::Text(text) => Ok(Value::String(text.clone()?)),
+        }
+    }
+
+    /// Assigns to a keyword; a refused assignment changes nothing.
+    pub fn set_keyword(&mut self, id: KeyId, value: &Value) -> Result<(), ErrorCode>
+        ensures { (io : Io) → op_of (done result) (world_of self.new io) ≡ keyset_op id (value_of value.now) (world_of self.old io) }
+    {
+        let n = value.to_int()?;
+        let Ok(()) = self.keywords.set(id, n) else {
+            return Err(ErrorCode::BadKeywordValue);
+        };
+        Ok(())
+    }
+
+    /// What a match of these values begins with.
+    pub fn begin_match(&self, alloc: Global, subject: &Value, pattern: &Value) -> Result<Begun, Fault>
+        ensures begun { (io : Io) → Answers (answer_map begun_of result) (world_of self.now io) (match_op codes_of (value_of subject.now) (value_of pattern.now) (world_of self.now io)) }
+        ensures stop { IfStopped result (λ stop. stop ≡ NoMemory) }
+    {
+        let subject = subject.to_text(alloc)?;
+        let pattern = pattern.to_pattern(alloc)?;
+        Ok(Begun {
+            subject,
+            pattern,
+            anchored: !is_zero(&self.keywords, KeyId::Anchor),
+        })
+    }
+}
