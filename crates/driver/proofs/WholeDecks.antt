@@ -1,5 +1,5 @@
 -- From the faults of a deck to its module.
-use Rattle.std.proofs.Common.{◌≡◌, ◌≢◌, ◌∙◌, refl, sym, ap, subst, ℕ, suc, ◌+◌, ◌<◌, ◌≤◌, ◌^◌, List, [], ◌∷◌, ◌++◌, map, length, Option, Some, None, Ok, Err, inl, arith, max}
+use Rattle.std.proofs.Common.{◌≡◌, ◌≢◌, ◌∙◌, refl, sym, ap, subst, ℕ, suc, ◌<◌, ◌≤◌, ◌^◌, List, [], ◌∷◌, map, length, Option, Some, None, Ok, Err, inl, arith}
 use Rattle.std.specs.List.{AllByRecursion}
 use Rattle.model.specs.declared.cards.CardFault.{CardFault}
 use Rattle.model.specs.declared.cards.CardRule.TheVariants as rule
@@ -11,7 +11,7 @@ use Rattle.model.specs.declared.image.Image.{Image}
 use Rattle.model.specs.declared.trees.Stmt as code
 use Rattle.model.specs.Agreement.{Agrees}
 use Rattle.model.specs.Cards as cards
-use Rattle.model.specs.Faults.{Verdict, verdict, verdict_of_cards, verdict_of_faults, CardRefused, Refused, Accepted, faults, trees}
+use Rattle.model.specs.Faults.{verdict, verdict_of_cards, verdict_of_faults, CardRefused, Refused, Accepted, faults, trees}
 use Rattle.model.specs.Spelling.{IsImage, spelling}
 use Rattle.model.specs.Trees.{Bytes, Stmt}
 use Rattle.model.specs.TreeViews.{stmt_of}

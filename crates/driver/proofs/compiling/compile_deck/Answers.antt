@@ -1,8 +1,8 @@
-use Rattle.std.proofs.Common.{◌≡◌, ◌∙◌, sym, ap, subst, map, length, ◌<◌, ◌≤◌, ◌^◌, arith, []}
+use Rattle.std.proofs.Common.{◌∙◌, sym, ap, subst, map, arith}
 use Rattle.model.specs.Spelling.{IsImage}
 use Rattle.model.specs.TreeViews.{stmt_of}
 use Rattle.parser.proofs.ReadLists.{is_nothing}
-use Rattle.driver.specs.Fragment.{literals_of, not_yet}
+use Rattle.driver.specs.Fragment.{literals_of}
 use Rattle.driver.specs.Generated.{image_of}
 use Rattle.driver.proofs.WholeDecks.{few_given, is_image, is_module, none_told}
 use Rattle.driver.proofs.compiling.compile_deck.Goals as goal
