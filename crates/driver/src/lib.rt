@@ -5,7 +5,8 @@ mod fragment;
 mod generating;
 mod laws;
 mod refusal;
-mod strings;
+mod running;
+mod string_table;
 mod telling;
 mod words;
 
@@ -13,5 +14,6 @@ pub use fragment::{literals, not_yet};
 pub use generating::generate;
 pub use laws::{all_print, printed_literals};
 pub use refusal::Refusal;
+pub use running::run_module;
 pub use telling::{Told, WriteFault, report};
 pub use words::{Job, read_words};

@@ -1,7 +1,7 @@
-use Rattle.std.proofs.Common.{◌≡◌, ◌∙◌, sym, ap, subst, map, length, ◌≤◌, ◌+◌}
+use Rattle.std.proofs.Common.{◌∙◌, sym, ap, subst, map, length, ◌≤◌, ◌+◌}
 use Rattle.driver.specs.Generated.{place_of, with_text}
-use Rattle.driver.proofs.TextPlaces.{items, same, put_key, place_key, place_put, few_more}
-use Rattle.driver.proofs.strings.Strings.number.Goals as goal
+use Rattle.driver.proofs.TextPlaces.{items, put_key, place_key, place_put, few_more}
+use Rattle.driver.proofs.string_table.Strings.number.Goals as goal
 
 pub returns-clause-put : goal.returns-clause-put
 returns-clause-put c =
