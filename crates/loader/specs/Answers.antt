@@ -1,7 +1,6 @@
 -- What is told of bytes: the image that they spell, if it is well-formed and each of its instructions runs yet, or why it
 -- is refused.
 use Rattle.std.specs.Prelude.{◌≡◌, ◌⊎◌, ℕ, ◌+◌, List, Option, Some, None, Result, Ok, Err}
-use Rattle.model.specs.declared.format.FormatFault.{FormatFault}
 use Rattle.model.specs.declared.format.FormatRule.TheVariants.{Memory, UnknownInstruction}
 use Rattle.model.specs.declared.format.LoadFault.{LoadFault}
 use Rattle.model.specs.declared.format.LoadFault.TheVariants.{Format, Module}
@@ -11,7 +10,7 @@ use Rattle.model.specs.declared.image.Image.{Image}
 use Rattle.model.specs.Loading.{offset_of}
 use Rattle.model.specs.Reading.{image_of}
 use Rattle.model.specs.WellFormed.{IsTold, code_at}
-use Rattle.loader.specs.Running.{first_unknown}
+use Rattle.loader.specs.Running.{AreRunYet, first_unknown}
 
 -- want of memory, which may be told in place of any other answer
 abbrev pub no_memory : LoadFault
@@ -37,3 +36,7 @@ IsReadAs bytes (Ok im) result = IsJudged im (first_unknown 0 im.code) result
 
 abbrev pub IsAnswer : List ℕ → Result Image LoadFault → Type 0
 IsAnswer bytes result = (result ≡ Err no_memory) ⊎ IsReadAs bytes (image_of bytes) result
+
+-- bytes that spell no image, or one whose instructions all run yet
+abbrev pub IsKnown : List ℕ → Type 0
+IsKnown bytes = (im : Image) → image_of bytes ≡ Ok im → AreRunYet im.code

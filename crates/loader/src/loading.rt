@@ -2,9 +2,10 @@
 
 ghost use Rattle.std.specs.Prelude.{◌≡◌, ◌⊎◌, Err, Ok, IfOk};
 ghost use Rattle.model.specs.declared.image.Image.{Image};
+ghost use Rattle.model.specs.Loading.{Loads};
 ghost use Rattle.model.specs.Reading.{image_of};
 ghost use Rattle.model.specs.Spelling.{IsImage};
-ghost use Rattle.loader.specs.Answers.{IsAnswer, IsJudged, no_memory};
+ghost use Rattle.loader.specs.Answers.{IsAnswer, IsJudged, IsKnown, no_memory};
 ghost use Rattle.loader.specs.Loaded.{IsLoaded};
 ghost use Rattle.loader.specs.Running.{first_unknown};
 
@@ -55,6 +56,7 @@ fn answer(alloc: Global, bytes: &[u8]) -> Result<Module, LoadFault>
 pub fn load(alloc: Global, bytes: &[u8]) -> Result<Module, LoadFault>
     ensures exact { IsAnswer bytes.now result }
     ensures loaded { IfOk result (λ m. (image_of bytes.now ≡ Ok m) × IsLoaded m) }
+    ensures defined { IsKnown bytes.now → (result ≡ Err no_memory) ⊎ Loads bytes.now result }
     ensures accepted { (m : Image) → image_of bytes.now ≡ Ok m → IsLoaded m → (result ≡ Ok m) ⊎ (result ≡ Err no_memory) }
 {
     answer(alloc, bytes)

@@ -1,4 +1,4 @@
-use Rattle.std.proofs.Common.{None, ap, sym, subst, ◌∙◌}
+use Rattle.std.proofs.Common.{sym, subst, ◌∙◌}
 use Rattle.model.specs.WellFormed.{IsTold}
 use Rattle.loader.proofs.Judging.{loaded}
 use Rattle.loader.proofs.loading.judge.Goals as goal
