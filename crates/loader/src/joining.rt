@@ -6,12 +6,12 @@ ghost use Rattle.model.specs.Spelling.{IsImage};
 ghost use Rattle.model.specs.WellFormed.{IsTold, flow_fault, lesser, number_of, part_fault};
 ghost use Rattle.loader.specs.Places.{offsets_from};
 
-use crate::flow::check_flow;
 use crate::instrs::code_fault;
 use crate::labels::label_fault;
 use crate::patterns::patterns_fault;
 use crate::places::{code_offset, places_of};
 use crate::tables::{entry_fault, expression_fault, statement_fault};
+use flow_check::check_flow;
 use model::{Image, ModuleFault, ModuleRule};
 use std::alloc::{AllocError, Global};
 

@@ -2,7 +2,6 @@
 #![tactic(auto)]
 
 mod code;
-mod flow;
 mod instrs;
 mod joining;
 mod labels;
