@@ -13,28 +13,11 @@ fn coded<T: Copy>(all: &[T], code: u8) -> Option<T>
     all.get(code as usize).copied()
 }
 
-const KEYS: [KeyId; 14] = [
-    KeyId::Anchor,
-    KeyId::FullScan,
-    KeyId::Trim,
-    KeyId::Input,
-    KeyId::Output,
-    KeyId::StLimit,
-    KeyId::MaxLngth,
-    KeyId::Alphabet,
-    KeyId::StCount,
-    KeyId::StNo,
-    KeyId::LastNo,
-    KeyId::StFCount,
-    KeyId::FncLevel,
-    KeyId::RtnType,
-];
-
 /// The keyword with this code.
 pub(crate) fn key_of(code: u8) -> Option<KeyId>
     ensures { result ≡ slice_get keys code }
 {
-    coded(&KEYS, code)
+    coded(&KeyId::ALL, code)
 }
 
 /// The code of a keyword.
@@ -44,51 +27,11 @@ pub(crate) fn key_code_of(x: KeyId) -> u8
     x as u8
 }
 
-const PRIMS: [PrimId; 37] = [
-    PrimId::Len,
-    PrimId::Pos,
-    PrimId::RPos,
-    PrimId::Tab,
-    PrimId::RTab,
-    PrimId::Any,
-    PrimId::NotAny,
-    PrimId::Span,
-    PrimId::Break,
-    PrimId::Arbno,
-    PrimId::Eq,
-    PrimId::Ne,
-    PrimId::Lt,
-    PrimId::Le,
-    PrimId::Gt,
-    PrimId::Ge,
-    PrimId::Lgt,
-    PrimId::Ident,
-    PrimId::Differ,
-    PrimId::Integer,
-    PrimId::Size,
-    PrimId::Trim,
-    PrimId::Dupl,
-    PrimId::Replace,
-    PrimId::Remdr,
-    PrimId::DataType,
-    PrimId::Array,
-    PrimId::Table,
-    PrimId::Item,
-    PrimId::Copy,
-    PrimId::Convert,
-    PrimId::Data,
-    PrimId::Define,
-    PrimId::Apply,
-    PrimId::Input,
-    PrimId::Output,
-    PrimId::Detach,
-];
-
 /// The primitive with this code.
 pub(crate) fn prim_of(code: u8) -> Option<PrimId>
     ensures { result ≡ slice_get prims code }
 {
-    coded(&PRIMS, code)
+    coded(&PrimId::ALL, code)
 }
 
 /// The code of a primitive.

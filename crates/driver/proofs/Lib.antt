@@ -4,3 +4,4 @@ pub mod Flowing
 pub mod Parts
 pub mod Fitting
 pub mod Printing
+pub mod WholeDecks

@@ -50,7 +50,7 @@ next_is b (OnSuccess p) l e = absurd (cc)
 next_is b (OnFailure p) l e = absurd (cc)
 next_is b (Both p q) l e = absurd (cc)
 
-prints_is : (s : Stmt) (l : Bytes) → literal_of s ≡ Some l → s ≡ prints l
+pub prints_is : (s : Stmt) (l : Bytes) → literal_of s ≡ Some l → s ≡ prints l
 prints_is (Plain None b g) l e = next_is b g l e
 prints_is (Plain (Some x) b g) l e = absurd (cc)
 prints_is (End None) l e = absurd (cc)

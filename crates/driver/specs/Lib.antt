@@ -1,3 +1,4 @@
 pub mod Generated
 pub mod Fragment
 pub mod PrintedLaws
+pub mod Compiled

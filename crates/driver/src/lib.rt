@@ -1,6 +1,7 @@
 //! Whole calls: from a deck to a module, from a module to what it prints, and the words of the program `sno`.
 #![tactic(auto)]
 
+mod compiling;
 mod fragment;
 mod generating;
 mod laws;
@@ -9,6 +10,7 @@ mod strings;
 mod telling;
 mod words;
 
+pub use compiling::compile_deck;
 pub use fragment::{literals, not_yet};
 pub use generating::generate;
 pub use laws::{all_print, printed_literals};

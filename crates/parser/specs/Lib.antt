@@ -1,1 +1,4 @@
+pub mod Labels
+pub mod Reads
+pub mod Refusals
 pub mod Rules

@@ -1,5 +1,5 @@
 -- The rules that expressions keep.
-use Rattle.std.specs.Prelude.{◌≡◌}
+use Rattle.std.specs.Prelude.{◌≡◌, Bool}
 use Rattle.model.specs.Faults.{everywhere, in_args, call_fits, keyword_known, operand_fits}
 use Rattle.model.specs.Trees.{Expr, Args}
 use Rattle.parser.specs.declared.rules.Kept.{Kept}
@@ -14,3 +14,9 @@ pub record AllKeep (kept : Kept) (args : Args) : Type 0 where
   pub calls : kept.calls ≡ in_args call_fits args
   pub keywords : kept.keywords ≡ in_args keyword_known args
   pub operands : kept.operands ≡ in_args operand_fits args
+
+-- what is kept is what passes in a part of a statement
+pub record AreKept (kept : Kept) (passes : (Expr → Bool) → Bool) : Type 0 where
+  pub calls : kept.calls ≡ passes call_fits
+  pub keywords : kept.keywords ≡ passes keyword_known
+  pub operands : kept.operands ≡ passes operand_fits

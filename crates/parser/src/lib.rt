@@ -1,4 +1,47 @@
 //! A deck's trees, or its faulty statements.
 #![tactic(auto)]
 
+ghost use Rattle.std.specs.Prelude.{◌≡◌, ◌≢◌, [], IfErr, IfOk};
+ghost use Rattle.model.specs.Faults as spec;
+ghost use Rattle.model.specs.TreeViews.{program_of};
+ghost use Rattle.model.specs.declared.causes.DeckFault.TheVariants.{Memory};
+ghost use Rattle.parser.specs.Refusals.{IsParsed, IsRefusal};
+
+mod faults;
+mod labels;
+mod reading;
 mod rules;
+mod statements;
+
+use crate::faults::faults;
+use crate::reading::{read_all, trees};
+use model::{Deck, DeckFault, Program, Seq, StmtFault};
+use std::alloc::{AllocError, Global};
+
+// The program, or the faulty statements.
+fn parse(alloc: Global, deck: &Deck) -> Result<Result<Program, Seq<StmtFault>>, AllocError>
+    ensures { IfOk result (IsParsed deck.now.statements) }
+{
+    let reads = read_all(alloc, deck.statements.as_slice())?;
+    let faults = faults(alloc, &reads)?;
+    if !faults.as_slice().is_empty() {
+        return Ok(Err(faults));
+    }
+    let statements = trees(alloc, reads)?;
+    Ok(Ok(Program { statements }))
+}
+
+/// The trees of a deck without faults, or its faulty statements in order, each with its least cause.
+pub fn parse_deck(alloc: Global, deck: &Deck) -> Result<Program, DeckFault>
+    // A deck that is accepted has no faulty statement, and the program has its trees.
+    ensures faultless { IfOk result (λ p. spec.faults deck.now.statements ≡ []) }
+    ensures program { IfOk result (λ p. program_of p ≡ spec.trees deck.now.statements) }
+    // A deck that is refused has faulty statements, and all are told; want of memory says nothing of the deck.
+    ensures refused { IfErr result (λ f. IsRefusal (spec.faults deck.now.statements) f) }
+{
+    match parse(alloc, deck) {
+        Ok(Ok(program)) => Ok(program),
+        Ok(Err(faults)) => Err(DeckFault::Faulty(faults)),
+        Err(_) => Err(DeckFault::Memory),
+    }
+}

@@ -1,9 +1,6 @@
-use Rattle.std.proofs.Common.{None}
-use Rattle.model.proofs.AgreementLaw.{agrees_where_placed}
 use Rattle.driver.proofs.Fitting.{fits}
 use Rattle.driver.proofs.Parts.{well_formed}
-use Rattle.driver.proofs.Placing.{placed}
-use Rattle.driver.specs.Generated.{image_of, printing}
+use Rattle.driver.proofs.WholeDecks.{agrees}
 use Rattle.driver.proofs.laws.printed_literals.Goals as goal
 
 pub returns-clause-spelt : goal.returns-clause-spelt
@@ -13,4 +10,4 @@ pub returns-clause-sound : goal.returns-clause-sound
 returns-clause-sound c = well_formed
 
 pub returns-clause-agrees : goal.returns-clause-agrees
-returns-clause-agrees c ls = agrees_where_placed (printing ls) (image_of ls) (λ k. None) (placed ls)
+returns-clause-agrees c = agrees

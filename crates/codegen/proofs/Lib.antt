@@ -1,0 +1,2 @@
+pub mod ImageRows
+pub mod LabelTables

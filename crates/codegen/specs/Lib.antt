@@ -1,0 +1,4 @@
+pub mod Layout
+pub mod Labels
+pub mod Countable
+pub mod Laying

@@ -1,0 +1,117 @@
+//! Code of gotos.
+
+ghost use Rattle.std.specs.Prelude.{◌≡◌, ◌<◌, ◌≤◌, ◌+◌, ◌*◌, ◌^◌, OnOk};
+ghost use Rattle.model.specs.Calls as calls;
+ghost use Rattle.model.specs.TreeViews.{goto_of, place_of};
+ghost use Rattle.model.specs.Weights as weights;
+ghost use Rattle.expr_codegen.specs.Emitting.{Emits, size};
+ghost use Rattle.expr_codegen.specs.Views.{gen_of};
+ghost use Rattle.codegen.specs.Countable as countables;
+ghost use Rattle.codegen.specs.Countable.{CountableGoto, CountablePlace};
+ghost use Rattle.codegen.specs.Labels.{number_in};
+ghost use Rattle.codegen.specs.Layout as layout;
+
+use crate::labels::Labels;
+use expr_codegen::{Generator, value};
+use model::{Goto, Instr, Place, ReturnKind};
+use std::alloc::{AllocError, Global};
+
+// How a label leaves a function, if it does.
+fn return_of(label: &[u8]) -> Option<ReturnKind>
+    ensures { result ≡ calls.return_of label.now }
+{
+    if label == b"RETURN".as_slice() {
+        Some(ReturnKind::Return)
+    } else if label == b"FRETURN".as_slice() {
+        Some(ReturnKind::FReturn)
+    } else if label == b"NRETURN".as_slice() {
+        Some(ReturnKind::NReturn)
+    } else {
+        None
+    }
+}
+
+// The instruction that goes to a label.
+fn to_label(labels: &Labels, label: &[u8]) -> Instr
+    ensures { result ≡ layout.to_label (calls.return_of label.now) (number_in labels.now label.now) }
+{
+    match return_of(label) {
+        Some(kind) => Instr::Return(kind),
+        None => match labels.find(label) {
+            Some(number) => Instr::Goto(number),
+            None => Instr::NoLabel,
+        },
+    }
+}
+
+/// Puts the code that goes to a place.
+pub fn place<'a>(
+    alloc: Global,
+    g: &mut Generator<'a>,
+    labels: &Labels,
+    p: &'a Place,
+) -> Result<(), AllocError>
+    requires countable { CountablePlace (place_of p.now) }
+    requires room { size (gen_of g.old) + 9 * weights.of_place (place_of p.now) < 2 ^ 31 }
+    ensures emits { OnOk result (Emits (layout.place (number_in labels.now) (place_of p.now)) (gen_of g.old) (gen_of g.new)) }
+    ensures size { OnOk result (size (gen_of g.new) ≤ size (gen_of g.old) + 9 * weights.of_place (place_of p.now)) }
+{
+    match p {
+        Place::Label(l) => {
+            g.put(to_label(labels, l))?;
+            Ok(())
+        }
+        Place::Computed(e) => {
+            value(alloc, g, e)?;
+            g.put(Instr::GotoV)?;
+            Ok(())
+        }
+    }
+}
+
+/// Puts the code behind a statement's body, up to where a failed statement goes on.
+pub fn after_success<'a>(
+    alloc: Global,
+    g: &mut Generator<'a>,
+    labels: &Labels,
+    number: u32,
+    goto: &'a Goto,
+) -> Result<(), AllocError>
+    requires few { number < 2 ^ 31 }
+    requires countable { CountableGoto (goto_of goto.now) }
+    requires room { size (gen_of g.old) + 9 * weights.of_goto (goto_of goto.now) < 2 ^ 31 }
+    ensures emits { OnOk result (Emits (layout.after_success (number_in labels.now) number (goto_of goto.now)) (gen_of g.old) (gen_of g.new)) }
+    ensures size { OnOk result (size (gen_of g.new) + 9 * countables.of_failure (goto_of goto.now) ≤ size (gen_of g.old) + 9 * weights.of_goto (goto_of goto.now)) }
+{
+    match goto {
+        Goto::OnSuccess(p) => place(alloc, g, labels, p),
+        Goto::Both(p, _) => place(alloc, g, labels, p),
+        Goto::OnFailure(_) => {
+            g.put(Instr::Goto(number + 1))?;
+            Ok(())
+        }
+        Goto::Next => Ok(()),
+        Goto::Always(_) => Ok(()),
+    }
+}
+
+/// Puts the code with which a failed statement goes on.
+pub fn after_failure<'a>(
+    alloc: Global,
+    g: &mut Generator<'a>,
+    labels: &Labels,
+    goto: &'a Goto,
+) -> Result<(), AllocError>
+    requires countable { CountableGoto (goto_of goto.now) }
+    requires room { size (gen_of g.old) + 9 * countables.of_failure (goto_of goto.now) < 2 ^ 31 }
+    ensures emits { OnOk result (Emits (layout.after_failure (number_in labels.now) (goto_of goto.now)) (gen_of g.old) (gen_of g.new)) }
+    ensures size { OnOk result (size (gen_of g.new) ≤ size (gen_of g.old) + 9 * countables.of_failure (goto_of goto.now)) }
+{
+    match goto {
+        Goto::Always(p) => place(alloc, g, labels, p),
+        Goto::OnFailure(p) => place(alloc, g, labels, p),
+        Goto::Both(_, p) => place(alloc, g, labels, p),
+        Goto::Next => Ok(()),
+        Goto::OnSuccess(_) => Ok(()),
+    }
+}

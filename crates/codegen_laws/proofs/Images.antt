@@ -1,0 +1,32 @@
+-- The image of each accepted deck.
+use Rattle.std.proofs.Common.{slice_get}
+use Rattle.model.proofs.AgreementLaw.{agrees_where_placed}
+use Rattle.codegen.specs.Layout.{image_of}
+use Rattle.codegen_laws.specs.CodegenLaws.{AreFit, AreCountable, IsPlaced, IsSpelt, IsSound, IsSmall, DoesAsMeant}
+use Rattle.codegen_laws.proofs.Accepted.{accepted_is_fit}
+use Rattle.codegen_laws.proofs.Counting.{all_statements}
+use Rattle.codegen_laws.proofs.Limits as Limits
+use Rattle.codegen_laws.proofs.Parts.{parts}
+use Rattle.codegen_laws.proofs.Placing as Placing
+use Rattle.codegen_laws.proofs.Sounding.{flows}
+
+pub are_fit : AreFit
+are_fit text ss h = accepted_is_fit text ss h
+
+pub are_countable : AreCountable
+are_countable text ss h = all_statements ss (are_fit text ss h).statements
+
+pub placed : IsPlaced
+placed text ss h = let f = are_fit text ss h in (slice_get (Placing.later_of ss f.ends f.statements), Placing.placed ss f.ends f.statements)
+
+pub spelt : IsSpelt
+spelt text ss h = Limits.spelt ss (are_fit text ss h)
+
+pub sound : IsSound
+sound text ss h = let f = are_fit text ss h in record { parts = parts ss f; flow = flows ss f.ends f.statements }
+
+pub small : IsSmall
+small text ss h = Limits.code_small ss (are_fit text ss h)
+
+pub agrees : DoesAsMeant
+agrees text ss h = let p = placed text ss h in agrees_where_placed ss (image_of ss) p.0 p.1

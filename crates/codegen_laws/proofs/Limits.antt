@@ -1,0 +1,339 @@
+-- An image is within the limits of the format.
+use Rattle.std.proofs.Common.{◌≡◌, ℕ, zero, suc, ◌+◌, ◌-◌, ◌*◌, ◌^◌, ◌<◌, ◌≤◌, ◌==◌, List, [], ◌∷◌, ◌++◌, length, refl, ap, ◌∙◌, arith, true, false, not, Bool, ◌&&◌, ◌||◌, Some, None, if◌then◌else◌, slice_get, bytes_eq, length-append}
+use Rattle.std.specs.Prelude.{nat_lt, option_map}
+use Rattle.std.specs.Cmp.Lexicographic.{pointwise}
+use Rattle.std.specs.Int.{w64, cast_unsigned}
+use Rattle.std.specs.List.{AllByRecursion, list_any}
+use Rattle.std.proofs.lemmas.Bool.Decides.{nat_tests}
+use Rattle.model.specs.declared.image.Image.{Image}
+use Rattle.model.specs.declared.image.Label.{Label}
+use Rattle.model.specs.declared.instr.Instr.{Instr}
+use Rattle.model.specs.declared.instr.Instr.TheVariants as op
+use Rattle.model.specs.declared.primitives.PrimId.{PrimId}
+use Rattle.model.specs.declared.primitives.PrimId.TheVariants as prim
+use Rattle.model.specs.Flow.{Shape, bare}
+use Rattle.model.specs.Modules.{bytes, total}
+use Rattle.model.specs.Names.{most_args}
+use Rattle.model.specs.Programs.{labelled_from, entry_in, entry_label}
+use Rattle.model.specs.Spelling.{u16, u32, u64, instr, code_bytes, InstrFits, most, most_code, Follow, is_new, newest, rises, statement_of, StringFits, LabelFits, StatementFits, OffsetFits, IsImage}
+use Rattle.model.specs.Trees.{Bytes, Expr, Stmt, Plain, End}
+use Rattle.model.specs.WellFormed.{is_nonnull, is_statement, is_name}
+use Rattle.model.specs.Weights as weights
+use Rattle.model.specs.Weights.{of_name, weight}
+use Rattle.expr_codegen.specs.Texts.{place_of, with_text, with_texts}
+use Rattle.expr_codegen.specs.Code.{Part, ◌>>◌}
+use Rattle.codegen.specs.Layout.{statements_of, expressions_of, joined, offsets, labels, label_texts, code_of, image_of}
+use Rattle.codegen_laws.specs.Fit.{IsFit}
+use Rattle.codegen_laws.proofs.Flows.{Fits}
+use Rattle.codegen_laws.proofs.Offsets.{HasCode, full_some, offsets_length, statements_full}
+use Rattle.codegen_laws.proofs.Placing.{code_is, offsets_count, entry_among}
+use Rattle.codegen_laws.proofs.Shapes.{next_shape, shape_from, Targets, Sound, some_bytes, total_join}
+use Rattle.codegen_laws.proofs.Sizes.{of_texts, of_later, due, sum_join, statements_weigh, labels_weigh, queue_code, queue_texts, queue_length}
+use Rattle.codegen_laws.proofs.Sounding.{is_sound}
+
+-- ---- strings
+
+still_new : (front : List Bytes) (t s : Bytes) → is_new front t ≡ true → bytes_eq t s ≡ false → is_new (front ++ s ∷ []) t ≡ true
+still_new [] t s n e = rw e refl
+still_new (x ∷ xs) t s n e = elim (pointwise ◌==◌ t x) as (λ b. not (b || list_any (pointwise ◌==◌ t) xs) ≡ true → not (b || list_any (pointwise ◌==◌ t) (xs ++ s ∷ [])) ≡ true) [
+  | true ↦ λ h. absurd (cc)
+  | false ↦ λ h. still_new xs t s h e
+] n
+
+-- a short text that is put stands once among short texts
+put_follows : (t : Bytes) → length t < 2 ^ 32 → (front ts : List Bytes) → Follow StringFits front ts → is_new front t ≡ true → Follow StringFits front (with_text t ts)
+put_follows t short front [] f new = ((short, new), tt)
+put_follows t short front (s ∷ ss) f new = elim (bytes_eq t s) as (λ b. (bytes_eq t s ≡ b) → Follow StringFits front (if b then s ∷ ss else s ∷ with_text t ss)) [
+  | true ↦ λ e. f
+  | false ↦ λ e. (f.0, put_follows t short (front ++ s ∷ []) ss f.1 (still_new front t s new e))
+] refl
+
+texts_follow : (ts ss : List Bytes) → of_texts ts < 2 ^ 32 → Follow StringFits [] ss → Follow StringFits [] (with_texts ts ss)
+texts_follow [] ss h f = f
+texts_follow (t ∷ ts) ss h f = texts_follow ts (with_text t ss) (omega (arith, h)) (put_follows t (omega (arith, h)) [] ss f refl)
+
+one_more : (t : Bytes) (ts : List Bytes) → length (with_text t ts) ≤ suc (length ts)
+one_more t [] = omega arith
+one_more t (s ∷ ss) = elim (bytes_eq t s) as (λ b. length (if b then s ∷ ss else s ∷ with_text t ss) ≤ suc (suc (length ss))) [
+  | true ↦ omega arith
+  | false ↦ let h = one_more t ss in omega (arith, h)
+]
+
+few_strings : (ts ss : List Bytes) → length (with_texts ts ss) ≤ length ss + of_texts ts
+few_strings [] ss = omega arith
+few_strings (t ∷ ts) ss = let a = few_strings ts (with_text t ss) in let b = one_more t ss in omega (arith, a, b)
+
+place_within : (t : Bytes) (ts : List Bytes) → place_of t ts ≤ length ts
+place_within t [] = omega arith
+place_within t (s ∷ ss) = elim (bytes_eq t s) as (λ b. (if b then 0 else suc (place_of t ss)) ≤ suc (length ss)) [
+  | true ↦ omega arith
+  | false ↦ let h = place_within t ss in omega (arith, h)
+]
+
+-- ---- labels and offsets
+
+get_snoc : {A : Type 0} (xs : List A) (x : A) → slice_get (xs ++ x ∷ []) (length xs) ≡ Some x
+get_snoc [] x = refl
+get_snoc (y ∷ xs) x = get_snoc xs x
+
+newest_snoc : {A : Type 0} (xs : List A) (x : A) → newest (xs ++ x ∷ []) ≡ Some x
+newest_snoc xs x = ap (slice_get (xs ++ x ∷ [])) (let h = length-append xs (x ∷ []) in let e : length (xs ++ x ∷ []) - 1 ≡ length xs = omega (arith, h) in e) ∙ get_snoc xs x
+
+labels_follow : (texts : List Bytes) → length texts < 2 ^ 32 → (n : ℕ) (ss : List Stmt) → n + length ss < 2 ^ 32 → (front : List Label)
+    → ((m : ℕ) → n ≤ m → rises (option_map statement_of (newest front)) m ≡ true) → Follow LabelFits front (labels texts n ss)
+labels_follow texts few n [] h front r = tt
+labels_follow texts few n (End e ∷ ss) h front r = labels_follow texts few (suc n) ss (omega (arith, h)) front (λ m l. r m (omega (arith, l)))
+labels_follow texts few n (Plain None b g ∷ ss) h front r = labels_follow texts few (suc n) ss (omega (arith, h)) front (λ m l. r m (omega (arith, l)))
+labels_follow texts few n (Plain (Some l) b g ∷ ss) h front r =
+    let here : Label = record { string = place_of l texts; statement = n } in
+    let p = place_within l texts in (
+      (let x : place_of l texts < 2 ^ 32 = omega (arith, p, few) in x, let x : n < 2 ^ 32 = omega (arith, h) in x, r n (omega arith)),
+      labels_follow texts few (suc n) ss (omega (arith, h)) (front ++ here ∷ [])
+          (λ m l. ap (λ e. rises (option_map statement_of e) m) (newest_snoc front here) ∙ (let x : nat_lt n m ≡ true = grind (arith, l) in x)),
+    )
+
+labels_count : (texts : List Bytes) (n : ℕ) (ss : List Stmt) → length (labels texts n ss) ≤ length ss
+labels_count texts n [] = omega arith
+labels_count texts n (End e ∷ ss) = let h = labels_count texts (suc n) ss in omega (arith, h)
+labels_count texts n (Plain None b g ∷ ss) = let h = labels_count texts (suc n) ss in omega (arith, h)
+labels_count texts n (Plain (Some l) b g ∷ ss) = let h = labels_count texts (suc n) ss in omega (arith, h)
+
+statements_follow : (texts : List Bytes) (ps : List Part) → AllByRecursion HasCode ps → (k at : ℕ) (front : List ℕ) → rises (newest front) at ≡ true → at + total ((joined ps).code texts k at) < 2 ^ 32
+    → Follow StatementFits front (offsets ps texts k at)
+unfolding ◌>>◌
+statements_follow texts [] f k at front r small = tt
+statements_follow texts (p ∷ ps) f k at front r small =
+    let xs = p.code texts k at in
+    let q : ℕ = at + total xs in
+    let ys = (joined ps).code texts (k + length p.later) q in
+    let t = total_join xs ys in
+    let some = full_some xs (f.0 texts k at) in
+    let up : nat_lt at q ≡ true = grind (arith, some) in (
+      (let h : at < 2 ^ 32 = omega (arith, small) in h, r),
+      statements_follow texts ps f.1 (k + length p.later) q (front ++ at ∷ []) (ap (λ e. rises e q) (newest_snoc front at) ∙ up) (let h : q + total ys < 2 ^ 32 = omega (arith, small, t) in h),
+    )
+
+expressions_follow : (texts : List Bytes) (ps : List Part) (k at : ℕ) (front : List ℕ) → at + total ((joined ps).code texts k at) < 2 ^ 32 → Follow OffsetFits front (offsets ps texts k at)
+unfolding ◌>>◌
+expressions_follow texts [] k at front small = tt
+expressions_follow texts (p ∷ ps) k at front small =
+    let xs = p.code texts k at in
+    let q : ℕ = at + total xs in
+    let ys = (joined ps).code texts (k + length p.later) q in
+    let t = total_join xs ys in
+    ((let h : at < 2 ^ 32 = omega (arith, small) in h), expressions_follow texts ps (k + length p.later) q (front ++ at ∷ []) (let h : q + total ys < 2 ^ 32 = omega (arith, small, t) in h))
+
+-- ---- instructions
+
+below : (p : ℕ) (s : Shape) (is : List Instr) (at : ℕ) (t : Shape) → shape_from p s is at ≡ Some t → at < p + total is
+below p s [] at t h = absurd (cc)
+below p s (i ∷ is) at t h = elim (p == at) as (λ b. (p == at) ≡ b → (if b then Some s else shape_from (p + bytes i) (next_shape i s) is at) ≡ Some t → at < p + (bytes i + total is)) [
+  | true ↦ λ e f. let same : p ≡ at = grind (arith, e) in let y = some_bytes i in omega (arith, same, y)
+  | false ↦ λ e f. let x = below (p + bytes i) (next_shape i s) is at t f in omega (arith, x)
+] refl h
+
+pub few_args : (p : PrimId) → most_args p < 2 ^ 8
+few_args prim.Eq = omega arith
+few_args prim.Ne = omega arith
+few_args prim.Lt = omega arith
+few_args prim.Le = omega arith
+few_args prim.Gt = omega arith
+few_args prim.Ge = omega arith
+few_args prim.Lgt = omega arith
+few_args prim.Ident = omega arith
+few_args prim.Differ = omega arith
+few_args prim.Dupl = omega arith
+few_args prim.Replace = omega arith
+few_args prim.Remdr = omega arith
+few_args prim.Array = omega arith
+few_args prim.Table = omega arith
+few_args prim.Item = omega arith
+few_args prim.Convert = omega arith
+few_args prim.Define = omega arith
+few_args prim.Apply = omega arith
+few_args prim.Input = omega arith
+few_args prim.Output = omega arith
+few_args _ = omega arith
+
+no_more : (m n : ℕ) → not (nat_lt m n) ≡ true → n ≤ m
+no_more m n h = elim (nat_lt m n) as (λ b. nat_lt m n ≡ b → not b ≡ true → n ≤ m) [
+  | true ↦ λ e f. absurd (cc)
+  | false ↦ λ e f. grind (arith, nat_tests, e)
+] refl h
+
+less_of : (m n : ℕ) → nat_lt m n ≡ true → m < n
+less_of m n h = grind (arith, nat_tests, h)
+
+both_right : (a b : Bool) → (a && b) ≡ true → b ≡ true
+both_right true b h = h
+both_right false b h = absurd (cc)
+
+name_within : (texts : List Bytes) (k : ℕ) → is_nonnull (slice_get texts k) ≡ true → k < length texts
+name_within [] k h = absurd (cc)
+name_within (t ∷ ts) zero h = omega arith
+name_within (t ∷ ts) (suc k) h = let x = name_within ts k h in omega (arith, x)
+
+-- tables that have less than 2^32 entries
+record Few (im : Image) : Type 0 where
+  statements : length im.statements < 2 ^ 32
+  strings : length im.strings < 2 ^ 32
+  expressions : length im.expressions < 2 ^ 32
+  patterns : length im.patterns < 2 ^ 32
+
+statement_few : (im : Image) → Few im → (k : ℕ) → is_statement im k ≡ true → k < 2 ^ 32
+statement_few im few k h = let x = no_more (length im.statements) k (both_right (nat_lt 0 k) (not (nat_lt (length im.statements) k)) h) in let y = few.statements in omega (arith, x, y)
+
+string_few : (im : Image) → Few im → (k : ℕ) → is_name im k ≡ true → k < 2 ^ 32
+string_few im few k h = let x = name_within im.strings k h in let y = few.strings in omega (arith, x, y)
+
+instr_fits : (im : Image) → Few im → (os : List ℕ) (i : Instr) (p : ℕ) (s : Shape) (rest : List Instr) → p + (bytes i + total rest) < 2 ^ 32 → Fits im i → Targets os i p s rest → InstrFits i
+instr_fits im few os (op.Begin f) p s rest small (a, b) (t, o) = let x = below (p + 5) (next_shape (op.Begin f) s) rest f bare t in omega (arith, x, small)
+instr_fits im few os (op.Try f) p s rest small (a, b) t = let x = below (p + 5) (next_shape (op.Try f) s) rest f s t in omega (arith, x, small)
+instr_fits im few os (op.Goto k) p s rest small (a, b) t = statement_few im few k a
+instr_fits im few os (op.Str k) p s rest small (a, b) t = let x = less_of k (length im.strings) a in let y = few.strings in omega (arith, x, y)
+instr_fits im few os (op.Var k) p s rest small (a, b) t = string_few im few k a
+instr_fits im few os (op.Int z) p s rest small (a, b) t = b
+instr_fits im few os (op.Elem n) p s rest small (a, b) t = b
+instr_fits im few os (op.Expr k) p s rest small (a, b) t = let x = less_of k (length im.expressions) a in let y = few.expressions in omega (arith, x, y)
+instr_fits im few os (op.CallV k n) p s rest small (a, b) t = (string_few im few k a, b)
+instr_fits im few os (op.CallN k n) p s rest small (a, b) t = (string_few im few k a, b)
+instr_fits im few os (op.PrimV f n) p s rest small (a, b) t = let x = no_more (most_args f) n a in let y = few_args f in omega (arith, x, y)
+instr_fits im few os (op.PrimN f n) p s rest small (a, b) t = let x = no_more (most_args f) n a in let y = few_args f in omega (arith, x, y)
+instr_fits im few os (op.Pat k) p s rest small (a, b) t = let x = less_of k (length im.patterns) a in let y = few.patterns in omega (arith, x, y)
+instr_fits im few os _ p s rest small f t = tt
+
+code_fits : (im : Image) → Few im → (os : List ℕ) (p : ℕ) (s : Shape) (is : List Instr) → p + total is < 2 ^ 32 → Sound (Fits im) os p s is → AllByRecursion InstrFits is
+code_fits im few os p s [] small h = tt
+code_fits im few os p s (i ∷ is) small (f, a, t, h) = (instr_fits im few os i p s is small f t, code_fits im few os (p + bytes i) (next_shape i s) is (omega (arith, small)) h)
+
+length_u16 : (n : ℕ) → length (u16 n) ≡ 2
+unfolding u16
+length_u16 n = refl
+
+length_u32 : (n : ℕ) → length (u32 n) ≡ 4
+unfolding u32
+length_u32 n = refl
+
+length_u64 : (n : ℕ) → length (u64 n) ≡ 8
+unfolding u64
+length_u64 n = refl
+
+instr_length : (i : Instr) → length (instr i) ≡ bytes i
+instr_length (op.Begin f) = let h = length_u32 f in omega (arith, h)
+instr_length (op.Goto k) = let h = length_u32 k in omega (arith, h)
+instr_length (op.Str k) = let h = length_u32 k in omega (arith, h)
+instr_length (op.Int z) = let h = length_u64 (cast_unsigned w64 z) in omega (arith, h)
+instr_length (op.Var k) = let h = length_u32 k in omega (arith, h)
+instr_length (op.Elem n) = let h = length_u16 n in omega (arith, h)
+instr_length (op.Expr k) = let h = length_u32 k in omega (arith, h)
+instr_length (op.CallV k n) = let h = length_u32 k in let g = length_u16 n in let j = length-append (u32 k) (u16 n) in omega (arith, h, g, j)
+instr_length (op.CallN k n) = let h = length_u32 k in let g = length_u16 n in let j = length-append (u32 k) (u16 n) in omega (arith, h, g, j)
+instr_length (op.Try t) = let h = length_u32 t in omega (arith, h)
+instr_length (op.Pat k) = let h = length_u32 k in omega (arith, h)
+instr_length (op.Return r) = omega arith
+instr_length (op.KeyGet k) = omega arith
+instr_length (op.KeySet k) = omega arith
+instr_length (op.PrimV p n) = omega arith
+instr_length (op.PrimN p n) = omega arith
+instr_length (op.Sign o) = omega arith
+instr_length (op.Arith o) = omega arith
+instr_length _ = omega arith
+
+code_length : (is : List Instr) → length (code_bytes is) ≡ total is
+code_length [] = refl
+code_length (i ∷ is) = let x = instr_length i in let y = code_length is in let z = length-append (instr i) (code_bytes is) in omega (arith, x, y, z)
+
+-- ---- the image
+
+due_is : (es : List Expr) → due es ≡ 9 * of_later es + length es
+due_is [] = omega arith
+due_is (e ∷ es) = let h = due_is es in omega (arith, h)
+
+module _ (ss : List Stmt) (fit : IsFit ss) where
+  abbrev im : Image
+  im = image_of ss
+
+  abbrev first : Part
+  first = joined (statements_of ss)
+
+  abbrev second : Part
+  second = joined (expressions_of ss)
+
+  abbrev code_first : List Instr
+  code_first = first.code im.strings 0 0
+
+  abbrev code_second : List Instr
+  code_second = second.code im.strings (length first.later) (total code_first)
+
+  both_small : total code_first + total code_second ≤ 15728640
+  both_small =
+      let a = (statements_weigh (labelled_from 1 ss) 1 ss).code im.strings 0 0 in
+      let b = queue_code (weights.total weight ss) first.later im.strings (length first.later) (total code_first) in
+      let c = fit.count in
+      let d = fit.together in
+      omega (arith, a, b, c, d)
+
+  pub code_small : total im.code ≤ 15728640
+  code_small = let a = both_small in let b = total_join code_first code_second in let c : total im.code ≡ total (code_first ++ code_second) = ap total (code_is ss fit.ends fit.statements) in omega (arith, a, b, c)
+
+  texts_small : of_texts (label_texts ss) + of_texts (code_of ss).texts ≤ 1048576
+  unfolding ◌>>◌
+  texts_small =
+      let a = (statements_weigh (labelled_from 1 ss) 1 ss).texts in
+      let b = queue_texts (weights.total weight ss) first.later in
+      let c = labels_weigh ss in
+      let d = fit.together in
+      let e = sum_join of_name first.texts second.texts in
+      omega (arith, a, b, c, d, e)
+
+  strings_count : length im.strings ≤ 1048576
+  strings_count =
+      let a = few_strings (label_texts ss) (with_texts (code_of ss).texts []) in
+      let b = few_strings (code_of ss).texts [] in
+      let c = texts_small in
+      omega (arith, a, b, c)
+
+  statements_count : length im.statements ≤ 1048576
+  statements_count = let a = offsets_count ss fit.ends fit.statements in let b = fit.count in omega (arith, a, b)
+
+  expressions_count : length im.expressions ≤ 1048576
+  expressions_count =
+      let a = offsets_length (expressions_of ss) im.strings (length first.later) (total code_first) in
+      let b = queue_length (weights.total weight ss) first.later in
+      let c = fit.together in
+      omega (arith, a, b, c)
+
+  few : Few im
+  few = record {
+    statements = let h = statements_count in omega (arith, h);
+    strings = let h = strings_count in omega (arith, h);
+    expressions = let h = expressions_count in omega (arith, h);
+    patterns = omega arith;
+  }
+
+  -- the law
+  pub spelt : IsImage im
+  spelt = record {
+    entry = (let (j, is, less) = entry_among ss fit.ends fit.statements (entry_label ss) in let c = fit.count in let h : entry_in ss (entry_label ss) < 2 ^ 32 = omega (arith, is, less, c) in h);
+    strings = record {
+      count = (let h = strings_count in let e : length im.strings ≤ most = omega (arith, h) in e);
+      entries =
+          let h = texts_small in
+          texts_follow (label_texts ss) (with_texts (code_of ss).texts []) (omega (arith, h)) (texts_follow (code_of ss).texts [] (omega (arith, h)) tt);
+    };
+    labels = record {
+      count = (let h = labels_count im.strings 1 ss in let c = fit.count in let e : length im.labels ≤ most = omega (arith, h, c) in e);
+      entries = labels_follow im.strings (few.strings) 1 ss (let c = fit.count in omega (arith, c)) [] (λ m h. refl);
+    };
+    statements = record {
+      count = (let h = statements_count in let e : length im.statements ≤ most = omega (arith, h) in e);
+      entries = statements_follow im.strings (statements_of ss) (statements_full (labelled_from 1 ss) 1 ss) 0 0 [] refl (let h = both_small in omega (arith, h));
+    };
+    expressions = record {
+      count = (let h = expressions_count in let e : length im.expressions ≤ most = omega (arith, h) in e);
+      entries = expressions_follow im.strings (expressions_of ss) (length first.later) (total code_first) [] (let h = both_small in omega (arith, h));
+    };
+    patterns = record { count = omega arith; entries = tt };
+    code = code_fits im few im.statements 0 bare im.code (let h = code_small in omega (arith, h)) (is_sound ss fit.ends fit.statements).sound;
+    code_length = (let h = code_small in let l = code_length im.code in let e : length (code_bytes im.code) ≤ most_code = omega (arith, h, l) in e);
+  }

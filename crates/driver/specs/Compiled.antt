@@ -1,0 +1,59 @@
+-- What compiling a deck gives.
+use Rattle.std.specs.Prelude.{◌≡◌, ◌≢◌, ◌⊎◌, ⊤, ℕ, List, []}
+use Rattle.model.specs.declared.cards.CardFault.{CardFault}
+use Rattle.model.specs.declared.cards.CardRule.TheVariants as rule
+use Rattle.model.specs.declared.causes.DeckFault.{DeckFault}
+use Rattle.model.specs.declared.causes.DeckFault.TheVariants as fault
+use Rattle.model.specs.declared.causes.StmtFault.{StmtFault}
+use Rattle.model.specs.declared.image.Image.{Image}
+use Rattle.model.specs.Agreement.{Agrees}
+use Rattle.model.specs.Faults.{verdict, CardRefused, Refused, Accepted}
+use Rattle.model.specs.Spelling.{IsImage, spelling}
+use Rattle.model.specs.Trees.{Stmt}
+use Rattle.model.specs.WellFormed.{IsWellFormed}
+use Rattle.driver.specs.declared.refusal.Refusal.{Refusal}
+use Rattle.driver.specs.declared.refusal.Refusal.TheVariants as refusal
+use Rattle.driver.specs.Fragment.{literals_of, not_yet}
+use Rattle.driver.specs.Generated.{image_of}
+
+-- ---- decks that are accepted
+
+-- the deck has no fault, these are its trees, and each of them runs today
+pub record IsAccepted (deck : List ℕ) (ss : List Stmt) : Type 0 where
+  pub faultless : verdict deck ≡ Accepted ss
+  pub runs : not_yet 1 ss ≡ []
+
+-- the bytes are the module of the deck: they spell a well-formed image that does what the deck's statements mean
+pub record IsModuleOf (deck bytes : List ℕ) : Type 0 where
+  pub statements : List Stmt
+  pub trees : verdict deck ≡ Accepted statements
+  pub image : Image
+  pub generated : image ≡ image_of (literals_of statements)
+  pub has_spelling : IsImage image
+  pub spelt : bytes ≡ spelling image
+  pub sound : IsWellFormed image
+  pub agrees : Agrees statements image
+
+-- ---- decks that are refused
+
+-- the deck has no fault, and these of its statements don't run today
+abbrev pub AreNotYet : List ℕ → List StmtFault → Type 0
+AreNotYet deck fs = (ss : List Stmt) × (verdict deck ≡ Accepted ss) × (fs ≡ not_yet 1 ss) × (fs ≢ [])
+
+-- the card fault alone; else all faulty statements in order; else all that don't run today
+abbrev pub IsRefusalOf : List ℕ → Refusal → Type 0
+IsRefusalOf deck (refusal.Card f) = verdict deck ≡ CardRefused f
+IsRefusalOf deck (refusal.Statements fs) = (verdict deck ≡ Refused fs) ⊎ AreNotYet deck fs
+IsRefusalOf deck refusal.Memory = ⊤
+
+-- ---- how faults of the layers are told
+
+-- want of memory is told in one way
+abbrev pub OfCards : CardFault → Refusal → Type 0
+OfCards f (refusal.Card g) = (g ≡ f) × (f.rule ≢ rule.Memory)
+OfCards f (refusal.Statements fs) = ⊥
+OfCards f refusal.Memory = f.rule ≡ rule.Memory
+
+abbrev pub OfStatements : DeckFault → Refusal → Type 0
+OfStatements (fault.Faulty fs) r = r ≡ refusal.Statements fs
+OfStatements fault.Memory r = r ≡ refusal.Memory

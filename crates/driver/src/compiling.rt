@@ -1,0 +1,79 @@
+//! From a deck to a module.
+
+ghost use Rattle.std.specs.Prelude.{◌≡◌, ◌<◌, ◌^◌, List, ℕ, map, length, IfOk, IfErr, OnOk};
+ghost use Rattle.model.specs.Faults.{verdict, Accepted};
+ghost use Rattle.model.specs.Trees as tree;
+ghost use Rattle.model.specs.TreeViews.{program_of, stmt_of};
+ghost use Rattle.driver.specs.Compiled.{IsAccepted, IsModuleOf, IsRefusalOf, OfCards, OfStatements};
+ghost use Rattle.driver.specs.Fragment.{literals_of};
+ghost use Rattle.driver.specs.Generated.{image_of};
+
+use crate::fragment::{literals, not_yet};
+use crate::generating::generate;
+use crate::refusal::Refusal;
+use card_reader::read_deck;
+use model::{CardFault, CardRule, DeckFault, Image, Program, Stmt};
+use module_format::write_image;
+use parser::parse_deck;
+use std::alloc::{AllocError, Global};
+
+impl From<CardFault> for Refusal {
+    ghost from_gives = { OfCards };
+
+    fn from(fault: CardFault) -> Refusal {
+        match fault.rule {
+            CardRule::Memory => Refusal::Memory,
+            _ => Refusal::Card(fault),
+        }
+    }
+}
+
+impl From<DeckFault> for Refusal {
+    ghost from_gives = { OfStatements };
+
+    fn from(fault: DeckFault) -> Refusal {
+        match fault {
+            DeckFault::Faulty(faults) => Refusal::Statements(faults),
+            DeckFault::Memory => Refusal::Memory,
+        }
+    }
+}
+
+// The trees of a deck without faults.
+fn read_program(alloc: Global, deck: &[u8]) -> Result<Program, Refusal>
+    ensures trees { IfOk result (λ p. verdict deck.now ≡ Accepted (program_of p)) }
+    ensures refused { IfErr result (IsRefusalOf deck.now) }
+{
+    let deck = read_deck(alloc, deck)?;
+    let program = parse_deck(alloc, &deck)?;
+    Ok(program)
+}
+
+// The image of statements that all run today.
+fn image(alloc: Global, statements: &[Stmt]) -> Result<Image, AllocError>
+    requires { length statements.now < 2 ^ 24 }
+    ensures { IfOk result (λ image. image ≡ image_of (literals_of (map stmt_of statements.now))) }
+{
+    let literals = literals(alloc, statements)?;
+    generate(alloc, &literals)
+}
+
+/// The module of a deck, or why the deck is refused.
+pub fn compile_deck(alloc: Global, deck: &[u8]) -> Result<Vec<u8>, Refusal>
+    // A deck that is accepted has no fault, and each of its statements runs today.
+    ensures accepted { OnOk result ((ss : List tree.Stmt) × IsAccepted deck.now ss) }
+    // The module is well-formed, and does what the deck's statements mean, on all inputs.
+    ensures module { IfOk result (λ bytes. IsModuleOf deck.now bytes.items) }
+    // A deck is refused by exactly its faults; want of memory says nothing of the deck.
+    ensures refused { IfErr result (IsRefusalOf deck.now) }
+{
+    let program = read_program(alloc, deck)?;
+    let statements = program.statements.as_slice();
+    let faults = not_yet(alloc, statements)?;
+    if !faults.as_slice().is_empty() {
+        return Err(Refusal::Statements(faults));
+    }
+    let image = image(alloc, statements)?;
+    let module = write_image(alloc, &image)?;
+    Ok(module)
+}

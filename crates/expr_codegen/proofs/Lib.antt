@@ -1,0 +1,4 @@
+pub mod TextPlaces
+pub mod Joins
+pub mod Constructs
+pub mod Arguments

@@ -1,0 +1,58 @@
+-- The table of strings puts and finds texts as the definitions do.
+use Rattle.std.proofs.Common.{◌≡◌, ℕ, suc, List, [], ◌∷◌, ◌++◌, map, Bool, true, false, not, refl, ap, nat_eq, bytes_eq, if◌then◌else◌, ◌||◌, ◌≤◌, ◌+◌, ◌*◌, append_assoc, length, arith, slice_get, Some, rules, sym, ◌∙◌}
+use Rattle.std.specs.Cmp.Lexicographic.{pointwise}
+use Rattle.std.specs.List.{list_any, position_or_len, prefix_len}
+use Rattle.std.specs.declared.vec.Vec.{Vec}
+use Rattle.std.specs.declared.alloc.Global.{Global}
+use Rattle.indexmap.specs.IndexSet.{insert_key}
+use Rattle.expr_codegen.specs.Texts.{place_of, with_text}
+
+abbrev pub Text : Type 0
+Text = Vec ℕ Global
+
+abbrev pub items : Text → List ℕ
+items v = v.items
+
+abbrev pub same : Text → Text → Bool
+same x y = pointwise nat_eq x.items y.items
+
+pub put_key : (v : Text) (ks : List Text) → map items (insert_key same ks v) ≡ with_text v.items (map items ks)
+put_key v [] = refl
+put_key v (x ∷ ks) = elim (same v x) as (λ b. map items (if b || list_any (same v) ks then x ∷ ks else (x ∷ ks) ++ v ∷ []) ≡ (if b then x.items ∷ map items ks else x.items ∷ with_text v.items (map items ks))) [
+  | true ↦ refl
+  | false ↦ elim (list_any (same v) ks) as (λ b. map items (if b then ks else ks ++ v ∷ []) ≡ with_text v.items (map items ks) → map items (if b then x ∷ ks else (x ∷ ks) ++ v ∷ []) ≡ x.items ∷ with_text v.items (map items ks)) [
+    | true ↦ λ e. ap (λ l. x.items ∷ l) e
+    | false ↦ λ e. ap (λ l. x.items ∷ l) e
+  ] (put_key v ks)
+]
+
+not_then : (b : Bool) (n m : ℕ) → n ≡ m → (if not b then 1 + n else 0) ≡ (if b then 0 else suc m)
+not_then true n m e = refl
+not_then false n m e = let h : 1 + n ≡ suc m = omega (arith, e) in h
+
+pub place_key : (v : Text) (ks : List Text) → position_or_len (same v) ks ≡ place_of v.items (map items ks)
+place_key v [] = refl
+place_key v (x ∷ ks) = not_then (same v x) (position_or_len (same v) ks) (place_of v.items (map items ks)) (place_key v ks)
+
+-- the place of a text is the same before and after it is put
+pub place_put : (t : List ℕ) (ts : List (List ℕ)) → place_of t (with_text t ts) ≡ place_of t ts
+place_put t [] = let e : bytes_eq t t ≡ true = search rules in rw e refl
+place_put t (s ∷ ss) = elim (bytes_eq t s) as (λ b. (bytes_eq t s ≡ b) → place_of t (if b then s ∷ ss else s ∷ with_text t ss) ≡ (if b then 0 else suc (place_of t ss))) [
+  | true ↦ λ e. rw e refl
+  | false ↦ λ e. rw e (ap suc (place_put t ss))
+] refl
+
+-- and stays as others are put
+pub place_stays : (s : List ℕ) (ts more : List (List ℕ)) → place_of s (with_text s ts ++ more) ≡ place_of s (with_text s ts)
+place_stays s [] more = let e : bytes_eq s s ≡ true = search rules in rw e refl
+place_stays s (x ∷ xs) more = elim (bytes_eq s x) as (λ b. (bytes_eq s x ≡ b) → place_of s ((if b then x ∷ xs else x ∷ with_text s xs) ++ more) ≡ place_of s (if b then x ∷ xs else x ∷ with_text s xs)) [
+  | true ↦ λ e. rw e refl
+  | false ↦ λ e. rw e (ap suc (place_stays s xs more))
+] refl
+
+pub few_more : (t : List ℕ) (ts : List (List ℕ)) → length (with_text t ts) ≤ length ts + 1
+few_more t [] = omega arith
+few_more t (s ∷ ss) = elim (bytes_eq t s) as (λ b. length (if b then s ∷ ss else s ∷ with_text t ss) ≤ length (s ∷ ss) + 1) [
+  | true ↦ omega arith
+  | false ↦ let h = few_more t ss in omega (arith, h)
+]

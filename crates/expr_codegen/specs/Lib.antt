@@ -1,0 +1,4 @@
+pub mod Texts
+pub mod Code
+pub mod Emitting
+pub mod Views

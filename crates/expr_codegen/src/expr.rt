@@ -1,0 +1,320 @@
+//! Code of expressions.
+
+ghost use Rattle.std.specs.Prelude.{◌≡◌, ◌<◌, ◌≤◌, ◌+◌, ◌*◌, ◌^◌, length, OnOk};
+ghost use Rattle.model.specs.Names.{prim_named};
+ghost use Rattle.model.specs.declared.trees.Unary.TheVariants as u;
+ghost use Rattle.model.specs.Trees.{Apply, Combine};
+ghost use Rattle.model.specs.TreeViews.{expr_of, args_of};
+ghost use Rattle.model.specs.Weights.{of_expr, of_args};
+ghost use Rattle.expr_codegen.specs.Code as code;
+ghost use Rattle.expr_codegen.specs.Emitting.{Emits, Countable, AllCountable, size, most_counted};
+ghost use Rattle.expr_codegen.specs.Views as views;
+ghost use Rattle.expr_codegen.specs.Views.{gen_of};
+
+use crate::generator::Generator;
+use crate::single::{call, keyword, literal, variable};
+use model::{Argument, Binary, Expr, Instr, ArithOp, SignOp, Unary};
+use std::alloc::{AllocError, Global};
+
+/// Puts the code for the value of an expression.
+#[cycle(tree)]
+pub fn value<'a>(alloc: Global, g: &mut Generator<'a>, e: &'a Expr) -> Result<(), AllocError>
+    requires countable { Countable (expr_of e.now) }
+    requires room { size (gen_of g.old) + 9 * of_expr (expr_of e.now) < 2 ^ 31 }
+    ensures emits { OnOk result (Emits (code.value (expr_of e.now)) (gen_of g.old) (gen_of g.new)) }
+    ensures size { OnOk result (size (gen_of g.new) ≤ size (gen_of g.old) + 9 * of_expr (expr_of e.now)) }
+{
+    match e {
+        Expr::Name(x) => {
+            variable(alloc, g, x)?;
+            g.put(Instr::Fetch)?;
+            Ok(())
+        }
+        Expr::Integer(z) => {
+            let n = *z;
+            g.put(Instr::Int(n))?;
+            Ok(())
+        }
+        Expr::Literal(s) => {
+            literal(alloc, g, s)?;
+            Ok(())
+        }
+        Expr::Keyword(k) => {
+            keyword(g, k)?;
+            Ok(())
+        }
+        Expr::Call(f, args) => {
+            called(alloc, g, f, args, false)?;
+            Ok(())
+        }
+        Expr::Reference(x, args) => {
+            element(alloc, g, x, args)?;
+            g.put(Instr::Fetch)?;
+            Ok(())
+        }
+        Expr::Unary(op, x) => {
+            applied(alloc, g, *op, x)?;
+            Ok(())
+        }
+        Expr::Binary(op, x, y) => {
+            combined(alloc, g, *op, x, y)?;
+            Ok(())
+        }
+    }
+}
+
+/// Puts the code for the name that an expression gives; what is no target has none.
+#[cycle(tree)]
+pub fn name<'a>(alloc: Global, g: &mut Generator<'a>, e: &'a Expr) -> Result<(), AllocError>
+    requires countable { Countable (expr_of e.now) }
+    requires room { size (gen_of g.old) + 9 * of_expr (expr_of e.now) < 2 ^ 31 }
+    ensures emits { OnOk result (Emits (code.name (expr_of e.now)) (gen_of g.old) (gen_of g.new)) }
+    ensures size { OnOk result (size (gen_of g.new) ≤ size (gen_of g.old) + 9 * of_expr (expr_of e.now)) }
+{
+    match e {
+        Expr::Name(x) => {
+            variable(alloc, g, x)?;
+            Ok(())
+        }
+        Expr::Call(f, args) => {
+            called(alloc, g, f, args, true)?;
+            Ok(())
+        }
+        Expr::Reference(x, args) => {
+            element(alloc, g, x, args)?;
+            Ok(())
+        }
+        Expr::Unary(op, x) => {
+            applied_name(alloc, g, *op, x)?;
+            Ok(())
+        }
+        Expr::Integer(_) | Expr::Literal(_) | Expr::Keyword(_) | Expr::Binary(_, _, _) => Ok(()),
+    }
+}
+
+// Puts the code for the name that a unary operator and its operand give.
+#[cycle(tree)]
+fn applied_name<'a>(
+    alloc: Global,
+    g: &mut Generator<'a>,
+    op: Unary,
+    x: &'a Expr,
+) -> Result<(), AllocError>
+    requires countable { Countable (expr_of x.now) }
+    requires room { size (gen_of g.old) + 9 * of_expr (expr_of x.now) + 9 < 2 ^ 31 }
+    ensures emits { OnOk result (Emits (code.name (Apply op (expr_of x.now))) (gen_of g.old) (gen_of g.new)) }
+    ensures size { OnOk result (size (gen_of g.new) ≤ size (gen_of g.old) + 9 * of_expr (expr_of x.now) + 9) }
+{
+    match op {
+        Unary::Indirect => {
+            value(alloc, g, x)?;
+            g.put(Instr::Indir)?;
+            Ok(())
+        }
+        _ => Ok(()),
+    }
+}
+
+// Puts the code for the value of a unary operator and its operand.
+#[cycle(tree)]
+fn applied<'a>(
+    alloc: Global,
+    g: &mut Generator<'a>,
+    op: Unary,
+    x: &'a Expr,
+) -> Result<(), AllocError>
+    requires countable { Countable (expr_of x.now) }
+    requires room { size (gen_of g.old) + 9 * of_expr (expr_of x.now) + 9 < 2 ^ 31 }
+    ensures emits { OnOk result (Emits (code.value (Apply op (expr_of x.now))) (gen_of g.old) (gen_of g.new)) }
+    ensures size { OnOk result (size (gen_of g.new) ≤ size (gen_of g.old) + 9 * of_expr (expr_of x.now) + 9) }
+{
+    match op {
+        Unary::NameOf => {
+            name(alloc, g, x)?;
+            g.put(Instr::NameV)?;
+            Ok(())
+        }
+        Unary::Cursor => {
+            name(alloc, g, x)?;
+            g.put(Instr::Cursor)?;
+            Ok(())
+        }
+        Unary::Indirect => {
+            value(alloc, g, x)?;
+            g.put(Instr::Indir)?;
+            g.put(Instr::Fetch)?;
+            Ok(())
+        }
+        Unary::Unevaluated => {
+            g.defer(x)?;
+            Ok(())
+        }
+        Unary::Plus => {
+            value(alloc, g, x)?;
+            g.put(Instr::Sign(SignOp::Plus))?;
+            Ok(())
+        }
+        Unary::Minus => {
+            value(alloc, g, x)?;
+            g.put(Instr::Sign(SignOp::Minus))?;
+            Ok(())
+        }
+        Unary::Interrogate => {
+            value(alloc, g, x)?;
+            g.put(Instr::Drop)?;
+            g.put(Instr::Null)?;
+            Ok(())
+        }
+        Unary::Negate => {
+            negated(alloc, g, x)?;
+            Ok(())
+        }
+    }
+}
+
+// Puts the code for the value of `~` and its operand.
+#[cycle(tree)]
+fn negated<'a>(alloc: Global, g: &mut Generator<'a>, x: &'a Expr) -> Result<(), AllocError>
+    requires countable { Countable (expr_of x.now) }
+    requires room { size (gen_of g.old) + 9 * of_expr (expr_of x.now) + 9 < 2 ^ 31 }
+    ensures emits { OnOk result (Emits (code.value (Apply u.Negate (expr_of x.now))) (gen_of g.old) (gen_of g.new)) }
+    ensures size { OnOk result (size (gen_of g.new) ≤ size (gen_of g.old) + 9 * of_expr (expr_of x.now) + 9) }
+{
+    let number = g.len();
+    g.put(Instr::Try(0))?;
+    value(alloc, g, x)?;
+    g.put(Instr::Drop)?;
+    g.put(Instr::Untry)?;
+    g.put(Instr::Fail)?;
+    let target = g.at();
+    g.put(Instr::Null)?;
+    g.change(number, Instr::Try(target));
+    Ok(())
+}
+
+// Puts the code for the value of a binary operator and its operands.
+#[cycle(tree)]
+fn combined<'a>(
+    alloc: Global,
+    g: &mut Generator<'a>,
+    op: Binary,
+    x: &'a Expr,
+    y: &'a Expr,
+) -> Result<(), AllocError>
+    requires left { Countable (expr_of x.now) }
+    requires right { Countable (expr_of y.now) }
+    requires room { size (gen_of g.old) + 9 * (of_expr (expr_of x.now) + of_expr (expr_of y.now) + 1) < 2 ^ 31 }
+    ensures emits { OnOk result (Emits (code.value (Combine op (expr_of x.now) (expr_of y.now))) (gen_of g.old) (gen_of g.new)) }
+    ensures size { OnOk result (size (gen_of g.new) ≤ size (gen_of g.old) + 9 * (of_expr (expr_of x.now) + of_expr (expr_of y.now) + 1)) }
+{
+    value(alloc, g, x)?;
+    wanted(alloc, g, takes_target(op), y)?;
+    g.put(instr_of(op))?;
+    Ok(())
+}
+
+// Puts the code for the name or for the value of an expression.
+#[cycle(tree)]
+fn wanted<'a>(
+    alloc: Global,
+    g: &mut Generator<'a>,
+    wants_name: bool,
+    e: &'a Expr,
+) -> Result<(), AllocError>
+    requires countable { Countable (expr_of e.now) }
+    requires room { size (gen_of g.old) + 9 * of_expr (expr_of e.now) < 2 ^ 31 }
+    ensures emits { OnOk result (Emits (views.wanted wants_name (expr_of e.now)) (gen_of g.old) (gen_of g.new)) }
+    ensures size { OnOk result (size (gen_of g.new) ≤ size (gen_of g.old) + 9 * of_expr (expr_of e.now)) }
+{
+    if wants_name {
+        name(alloc, g, e)
+    } else {
+        value(alloc, g, e)
+    }
+}
+
+// Puts the code of a call.
+#[cycle(tree)]
+fn called<'a>(
+    alloc: Global,
+    g: &mut Generator<'a>,
+    f: &'a [u8],
+    args: &'a [Argument],
+    wants_name: bool,
+) -> Result<(), AllocError>
+    requires countable { AllCountable (args_of args.now) }
+    requires few { length args.now ≤ most_counted (prim_named f.now) }
+    requires room { size (gen_of g.old) + 9 * of_args (args_of args.now) + 8 < 2 ^ 31 }
+    ensures emits { OnOk result (Emits (views.called wants_name f.now (args_of args.now) (length args.now)) (gen_of g.old) (gen_of g.new)) }
+    ensures size { OnOk result (size (gen_of g.new) ≤ size (gen_of g.old) + 9 * of_args (args_of args.now) + 8) }
+{
+    arguments(alloc, g, args)?;
+    call(alloc, g, f, args.len(), wants_name)?;
+    Ok(())
+}
+
+// Puts the code for the name of a reference.
+#[cycle(tree)]
+fn element<'a>(
+    alloc: Global,
+    g: &mut Generator<'a>,
+    x: &'a [u8],
+    args: &'a [Argument],
+) -> Result<(), AllocError>
+    requires countable { AllCountable (args_of args.now) }
+    requires few { length args.now ≤ 65535 }
+    requires room { size (gen_of g.old) + 9 * of_args (args_of args.now) + 10 < 2 ^ 31 }
+    ensures emits { OnOk result (Emits (views.element x.now (args_of args.now) (length args.now)) (gen_of g.old) (gen_of g.new)) }
+    ensures size { OnOk result (size (gen_of g.new) ≤ size (gen_of g.old) + 9 * of_args (args_of args.now) + 10) }
+{
+    variable(alloc, g, x)?;
+    g.put(Instr::Fetch)?;
+    arguments(alloc, g, args)?;
+    g.put(Instr::Elem(args.len() as u16))?;
+    Ok(())
+}
+
+// Puts the code of arguments, one after another.
+#[cycle(tree)]
+fn arguments<'a>(
+    alloc: Global,
+    g: &mut Generator<'a>,
+    args: &'a [Argument],
+) -> Result<(), AllocError>
+    requires countable { AllCountable (args_of args.now) }
+    requires room { size (gen_of g.old) + 9 * of_args (args_of args.now) < 2 ^ 31 }
+    ensures emits { OnOk result (Emits (code.arguments (args_of args.now)) (gen_of g.old) (gen_of g.new)) }
+    ensures size { OnOk result (size (gen_of g.new) ≤ size (gen_of g.old) + 9 * of_args (args_of args.now)) }
+{
+    for argument in args {
+        match argument {
+            Argument::Absent => g.put(Instr::Null)?,
+            Argument::Given(e) => value(alloc, g, e)?,
+        }
+    }
+    Ok(())
+}
+
+// Whether the right operand is a target.
+fn takes_target(op: Binary) -> bool
+    ensures { result ≡ views.takes_target op }
+{
+    matches!(op, Binary::Conditional | Binary::Immediate)
+}
+
+// The instruction of a binary operator.
+fn instr_of(op: Binary) -> Instr
+    ensures { result ≡ views.instr_of op }
+{
+    match op {
+        Binary::Conditional => Instr::Cond,
+        Binary::Immediate => Instr::Imm,
+        Binary::Power => Instr::Arith(ArithOp::Power),
+        Binary::Multiply => Instr::Arith(ArithOp::Multiply),
+        Binary::Divide => Instr::Arith(ArithOp::Divide),
+        Binary::Add => Instr::Arith(ArithOp::Add),
+        Binary::Subtract => Instr::Arith(ArithOp::Subtract),
+        Binary::Concatenate => Instr::Cat,
+        Binary::Alternate => Instr::Alt,
+    }
+}

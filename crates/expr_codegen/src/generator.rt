@@ -1,0 +1,152 @@
+//! The state of a generator.
+
+ghost use Rattle.std.specs.Prelude.{◌≡◌, ◌<◌, ◌≤◌, ◌+◌, ◌*◌, ◌^◌, [], length, map, option_map, IfOk, OnOk};
+ghost use Rattle.model.specs.Modules.{bytes, total};
+ghost use Rattle.model.specs.TreeViews.{expr_of};
+ghost use Rattle.model.specs.Weights.{of_expr};
+ghost use Rattle.expr_codegen.specs.Emitting.{size};
+ghost use Rattle.model.specs.declared.instr.Instr.{Instr};
+
+use crate::strings::Strings;
+use model::{Bytes, Expr, Instr, Seq};
+use std::alloc::{AllocError, Global};
+
+/// The code so far and its tables.
+#[derive(Drop)]
+pub struct Generator<'a> {
+    code: Vec<Instr>,
+    at: u32,
+    strings: Strings,
+    waiting: Vec<&'a Expr>,
+    taken: usize,
+    ghost counted: { at ≡ total code.items },
+    ghost within: { taken ≤ length waiting.items },
+}
+
+impl<'a> Generator<'a> {
+    ghost use Rattle.expr_codegen.specs.Views.{gen_of};
+    ghost use Rattle.expr_codegen.specs.Emitting as spec;
+
+    /// No code.
+    pub fn new(alloc: Global) -> Self
+        ensures { gen_of result ≡ record { code = []; texts = []; waiting = []; taken = 0 } }
+    {
+        Generator {
+            code: Vec::new(alloc),
+            at: 0,
+            strings: Strings::new(alloc),
+            waiting: Vec::new(alloc),
+            taken: 0,
+        }
+    }
+
+    /// The offset behind the code so far.
+    pub fn at(&self) -> u32
+        ensures { result ≡ total (gen_of self.now).code }
+    {
+        self.at
+    }
+
+    /// How many instructions there are so far.
+    pub fn len(&self) -> usize
+        ensures { result ≡ length (gen_of self.now).code }
+    {
+        self.code.len()
+    }
+
+    /// Puts an instruction.
+    #[tactic(auto, using(crate::proofs::Joins::total_snoc), unfolding(crate::specs::Emitting::size))]
+    pub fn put(&mut self, i: Instr) -> Result<(), AllocError>
+        requires { size (gen_of self.old) + bytes i < 2 ^ 31 }
+        ensures put { OnOk result (gen_of self.new ≡ spec.with_instr i (gen_of self.old)) }
+        ensures size { OnOk result (size (gen_of self.new) ≡ size (gen_of self.old) + bytes i) }
+    {
+        self.code.push(i)?;
+        self.at += length_of(i);
+        Ok(())
+    }
+
+    /// The number of a string.
+    #[tactic(auto, unfolding(crate::specs::Emitting::size))]
+    pub fn string(&mut self, alloc: Global, text: &[u8]) -> Result<u32, AllocError>
+        requires { size (gen_of self.old) < 2 ^ 31 }
+        ensures numbered { IfOk result (λ k. spec.Numbered text.now k (gen_of self.old) (gen_of self.new)) }
+        ensures size { OnOk result (size (gen_of self.new) ≤ size (gen_of self.old) + 1) }
+    {
+        self.strings.number(alloc, text)
+    }
+
+    /// Puts the number of an expression that stays unevaluated.
+    #[tactic(auto, unfolding(crate::specs::Emitting::size))]
+    pub fn defer(&mut self, x: &'a Expr) -> Result<(), AllocError>
+        requires { size (gen_of self.old) + 9 * of_expr (expr_of x.now) + 7 < 2 ^ 31 }
+        ensures put { OnOk result (gen_of self.new ≡ spec.with_waiting (expr_of x.now) (spec.with_instr (Instr.Expr (length (gen_of self.old).waiting)) (gen_of self.old))) }
+        ensures size { OnOk result (size (gen_of self.new) ≡ size (gen_of self.old) + 9 * of_expr (expr_of x.now) + 7) }
+    {
+        let number = self.waiting.len() as u32;
+        self.put(Instr::Expr(number))?;
+        self.waiting.push(x)?;
+        Ok(())
+    }
+
+    /// Takes the next unevaluated expression.
+    pub fn take(&mut self) -> Option<&'a Expr>
+        ensures { spec.Takes (option_map (λ e. expr_of e.now) result) (gen_of self.old) (gen_of self.new) }
+    {
+        match self.waiting.get(self.taken) {
+            Some(next) => {
+                self.taken += 1;
+                Some(*next)
+            }
+            None => None,
+        }
+    }
+
+    /// The strings by number.
+    pub fn strings(&self, alloc: Global) -> Result<Seq<Bytes>, AllocError>
+        ensures { IfOk result (λ s. s ≡ (gen_of self.now).texts) }
+    {
+        self.strings.to_seq(alloc)
+    }
+
+    /// The code.
+    pub fn into_code(self) -> Seq<Instr>
+        ensures { result ≡ (gen_of self.entry).code }
+    {
+        Seq::from_vec(self.code)
+    }
+
+    /// Changes instruction number `n` to one of the same length.
+    #[tactic(auto, using(crate::proofs::Joins::total_same), unfolding(crate::specs::Emitting::size))]
+    pub fn change(&mut self, n: usize, i: Instr)
+        requires { spec.SameBytes (gen_of self.old).code n i }
+        ensures put { gen_of self.new ≡ spec.with_changed n i (gen_of self.old) }
+        ensures size { size (gen_of self.new) ≡ size (gen_of self.old) }
+    {
+        self.code[n] = i;
+    }
+}
+
+// How many bytes an instruction has.
+fn length_of(i: Instr) -> u32
+    ensures { result ≡ bytes i }
+{
+    match i {
+        Instr::Int(_) => 9,
+        Instr::CallV(_, _) | Instr::CallN(_, _) => 7,
+        Instr::Begin(_)
+        | Instr::Goto(_)
+        | Instr::Str(_)
+        | Instr::Var(_)
+        | Instr::Expr(_)
+        | Instr::Try(_)
+        | Instr::Pat(_) => 5,
+        Instr::Elem(_) | Instr::PrimV(_, _) | Instr::PrimN(_, _) => 3,
+        Instr::Return(_)
+        | Instr::KeyGet(_)
+        | Instr::KeySet(_)
+        | Instr::Sign(_)
+        | Instr::Arith(_) => 2,
+        _ => 1,
+    }
+}

@@ -1,0 +1,94 @@
+//! Code without operands of its own: variables, literals, keywords and calls behind their arguments.
+
+ghost use Rattle.std.specs.Prelude.{◌≡◌, ◌<◌, ◌≤◌, ◌+◌, ◌^◌, if◌then◌else◌, OnOk};
+ghost use Rattle.model.specs.Names.{key_named, prim_named};
+ghost use Rattle.expr_codegen.specs.Code.{with_string, with_key};
+ghost use Rattle.expr_codegen.specs.Emitting.{Emits, size, most_counted};
+ghost use Rattle.expr_codegen.specs.Views.{gen_of, call_of};
+ghost use Rattle.model.specs.declared.instr.Instr.{Instr};
+
+use crate::generator::Generator;
+use model::{Instr, KeyId, PrimId};
+use std::alloc::{AllocError, Global};
+
+/// Puts a variable's name.
+pub fn variable<'a>(alloc: Global, g: &mut Generator<'a>, name: &[u8]) -> Result<(), AllocError>
+    requires { size (gen_of g.old) + 6 < 2 ^ 31 }
+    ensures emits { OnOk result (Emits (with_string (λ k. Instr.Var k) name.now) (gen_of g.old) (gen_of g.new)) }
+    ensures size { OnOk result (size (gen_of g.new) ≤ size (gen_of g.old) + 6) }
+{
+    let number = g.string(alloc, name)?;
+    g.put(Instr::Var(number))?;
+    Ok(())
+}
+
+/// Puts a literal.
+pub fn literal<'a>(alloc: Global, g: &mut Generator<'a>, text: &[u8]) -> Result<(), AllocError>
+    requires { size (gen_of g.old) + 6 < 2 ^ 31 }
+    ensures emits { OnOk result (Emits (with_string (λ k. Instr.Str k) text.now) (gen_of g.old) (gen_of g.new)) }
+    ensures size { OnOk result (size (gen_of g.new) ≤ size (gen_of g.old) + 6) }
+{
+    let number = g.string(alloc, text)?;
+    g.put(Instr::Str(number))?;
+    Ok(())
+}
+
+/// Puts a keyword's value.
+pub fn keyword<'a>(g: &mut Generator<'a>, name: &[u8]) -> Result<(), AllocError>
+    requires { size (gen_of g.old) + 2 < 2 ^ 31 }
+    ensures emits { OnOk result (Emits (with_key (λ k. Instr.KeyGet k) (key_named name.now)) (gen_of g.old) (gen_of g.new)) }
+    ensures size { OnOk result (size (gen_of g.new) ≤ size (gen_of g.old) + 2) }
+{
+    if let Some(key) = KeyId::named(name) {
+        g.put(Instr::KeyGet(key))?;
+    }
+    Ok(())
+}
+
+// The call of a primitive, for a name or for a value.
+fn primitive_call(wants_name: bool, primitive: PrimId, count: u8) -> Instr
+    ensures { result ≡ (if wants_name then Instr.PrimN primitive count else Instr.PrimV primitive count) }
+{
+    if wants_name {
+        Instr::PrimN(primitive, count)
+    } else {
+        Instr::PrimV(primitive, count)
+    }
+}
+
+// The same of a function of the program's own.
+fn own_call(wants_name: bool, name: u32, count: u16) -> Instr
+    ensures { result ≡ (if wants_name then Instr.CallN name count else Instr.CallV name count) }
+{
+    if wants_name {
+        Instr::CallN(name, count)
+    } else {
+        Instr::CallV(name, count)
+    }
+}
+
+/// Puts the call of a function behind its arguments, for a name or for a value.
+pub fn call<'a>(
+    alloc: Global,
+    g: &mut Generator<'a>,
+    function: &[u8],
+    count: usize,
+    wants_name: bool,
+) -> Result<(), AllocError>
+    requires few { count ≤ most_counted (prim_named function.now) }
+    requires room { size (gen_of g.old) + 8 < 2 ^ 31 }
+    ensures emits { OnOk result (Emits (call_of wants_name function.now count) (gen_of g.old) (gen_of g.new)) }
+    ensures size { OnOk result (size (gen_of g.new) ≤ size (gen_of g.old) + 8) }
+{
+    match PrimId::named(function) {
+        Some(primitive) => {
+            g.put(primitive_call(wants_name, primitive, count as u8))?;
+            Ok(())
+        }
+        None => {
+            let name = g.string(alloc, function)?;
+            g.put(own_call(wants_name, name, count as u16))?;
+            Ok(())
+        }
+    }
+}

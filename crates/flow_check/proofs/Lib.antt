@@ -1,0 +1,10 @@
+pub mod Stacks
+pub mod RunLaws
+pub mod SameShapes
+pub mod Steps
+pub mod ByRule
+pub mod Forward
+pub mod Telling
+pub mod Walking
+pub mod Seeding
+pub mod Whole

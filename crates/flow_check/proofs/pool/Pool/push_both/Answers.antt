@@ -1,0 +1,12 @@
+use Rattle.std.proofs.Common.{◌∷◌, arith, length, ◌<◌, ◌-◌, ◌^◌}
+use Rattle.model.specs.Flow.{N}
+use Rattle.flow_check.proofs.pool.Pool.push_both.Goals as goal
+
+pub push-requires-2 : goal.push-requires-2
+push-requires-2 c =
+    let q = c.requires in
+    let fits : length (N ∷ q.0) < 2 ^ 32 - 1 = omega (arith, q.2) in
+    (N ∷ q.0, c.in_ok-name.ensures.pushed q.0 q.1, fits)
+
+pub returns-clause-pushed : goal.returns-clause-pushed
+returns-clause-pushed c = λ ks h. c.in_ok-both.ensures.pushed (N ∷ ks) (c.in_ok-name.ensures.pushed ks h)

@@ -1,0 +1,23 @@
+use Rattle.std.proofs.Common.{◌≡◌, ℕ, true, Option, Some, None, rules}
+use Rattle.flow_check.specs.contracts.pool.NodePartialEq.TheImpl as node_eq
+use Rattle.flow_check.specs.declared.pool.Kind.TheVariants.{Value, Name, Span}
+use Rattle.flow_check.specs.declared.pool.Top.{Top}
+use Rattle.flow_check.specs.declared.pool.Top.TheVariants.{Run, Begin, Try}
+use Rattle.flow_check.specs.Numbers.{node}
+use Rattle.flow_check.proofs.Stacks.{put_grows}
+use Rattle.flow_check.proofs.pool.Pool.put.Goals as goal
+
+like : (t : Top) (b : Option ℕ) → node_eq.ghosts.eq (node t b) (node t b) ≡ true
+like (Run Value n) None = search rules
+like (Run Name n) None = search rules
+like (Run Span n) None = search rules
+like (Begin n) None = search rules
+like (Try n d) None = search rules
+like (Run Value n) (Some b) = search rules
+like (Run Name n) (Some b) = search rules
+like (Run Span n) (Some b) = search rules
+like (Begin n) (Some b) = search rules
+like (Try n d) (Some b) = search rules
+
+pub returns-clause-grows : goal.returns-clause-grows
+returns-clause-grows c = put_grows node_eq.ghosts.eq (λ n. like n.top n.below) _ _ _ c.in_ok-index.ensures.keys c.in_ok-index.ensures.unique

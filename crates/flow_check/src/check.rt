@@ -1,0 +1,109 @@
+//! One walk over the code.
+
+ghost use Rattle.std.specs.Prelude.{◌≡◌, ◌<◌, ◌^◌, ℕ, length, None, Some, IfOk, OnOk};
+ghost use Rattle.model.specs.Spelling.{IsImage};
+ghost use Rattle.model.specs.Flow.{BreaksFlow, IsLeast};
+ghost use Rattle.flow_check.specs.Marks.{marked, met, seeded, Followed, Stepped};
+ghost use Rattle.flow_check.specs.declared.marks.Mark.TheVariants.{One};
+ghost use Rattle.flow_check.specs.declared.shapes.Shape as shapes;
+ghost use Rattle.flow_check.specs.Rules.{rule_of};
+ghost use Rattle.model.specs.Flow as flow;
+ghost use Rattle.flow_check.specs.Shapes.{empty_shape, IsShape};
+ghost use Rattle.flow_check.specs.declared.shapes.Mode.TheVariants.{Goto, Evaluation};
+
+use crate::flow::{advance, empty};
+use crate::marks::{Mark, Marks};
+use crate::pool::Pool;
+use crate::rules::{Rule, rule_for, size};
+use crate::shapes::{Mode, Shape};
+use model::{Image, Instr};
+use std::alloc::{AllocError, Global};
+
+/// Marks where statements or expressions begin.
+fn seed(marks: &mut Marks, offsets: &[u32], shape: Shape) -> Result<(), AllocError>
+    ensures { OnOk result ((y : ℕ) → marked marks.new y ≡ seeded offsets.now shape (marked marks.old) y) }
+{
+    for offset in offsets {
+        marks.note(*offset, shape)?;
+    }
+    Ok(())
+}
+
+/// The marks of where the code can begin.
+fn roots(alloc: Global, image: &Image) -> Result<Marks, AllocError>
+    ensures { IfOk result (λ m. (y : ℕ) → marked m y ≡ seeded image.now.expressions (empty_shape Evaluation) (seeded image.now.statements (empty_shape Goto) (λ _. None)) y) }
+{
+    let mut marks = Marks::new(alloc);
+    seed(&mut marks, image.statements.as_slice(), empty(Mode::Goto))?;
+    seed(
+        &mut marks,
+        image.expressions.as_slice(),
+        empty(Mode::Evaluation),
+    )?;
+    Ok(marks)
+}
+
+/// How far the walk has come: the stacks and marks there are, and the shape that the instruction before leaves.
+#[derive(Drop)]
+struct Walk {
+    pool: Pool,
+    marks: Marks,
+    carried: Option<Shape>,
+}
+
+/// What follows where one shape comes; whether what is asked is there.
+fn follow(walk: &mut Walk, at: u32, rule: Rule, shape: Shape) -> Result<bool, AllocError>
+    requires { (s : flow.Shape) × IsShape walk.old.pool.nodes.keys shape s × (length s.kinds < 2 ^ 31) }
+    ensures { IfOk result (λ fine. Followed walk.old.pool.nodes.keys walk.new.pool.nodes.keys (marked walk.old.marks) (marked walk.new.marks) walk.new.carried at rule shape fine) }
+{
+    match advance(&mut walk.pool, rule, shape)? {
+        None => Ok(false),
+        Some(led) => {
+            walk.marks.follow(at, led.target)?;
+            walk.carried = led.next;
+            Ok(true)
+        }
+    }
+}
+
+/// One instruction; whether it keeps the flow.
+fn step(walk: &mut Walk, at: u32, instr: Instr) -> Result<bool, AllocError>
+    requires { (a : shapes.Shape) → met walk.old.carried (marked walk.old.marks at) ≡ Some (One a) → (s : flow.Shape) × IsShape walk.old.pool.nodes.keys a s × (length s.kinds < 2 ^ 31) }
+    ensures { IfOk result (λ fine. Stepped walk.old.pool.nodes.keys walk.new.pool.nodes.keys (marked walk.old.marks) (marked walk.new.marks) walk.new.carried at (rule_of instr) (met walk.old.carried (marked walk.old.marks at)) fine) }
+{
+    match walk.marks.meet(at, walk.carried) {
+        None => {
+            walk.carried = None;
+            Ok(true)
+        }
+        Some(Mark::Torn) => Ok(false),
+        Some(Mark::One(shape)) => {
+            let fine = follow(walk, at, rule_for(instr), shape)?;
+            Ok(fine)
+        }
+    }
+}
+
+/// The least offset of an instruction that breaks the flow: one that lacks what it asks, or is reached in two ways that
+/// differ. One walk over the code in order, in time linear in its bytes.
+pub fn check_flow(alloc: Global, image: &Image) -> Result<Option<u32>, AllocError>
+    requires { IsImage image.now }
+    ensures least { IfOk result (λ flow. IsLeast (BreaksFlow image.now) flow) }
+{
+    let marks = roots(alloc, image)?;
+    let mut walk = Walk {
+        pool: Pool::new(alloc),
+        marks,
+        carried: None,
+    };
+    let mut at = 0;
+    let code = image.code.as_slice();
+    for instr in code {
+        let fine = step(&mut walk, at, *instr)?;
+        if !fine {
+            return Ok(Some(at));
+        }
+        at += size(*instr);
+    }
+    Ok(None)
+}

@@ -1,0 +1,121 @@
+//! Stacks of operands and of handlers, with equal numbers for equal stacks.
+
+ghost use Rattle.std.specs.Prelude.{◌≡◌, ◌<◌, ◌-◌, ◌^◌, List, [], ◌∷◌, length, IfOk, OnErr, OnOk, IfSome, IfNone, Some, None, option_map, slice_get};
+ghost use Rattle.flow_check.specs.declared.pool.Top.{Top};
+ghost use Rattle.flow_check.specs.Numbers.{Is, Grows, AreBoth, node_at, run_length, below_run, popped};
+ghost use Rattle.flow_check.specs.Shapes.{kind_of, runs};
+ghost use Rattle.model.specs.Flow as flow;
+
+use indexmap::IndexSet;
+use std::alloc::{AllocError, Global};
+
+/// What an operand is.
+#[derive(Clone, Copy, PartialEq, Eq, Hash)]
+pub(crate) enum Kind {
+    Value,
+    Name,
+    Span,
+}
+
+/// What stands uppermost on a stack: some operands of a kind, or a handler.
+#[derive(Clone, Copy, PartialEq, Eq, Hash)]
+pub(crate) enum Top {
+    Run(Kind, u32),
+    Begin(u32),
+    Try(u32, u32),
+}
+
+/// The number of a stack; the empty one has none.
+pub(crate) type Stack = Option<usize>;
+
+/// A stack: its top, and the stack below.
+#[derive(Clone, Copy, PartialEq, Eq, Hash)]
+pub(crate) struct Node {
+    pub top: Top,
+    pub below: Stack,
+}
+
+/// The stacks that there are, no two equal.
+#[derive(Drop)]
+pub(crate) struct Pool {
+    nodes: IndexSet<Node>,
+}
+
+impl Pool {
+    pub(crate) fn new(alloc: Global) -> Pool
+        ensures { result.nodes.keys ≡ [] }
+    {
+        Pool {
+            nodes: IndexSet::new(alloc),
+        }
+    }
+
+    /// The number of the stack with one more on it.
+    pub(crate) fn put(&mut self, top: Top, below: Stack) -> Result<Stack, AllocError>
+        ensures grows { OnOk result (Grows self.old.nodes.keys self.new.nodes.keys) }
+        ensures put { IfOk result (λ k. node_at self.new.nodes.keys k ≡ Some (record { top = top; below = below })) }
+    {
+        let (index, _) = self.nodes.insert_full(Node { top, below })?;
+        Ok(Some(index))
+    }
+
+    /// The top of a stack.
+    pub(crate) fn top(&self, stack: Stack) -> Option<Node>
+        ensures { result ≡ node_at self.now.nodes.keys stack }
+    {
+        match stack {
+            None => None,
+            Some(index) => self.nodes.get_index(index).copied(),
+        }
+    }
+
+    /// How many operands of a kind stand uppermost, and the stack below them.
+    pub(crate) fn run(&self, kind: Kind, stack: Stack) -> (u32, Stack)
+        ensures { (ts : List Top) → Is self.now.nodes.keys stack ts → (result.0 ≡ run_length kind ts) × Is self.now.nodes.keys result.1 (below_run kind ts) }
+    {
+        match self.top(stack) {
+            Some(
+                Node {
+                    top: Top::Run(of, count),
+                    below,
+                },
+            ) if kind == of => (count, below),
+            _ => (0, stack),
+        }
+    }
+
+    /// The stack with one more operand.
+    pub(crate) fn push(&mut self, kind: Kind, stack: Stack) -> Result<Stack, AllocError>
+        requires { (ks : List flow.Kind) × Is self.old.nodes.keys stack (runs ks) × (length ks < 2 ^ 32 - 1) }
+        ensures grows { OnOk result (Grows self.old.nodes.keys self.new.nodes.keys) }
+        ensures pushed { IfOk result (λ k. (ks : List flow.Kind) → Is self.old.nodes.keys stack (runs ks) → Is self.new.nodes.keys k (runs (kind_of kind ∷ ks))) }
+    {
+        let (count, below) = self.run(kind, stack);
+        let more = self.put(Top::Run(kind, count + 1), below)?;
+        Ok(more)
+    }
+
+    /// The stack without so many operands of a kind, if they stand uppermost.
+    pub(crate) fn pop(
+        &mut self,
+        kind: Kind,
+        count: u32,
+        stack: Stack,
+    ) -> Result<Option<Stack>, AllocError>
+        ensures grows { OnOk result (Grows self.old.nodes.keys self.new.nodes.keys) }
+        ensures popped { IfOk result (λ k. (ts : List Top) → Is self.old.nodes.keys stack ts → AreBoth self.new.nodes.keys k (popped kind count ts)) }
+    {
+        if count == 0 {
+            return Ok(Some(stack));
+        }
+        let (there, below) = self.run(kind, stack);
+        if there < count {
+            return Ok(None);
+        }
+        if there == count {
+            return Ok(Some(below));
+        }
+        let fewer = self.put(Top::Run(kind, there - count), below)?;
+        Ok(Some(fewer))
+    }
+}

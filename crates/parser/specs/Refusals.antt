@@ -1,0 +1,22 @@
+-- What a deck's statements come to.
+use Rattle.std.specs.Prelude.{◌≡◌, ◌≢◌, ⊤, List, [], Result, Ok, Err}
+use Rattle.model.specs.declared.cards.Statement.{Statement}
+use Rattle.model.specs.declared.causes.DeckFault.{DeckFault}
+use Rattle.model.specs.declared.causes.DeckFault.TheVariants as fault
+use Rattle.model.specs.declared.causes.StmtFault.{StmtFault}
+use Rattle.model.specs.declared.trees.Program.{Program}
+use Rattle.model.specs.Faults.{faults, trees}
+use Rattle.model.specs.TreeViews.{program_of}
+
+-- these faulty statements, of which there is at least one, are told
+abbrev pub AreTold : List StmtFault → List StmtFault → Type 0
+AreTold faults fs = (fs ≡ faults) × (faults ≢ [])
+
+-- all faulty statements are told, unless memory ran out
+abbrev pub IsRefusal : List StmtFault → DeckFault → Type 0
+IsRefusal faults (fault.Faulty fs) = AreTold faults fs
+IsRefusal faults fault.Memory = ⊤
+
+abbrev pub IsParsed : List Statement → Result Program (List StmtFault) → Type 0
+IsParsed statements (Ok p) = (faults statements ≡ []) × (program_of p ≡ trees statements)
+IsParsed statements (Err fs) = AreTold (faults statements) fs

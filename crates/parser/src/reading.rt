@@ -1,0 +1,63 @@
+//! Statements as they are read, one by one.
+
+ghost use Rattle.std.specs.Prelude.{◌≡◌, map, IfOk};
+ghost use Rattle.model.specs.Faults as faults;
+ghost use Rattle.model.specs.TreeViews.{stmt_of};
+ghost use Rattle.parser.specs.Reads.{IsRead, numbered, shown, trees_of};
+
+use lexer::lex;
+use model::{Cause, Statement, Stmt};
+use std::alloc::{AllocError, Global};
+use stmt_parser::parse_statement;
+
+/// What is read of a statement.
+#[derive(Drop)]
+pub(crate) struct Read {
+    pub(crate) number: u32,
+    /// Its tree, or the cause for which it has none.
+    pub(crate) tree: Result<Stmt, Cause>,
+}
+
+// The tree of a text, or the cause for which it has none. Keeps no tokens.
+fn tree(alloc: Global, text: &[u8]) -> Result<Stmt, Cause>
+    ensures { IsRead (faults.read text.now) result }
+{
+    let tokens = lex(alloc, text)?;
+    parse_statement(alloc, &tokens)
+}
+
+fn read_statement(alloc: Global, statement: &Statement) -> Result<Read, AllocError>
+    ensures { IfOk result (λ r. shown r ≡ numbered statement.now) }
+{
+    let number = statement.number;
+    match tree(alloc, statement.text.as_slice()) {
+        Err(Cause::Memory) => Err(AllocError),
+        tree => Ok(Read { number, tree }),
+    }
+}
+
+/// Reads each statement.
+pub(crate) fn read_all(alloc: Global, statements: &[Statement]) -> Result<Vec<Read>, AllocError>
+    ensures { IfOk result (λ rs. map shown rs.items ≡ map numbered statements.now) }
+{
+    let mut reads = Vec::new(alloc);
+    for statement in statements {
+        let read = read_statement(alloc, statement)?;
+        reads.push(read)?;
+    }
+    Ok(reads)
+}
+
+/// The trees of those that have one.
+pub(crate) fn trees(alloc: Global, reads: Vec<Read>) -> Result<Vec<Stmt>, AllocError>
+    ensures { IfOk result (λ ts. map stmt_of ts.items ≡ trees_of (map shown reads.items)) }
+{
+    let mut trees = Vec::new(alloc);
+    for read in reads {
+        let Ok(tree) = read.tree else {
+            continue;
+        };
+        trees.push(tree)?;
+    }
+    Ok(trees)
+}

@@ -1,0 +1,142 @@
+//! The rules that statements keep.
+
+ghost use Rattle.std.specs.Prelude.{◌≡◌, option_map, option_to_list};
+ghost use Rattle.model.specs.Faults as faults;
+ghost use Rattle.model.specs.Names.{key_named};
+ghost use Rattle.model.specs.TreeViews.{body_of, goto_of, object_of, place_of, stmt_of};
+ghost use Rattle.parser.specs.Rules.{AreKept};
+
+use crate::labels::{Labels, label_given};
+use crate::rules::{Kept, is_target, keeps};
+use model::{Body, Cause, Expr, Goto, KeyId, Place, Stmt};
+
+fn place_keeps(place: &Place) -> Kept
+    ensures { AreKept result (λ test. faults.in_place test (place_of place.now)) }
+{
+    match place {
+        Place::Label(_) => Kept::ALL,
+        Place::Computed(expr) => keeps(expr),
+    }
+}
+
+fn goto_keeps(goto: &Goto) -> Kept
+    ensures { AreKept result (λ test. faults.in_goto test (goto_of goto.now)) }
+{
+    match goto {
+        Goto::Next => Kept::ALL,
+        Goto::Always(place) | Goto::OnSuccess(place) | Goto::OnFailure(place) => place_keeps(place),
+        Goto::Both(success, failure) => place_keeps(success).and(place_keeps(failure)),
+    }
+}
+
+fn object_keeps(object: &Option<Expr>) -> Kept
+    ensures { AreKept result (λ test. faults.in_object test (object_of object.now)) }
+{
+    match object {
+        None => Kept::ALL,
+        Some(expr) => keeps(expr),
+    }
+}
+
+fn body_keeps(body: &Body) -> Kept
+    ensures { AreKept result (λ test. faults.in_body test (body_of body.now)) }
+{
+    match body {
+        Body::Nothing => Kept::ALL,
+        Body::Evaluate(subject) => keeps(subject),
+        Body::Match(subject, pattern) => keeps(subject).and(keeps(pattern)),
+        Body::Assign(subject, object) => keeps(subject).and(object_keeps(object)),
+        Body::Replace(subject, pattern, object) => {
+            keeps(subject).and(keeps(pattern).and(object_keeps(object)))
+        }
+    }
+}
+
+// What the expressions of a statement keep.
+fn statement_keeps(statement: &Stmt) -> Kept
+    ensures { AreKept result (λ test. faults.throughout test (stmt_of statement.now)) }
+{
+    match statement {
+        Stmt::Plain { body, goto, .. } => body_keeps(body).and(goto_keeps(goto)),
+        Stmt::End { .. } => Kept::ALL,
+    }
+}
+
+fn may_be_assigned(name: &[u8]) -> bool
+    ensures { result ≡ faults.may_be_assigned (key_named name.now) }
+{
+    match KeyId::named(name) {
+        Some(key) => !key.is_protected(),
+        None => false,
+    }
+}
+
+// Whether the subject of `=` can be assigned to.
+fn subject_fits(body: &Body) -> bool
+    ensures { result ≡ faults.subject_fits (body_of body.now) }
+{
+    match body {
+        Body::Assign(Expr::Keyword(name), _) => may_be_assigned(name),
+        Body::Assign(subject, _) | Body::Replace(subject, _, _) => is_target(subject),
+        _ => true,
+    }
+}
+
+// Whether all that must be a target is one.
+fn targets_fit(statement: &Stmt, kept: Kept) -> bool
+    requires { AreKept kept (λ test. faults.throughout test (stmt_of statement.now)) }
+    ensures { result ≡ faults.targets_fit (stmt_of statement.now) }
+{
+    match statement {
+        Stmt::Plain { body, .. } => subject_fits(body) && kept.operands,
+        Stmt::End { .. } => true,
+    }
+}
+
+fn is_return(label: &[u8]) -> bool
+    ensures { result ≡ faults.is_among label.now faults.returns }
+{
+    label == b"RETURN".as_slice()
+        || label == b"FRETURN".as_slice()
+        || label == b"NRETURN".as_slice()
+}
+
+// Whether a label is one that returns have, or an earlier statement gives it.
+fn is_taken(label: Option<&[u8]>, earlier: &Labels<'_>) -> bool
+    ensures { result ≡ faults.is_taken earlier.now (option_to_list (option_map (λ l. l.now) label.entry)) }
+{
+    match label {
+        Some(label) => is_return(label) || earlier.contains(label),
+        None => false,
+    }
+}
+
+// Whether a statement gives the label where execution begins.
+fn entry_given(statement: &Stmt, all: &Labels<'_>) -> bool
+    ensures { result ≡ faults.entry_given all.now (stmt_of statement.now) }
+{
+    match statement {
+        Stmt::End { entry: Some(entry) } => all.contains(entry),
+        _ => true,
+    }
+}
+
+/// The least rule that a statement breaks, where the earlier statements and all statements give these labels.
+pub(crate) fn rule_broken(statement: &Stmt, earlier: &Labels<'_>, all: &Labels<'_>) -> Option<Cause>
+    ensures { result ≡ faults.rule_broken earlier.now all.now (stmt_of statement.now) }
+{
+    let kept = statement_keeps(statement);
+    if is_taken(label_given(statement), earlier) {
+        Some(Cause::LabelTaken)
+    } else if !kept.calls {
+        Some(Cause::TooManyArguments)
+    } else if !kept.keywords {
+        Some(Cause::UnknownKeyword)
+    } else if !targets_fit(statement, kept) {
+        Some(Cause::NotATarget)
+    } else if !entry_given(statement, all) {
+        Some(Cause::EntryMissing)
+    } else {
+        None
+    }
+}
