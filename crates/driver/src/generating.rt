@@ -3,7 +3,7 @@
 ghost use Rattle.std.specs.Prelude.{◌≡◌, ◌<◌, ◌≤◌, ◌+◌, ◌*◌, ◌^◌, ◌++◌, ◌∷◌, List, [], ℕ, map, length, IfOk, OnOk};
 ghost use Rattle.driver.specs.Generated.{image_of, with_texts, statement_code};
 
-use crate::strings::Strings;
+use crate::string_table::Strings;
 use model::{Image, Instr, Seq};
 use std::alloc::{AllocError, Global};
 

@@ -6,7 +6,8 @@ mod fragment;
 mod generating;
 mod laws;
 mod refusal;
-mod strings;
+mod running;
+mod string_table;
 mod telling;
 mod words;
 
@@ -15,5 +16,6 @@ pub use fragment::{literals, not_yet};
 pub use generating::generate;
 pub use laws::{all_print, printed_literals};
 pub use refusal::Refusal;
+pub use running::run_module;
 pub use telling::{Told, WriteFault, report};
 pub use words::{Job, read_words};

@@ -1,9 +1,6 @@
 pub mod Assigning
 pub mod Flowing
-pub mod Numbers
-pub mod Places
 pub mod Running
-pub mod Searching
 pub mod Seeing
 pub mod Stopping
 pub mod Telling

@@ -3,9 +3,8 @@
 
 mod machine;
 mod operands;
-mod program;
 mod stack;
 mod state;
 mod status;
 
-pub use machine::{Machine, run_image};
+pub use machine::{Machine, run_from_entry};

@@ -7,17 +7,14 @@ ghost use Rattle.model.specs.Agreement.{first_m, mach};
 ghost use Rattle.model.specs.Machine as m;
 ghost use Rattle.model.specs.Machine.{begun, steps};
 ghost use Rattle.model.specs.Modules.{module_of};
-ghost use Rattle.model.specs.Spelling.{IsImage};
-ghost use Rattle.model.specs.WellFormed.{IsWellFormed};
-ghost use Rattle.statement_machine.specs.Runnable.{AreRunYet};
 ghost use Rattle.statement_machine.specs.Held.{Holds};
 ghost use Rattle.statement_machine.specs.Stopped.{IfRan, IfStopped, IsStop, ending_of, status_at};
 ghost use Rattle.statement_machine.specs.declared.status.Halt.{Halt as RustHalt};
 
-use crate::program::Program;
 use crate::state::State;
 use crate::status::Halt;
-use model::{Image, Status, Stop};
+use loader::Module;
+use model::{Status, Stop};
 use std::alloc::{AllocError, Global};
 use std::marker::Model;
 use unit_io::Units;
@@ -25,7 +22,7 @@ use unit_io::Units;
 /// A run of a module.
 #[derive(Drop)]
 pub struct Machine<'m> {
-    program: Program<'m>,
+    program: &'m Module,
     state: State,
     halt: Option<Halt>,
 }
@@ -35,23 +32,19 @@ impl<'m> Model for Machine<'m> {
 
     ghost Value = { Held };
 
-    ghost view = { λ m. record { image = m.program; state = m.state; halt = m.halt } };
+    ghost view = { λ m. record { image = m.program.now; state = m.state; halt = m.halt } };
 
-    ghost invariant = { λ m. IsGoing m.halt (IsSound m.program m.state) };
+    ghost invariant = { λ m. IsGoing m.halt (IsSound m.program.now m.state) };
 }
 
 impl<'m> Machine<'m> {
     /// A run of a module, before its first step.
-    pub fn new(alloc: Global, image: &'m Image) -> Result<Machine<'m>, AllocError>
-        requires spelt { IsImage image.now }
-        requires formed { IsWellFormed image.now }
-        requires run_yet { AreRunYet image.now.code }
-        ensures image { IfOk result (λ machine. machine.image ≡ image.now) }
+    pub fn new(alloc: Global, program: &'m Module) -> Result<Machine<'m>, AllocError>
+        ensures image { IfOk result (λ machine. machine.image ≡ program.now) }
         ensures going { IfOk result (λ machine. machine.halt ≡ None) }
-        ensures begun { IfOk result (λ machine. (io : Io) → io.printed ≡ [] → Holds machine io (begun (module_of image.now) (first_m io.left))) }
+        ensures begun { IfOk result (λ machine. (io : Io) → io.printed ≡ [] → Holds machine io (begun (module_of program.now) (first_m io.left))) }
     {
-        let program = Program::new(alloc, image)?;
-        let at = program.entry();
+        let at = program.start();
         let Ok(state) = State::new(alloc, at) else {
             return Err(AllocError);
         };
@@ -74,7 +67,7 @@ impl<'m> Machine<'m> {
         if let Some(halt) = self.halt {
             return halt.status();
         }
-        match self.state.run(&self.program, units, bound) {
+        match self.state.run(self.program, units, bound) {
             Ok(()) => Status::Running,
             Err(halt) => {
                 self.halt = Some(halt);
@@ -85,15 +78,17 @@ impl<'m> Machine<'m> {
 }
 
 /// Runs a module from its entry, at most so many steps.
-pub fn run_image<U: Units>(alloc: Global, image: &Image, units: &mut U, bound: u64) -> Status
-    requires spelt { IsImage image.now }
-    requires formed { IsWellFormed image.now }
-    requires run_yet { AreRunYet image.now.code }
+pub fn run_from_entry<U: Units>(
+    alloc: Global,
+    program: &Module,
+    units: &mut U,
+    bound: u64,
+) -> Status
     ensures run { IfRan result (IfTold (U.told units.old) (U.told units.new) (λ io io'. io.printed ≡ [] →
-        record { ending = ending_of result; printed = io'.printed } ≡ mach image.now io.left bound)) }
+        record { ending = ending_of result; printed = io'.printed } ≡ mach program.now io.left bound)) }
     ensures stop { IfStopped result (λ stop. IsStop stop (U.failures units.old) (U.failures units.new)) }
 {
-    match Machine::new(alloc, image) {
+    match Machine::new(alloc, program) {
         Ok(mut machine) => machine.run(units, bound),
         Err(_) => Status::Stopped(Stop::NoMemory),
     }

@@ -1,0 +1,18 @@
+use Rattle.std.proofs.Common.{◌∙◌, sym, ap, subst, map, length, ◌≤◌, ◌+◌}
+use Rattle.driver.specs.Generated.{place_of, with_text}
+use Rattle.driver.proofs.TextPlaces.{items, put_key, place_key, place_put, few_more}
+use Rattle.driver.proofs.string_table.Strings.number.Goals as goal
+
+pub returns-clause-put : goal.returns-clause-put
+returns-clause-put c =
+    ap (map items) c.in_ok-index.ensures.keys ∙ put_key c.in_ok-text.text c.self.inside.set.keys
+    ∙ ap (λ t. with_text t (map items c.self.inside.set.keys)) c.in_ok-text.ensures.items ∙ ap (with_text c.args.text.now) c.self.view_is
+
+pub returns-clause-place : goal.returns-clause-place
+returns-clause-place c =
+    c.in_ok-index.ensures.index ∙ place_key c.in_ok-text.text c.self.inside.set.keys
+    ∙ ap (λ t. place_of t (map items c.self.inside.set.keys)) c.in_ok-text.ensures.items ∙ ap (place_of c.args.text.now) c.self.view_is
+    ∙ sym (place_put c.args.text.now c.args.self.now) ∙ ap (place_of c.args.text.now) (sym (returns-clause-put c))
+
+pub returns-clause-few : goal.returns-clause-few
+returns-clause-few c = subst (λ l. length l ≤ length c.args.self.now + 1) (sym (returns-clause-put c)) (few_more c.args.text.now c.args.self.now)

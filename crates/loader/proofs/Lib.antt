@@ -1,0 +1,9 @@
+pub mod Judging
+pub mod Labelling
+pub mod Numbers
+pub mod Coding
+pub mod Fetching
+pub mod Scanning
+pub mod Searching
+pub mod Sizes
+pub mod Spelt

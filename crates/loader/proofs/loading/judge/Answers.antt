@@ -1,0 +1,9 @@
+use Rattle.std.proofs.Common.{sym, subst, ◌∙◌}
+use Rattle.model.specs.WellFormed.{IsTold}
+use Rattle.loader.proofs.Judging.{loaded}
+use Rattle.loader.proofs.loading.judge.Goals as goal
+
+pub new-requires-clause-loaded : goal.new-requires-clause-loaded
+new-requires-clause-loaded c =
+    let im = c.args.image in
+    loaded im c.requires (sym c.first_unknown.ensures ∙ c.in_default.is) (subst (IsTold im) c.in-None.is c.in_ok-fault.ensures)

@@ -1,0 +1,5 @@
+pub mod Running
+pub mod Places
+pub mod Parts
+pub mod Loaded
+pub mod Answers

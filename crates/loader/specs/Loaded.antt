@@ -1,0 +1,10 @@
+-- Images that the machine runs.
+use Rattle.model.specs.declared.image.Image.{Image}
+use Rattle.model.specs.Spelling.{IsImage}
+use Rattle.model.specs.WellFormed.{IsWellFormed}
+use Rattle.loader.specs.Running.{AreRunYet}
+
+pub record IsLoaded (im : Image) : Type 0 where
+  pub spelt : IsImage im
+  pub formed : IsWellFormed im
+  pub run_yet : AreRunYet im.code

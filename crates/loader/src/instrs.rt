@@ -1,0 +1,152 @@
+//! The instructions of the code.
+
+ghost use Rattle.std.specs.Prelude.{◌≡◌, ◌==◌};
+ghost use Rattle.std.specs.List.{list_any};
+ghost use Rattle.model.specs.Flow.{is_target};
+ghost use Rattle.model.specs.Modules.{total};
+ghost use Rattle.model.specs.Spelling.{IsImage, IsTable, StatementFits};
+ghost use Rattle.model.specs.WellFormed.{begins_last, code_at, indices_fit, instr_rule, is_end, is_last_instr, place_fits};
+ghost use Rattle.loader.specs.Parts.{code_fault};
+ghost use Rattle.loader.specs.Places.{offsets_from};
+
+use crate::code::{begins, bytes};
+use crate::names::{is_name, is_statement, is_string};
+use model::{Image, Instr, ModuleFault, ModuleRule};
+
+// Whether an instruction's numbers are there and allowed.
+fn indices_fit(image: &Image, instr: Instr) -> bool
+    ensures { result ≡ indices_fit image.now instr }
+{
+    match instr {
+        Instr::Goto(k) => is_statement(image, k),
+        Instr::Str(k) => is_string(image, k),
+        Instr::Var(k) | Instr::CallV(k, _) | Instr::CallN(k, _) => is_name(image, k),
+        Instr::KeySet(k) => !k.is_protected(),
+        Instr::Expr(k) => (k as usize) < image.expressions.as_slice().len(),
+        Instr::PrimV(p, n) | Instr::PrimN(p, n) => n as usize <= p.most_arguments(),
+        Instr::Pat(k) => (k as usize) < image.patterns.as_slice().len(),
+        _ => true,
+    }
+}
+
+// Whether a statement begins at an offset.
+fn has_statement(statements: &[u32], at: u32) -> bool
+    requires { IsTable StatementFits statements.now }
+    ensures { result ≡ list_any (λ o. o == at) statements.now }
+{
+    statements.binary_search(&at).is_ok()
+}
+
+// Whether an offset is one that the instruction at another may lead to.
+fn is_target(image: &Image, offsets: &[u32], at: u32, target: u32) -> bool
+    requires spelt { IsImage image.now }
+    requires offsets { offsets.now ≡ offsets_from 0 image.now.code }
+    ensures { result ≡ is_target image.now at target }
+{
+    at < target && begins(image, offsets, target)
+}
+
+// Whether an instruction's targets and its own place are as they must be.
+fn place_fits(image: &Image, offsets: &[u32], at: u32, instr: Instr) -> bool
+    requires spelt { IsImage image.now }
+    requires offsets { offsets.now ≡ offsets_from 0 image.now.code }
+    ensures { result ≡ place_fits image.now at instr }
+{
+    match instr {
+        Instr::Begin(target) => {
+            is_target(image, offsets, at, target) && has_statement(image.statements.as_slice(), at)
+        }
+        Instr::Try(target) => is_target(image, offsets, at, target),
+        _ => true,
+    }
+}
+
+// Whether an instruction may stand last.
+fn is_last_instr(instr: Instr) -> bool
+    ensures { result ≡ is_last_instr instr }
+{
+    matches!(
+        instr,
+        Instr::End
+            | Instr::Goto(_)
+            | Instr::Return(_)
+            | Instr::GotoV
+            | Instr::NoLabel
+            | Instr::Fail
+            | Instr::Ret
+    )
+}
+
+// Whether the last statement begins at an offset.
+fn begins_last(image: &Image, at: u32) -> bool
+    ensures { result ≡ begins_last image.now at }
+{
+    match image.statements.as_slice().last() {
+        Some(last) => *last == at,
+        None => false,
+    }
+}
+
+// The rule that the instruction at an offset breaks, in code of so many bytes.
+fn instr_rule(
+    image: &Image,
+    offsets: &[u32],
+    at: u32,
+    next: u32,
+    size: u32,
+    instr: Instr,
+) -> Option<ModuleRule>
+    requires spelt { IsImage image.now }
+    requires offsets { offsets.now ≡ offsets_from 0 image.now.code }
+    requires size { size ≡ total image.now.code }
+    ensures { result ≡ instr_rule image.now at next instr }
+{
+    if !indices_fit(image, instr) {
+        return Some(ModuleRule::BadIndex);
+    }
+    let goes_on = is_last_instr(instr) || next != size;
+    if !place_fits(image, offsets, at, instr) || !goes_on {
+        return Some(ModuleRule::BadTarget);
+    }
+    if begins_last(image, at) && !matches!(instr, Instr::End) {
+        return Some(ModuleRule::NoEnd);
+    }
+    None
+}
+
+// How many bytes the code has.
+#[tactic(auto, using(crate::proofs::Spelt::short))]
+fn size_of(image: &Image) -> u32
+    requires { IsImage image.now }
+    ensures { result ≡ total image.now.code }
+{
+    let code = image.code.as_slice();
+    let mut size = 0;
+    for instr in code {
+        size += bytes(*instr);
+    }
+    size
+}
+
+/// The first fault of the instructions of the code, which begins at a place.
+pub(crate) fn code_fault(image: &Image, offsets: &[u32], place: usize) -> Option<ModuleFault>
+    requires spelt { IsImage image.now }
+    requires offsets { offsets.now ≡ offsets_from 0 image.now.code }
+    requires there { place ≡ code_at image.now }
+    ensures { result ≡ code_fault image.now }
+{
+    let size = size_of(image);
+    let mut at = 0;
+    let code = image.code.as_slice();
+    for instr in code {
+        let next = at + bytes(*instr);
+        if let Some(rule) = instr_rule(image, offsets, at, next, size, *instr) {
+            return Some(ModuleFault {
+                offset: place + at as usize,
+                rule,
+            });
+        }
+        at = next;
+    }
+    None
+}

@@ -1,0 +1,88 @@
+//! All conditions of well-formed modules.
+
+ghost use Rattle.std.specs.Prelude.{◌≡◌, IfOk};
+ghost use Rattle.model.specs.Flow.{BreaksFlow, IsLeast};
+ghost use Rattle.model.specs.Spelling.{IsImage};
+ghost use Rattle.model.specs.WellFormed.{IsTold, flow_fault, lesser, number_of, part_fault};
+ghost use Rattle.loader.specs.Places.{offsets_from};
+
+use crate::flow::check_flow;
+use crate::instrs::code_fault;
+use crate::labels::label_fault;
+use crate::patterns::patterns_fault;
+use crate::places::{code_offset, places_of};
+use crate::tables::{entry_fault, expression_fault, statement_fault};
+use model::{Image, ModuleFault, ModuleRule};
+use std::alloc::{AllocError, Global};
+
+// The first fault of the parts.
+fn part_fault(
+    alloc: Global,
+    image: &Image,
+    offsets: &[u32],
+) -> Result<Option<ModuleFault>, AllocError>
+    requires spelt { IsImage image.now }
+    requires offsets { offsets.now ≡ offsets_from 0 image.now.code }
+    ensures { IfOk result (λ fault. fault ≡ part_fault image.now) }
+{
+    let places = places_of(image);
+    Ok(
+        entry_fault(image)
+            .or(label_fault(alloc, image, places.labels)?)
+            .or(statement_fault(image, offsets, places.statements))
+            .or(expression_fault(image, offsets, places.expressions))
+            .or(patterns_fault(image, places.patterns))
+            .or(code_fault(image, offsets, places.code)),
+    )
+}
+
+fn number_of(rule: ModuleRule) -> u8
+    ensures { result ≡ number_of rule }
+{
+    match rule {
+        ModuleRule::BadIndex => 1,
+        ModuleRule::BadTarget => 2,
+        ModuleRule::BadFlow => 3,
+        ModuleRule::BadJump => 4,
+        ModuleRule::NoEnd => 5,
+    }
+}
+
+// The one of the lesser offset, or of the lesser number there.
+fn lesser(first: Option<ModuleFault>, second: Option<ModuleFault>) -> Option<ModuleFault>
+    ensures { result ≡ lesser first second }
+{
+    let (Some(f), Some(g)) = (first, second) else {
+        return first.or(second);
+    };
+    let comes_first = g.offset < f.offset
+        || (g.offset == f.offset && number_of(g.rule) < number_of(f.rule));
+    if comes_first { second } else { first }
+}
+
+// The fault of the flow at an offset of the code.
+fn flow_fault(image: &Image, flow: Option<u32>) -> Option<ModuleFault>
+    requires { IsImage image.now }
+    ensures { result ≡ flow_fault image.now flow }
+{
+    let at = flow?;
+    Some(ModuleFault {
+        offset: code_offset(image, at),
+        rule: ModuleRule::BadFlow,
+    })
+}
+
+/// The least fault of an image, by the offsets of its instructions.
+pub(crate) fn fault_of(
+    alloc: Global,
+    image: &Image,
+    offsets: &[u32],
+) -> Result<Option<ModuleFault>, AllocError>
+    requires spelt { IsImage image.now }
+    requires offsets { offsets.now ≡ offsets_from 0 image.now.code }
+    ensures { IfOk result (λ fault. IsTold image.now fault) }
+{
+    let parts = part_fault(alloc, image, offsets)?;
+    let flow = check_flow(alloc, image)?;
+    Ok(lesser(parts, flow_fault(image, flow)))
+}

@@ -1,0 +1,18 @@
+//! From bytes to a checked module, as the machine reads it.
+#![tactic(auto)]
+
+mod code;
+mod flow;
+mod instrs;
+mod joining;
+mod labels;
+mod loading;
+mod module;
+mod names;
+mod patterns;
+mod places;
+mod tables;
+
+pub use code::runs_yet;
+pub use loading::load;
+pub use module::Module;

@@ -1,0 +1,63 @@
+//! From bytes to a module.
+
+ghost use Rattle.std.specs.Prelude.{◌≡◌, ◌⊎◌, Err, Ok, IfOk};
+ghost use Rattle.model.specs.declared.image.Image.{Image};
+ghost use Rattle.model.specs.Loading.{Loads};
+ghost use Rattle.model.specs.Reading.{image_of};
+ghost use Rattle.model.specs.Spelling.{IsImage};
+ghost use Rattle.loader.specs.Answers.{IsAnswer, IsJudged, IsKnown, no_memory};
+ghost use Rattle.loader.specs.Loaded.{IsLoaded};
+ghost use Rattle.loader.specs.Running.{first_unknown};
+
+use crate::code::{first_unknown, offsets_of};
+use crate::joining::fault_of;
+use crate::module::Module;
+use crate::places::code_offset;
+use model::{FormatFault, FormatRule, Image, LoadFault};
+use module_format::read_image;
+use std::alloc::{AllocError, Global};
+
+// The module of an image, or why it is refused.
+fn judge(alloc: Global, image: Image) -> Result<Result<Module, LoadFault>, AllocError>
+    requires { IsImage image }
+    ensures { IfOk result (λ answer. IsJudged image (first_unknown 0 image.code) answer) }
+{
+    if let Some(at) = first_unknown(&image) {
+        return Ok(Err(LoadFault::Format(FormatFault {
+            offset: code_offset(&image, at),
+            rule: FormatRule::UnknownInstruction,
+        })));
+    }
+    let offsets = offsets_of(alloc, &image)?;
+    match fault_of(alloc, &image, offsets.as_slice())? {
+        Some(fault) => Ok(Err(LoadFault::Module(fault))),
+        None => Ok(Ok(Module::new(alloc, image, offsets)?)),
+    }
+}
+
+fn answer(alloc: Global, bytes: &[u8]) -> Result<Module, LoadFault>
+    ensures { IsAnswer bytes.now result }
+{
+    let image = match read_image(alloc, bytes) {
+        Ok(image) => image,
+        Err(fault) => return Err(LoadFault::Format(fault)),
+    };
+    match judge(alloc, image) {
+        Ok(answer) => answer,
+        Err(_) => Err(LoadFault::Format(FormatFault {
+            offset: 0,
+            rule: FormatRule::Memory,
+        })),
+    }
+}
+
+/// The module that bytes spell, or why it is refused: the first format fault; else the first instruction that doesn't run
+/// yet; else the least fault of the conditions. Where a growth was refused that is told in place of any other answer.
+pub fn load(alloc: Global, bytes: &[u8]) -> Result<Module, LoadFault>
+    ensures exact { IsAnswer bytes.now result }
+    ensures loaded { IfOk result (λ m. (image_of bytes.now ≡ Ok m) × IsLoaded m) }
+    ensures defined { IsKnown bytes.now → (result ≡ Err no_memory) ⊎ Loads bytes.now result }
+    ensures accepted { (m : Image) → image_of bytes.now ≡ Ok m → IsLoaded m → (result ≡ Ok m) ⊎ (result ≡ Err no_memory) }
+{
+    answer(alloc, bytes)
+}

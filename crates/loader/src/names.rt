@@ -1,0 +1,79 @@
+//! What an index, a name and a number may be.
+
+ghost use Rattle.std.specs.Prelude.{◌≡◌, bytes_eq, is_none, not, option_copied};
+ghost use Rattle.model.specs.Calls.{return_of};
+ghost use Rattle.model.specs.Programs.{end_label};
+ghost use Rattle.model.specs.WellFormed.{is_label_name, is_name, is_nonnull, is_statement, is_string, rule};
+
+use model::{Bytes, Image, ModuleRule};
+
+/// The rule, unless it is kept.
+pub(crate) fn rule(broken: ModuleRule, kept: bool) -> Option<ModuleRule>
+    ensures { result ≡ rule broken kept }
+{
+    if kept { None } else { Some(broken) }
+}
+
+/// Whether there is a statement of this number.
+pub(crate) fn is_statement(image: &Image, number: u32) -> bool
+    ensures { result ≡ is_statement image.now number }
+{
+    number > 0 && number as usize <= image.statements.as_slice().len()
+}
+
+/// Whether there is a string of this number.
+pub(crate) fn is_string(image: &Image, number: u32) -> bool
+    ensures { result ≡ is_string image.now number }
+{
+    (number as usize) < image.strings.as_slice().len()
+}
+
+fn is_nonnull(string: Option<&Bytes>) -> bool
+    ensures { result ≡ is_nonnull (option_copied string.entry) }
+{
+    match string {
+        Some(bytes) => !bytes.as_slice().is_empty(),
+        None => false,
+    }
+}
+
+/// Whether the string of this number is a name.
+pub(crate) fn is_name(image: &Image, number: u32) -> bool
+    ensures { result ≡ is_name image.now number }
+{
+    is_nonnull(image.strings.as_slice().get(number as usize))
+}
+
+const END: [u8; 3] = *b"END";
+
+/// Whether bytes are the label of the last statement.
+pub(crate) fn is_end(name: &[u8]) -> bool
+    ensures { result ≡ bytes_eq end_label name.now }
+{
+    END.as_slice() == name
+}
+
+const RETURN: [u8; 6] = *b"RETURN";
+
+const FRETURN: [u8; 7] = *b"FRETURN";
+
+const NRETURN: [u8; 7] = *b"NRETURN";
+
+fn is_return(name: &[u8]) -> bool
+    ensures { result ≡ not (is_none (return_of name.now)) }
+{
+    name == RETURN.as_slice() || name == FRETURN.as_slice() || name == NRETURN.as_slice()
+}
+
+/// Whether a string may be the name of a label.
+pub(crate) fn is_label_name(string: Option<&Bytes>) -> bool
+    ensures { result ≡ is_label_name (option_copied string.entry) }
+{
+    match string {
+        Some(bytes) => {
+            let name = bytes.as_slice();
+            !name.is_empty() && !is_end(name) && !is_return(name)
+        }
+        None => false,
+    }
+}

@@ -1,0 +1,100 @@
+//! Where the parts of a module stand.
+
+ghost use Rattle.std.specs.Prelude.{◌≡◌, ◌+◌, ◌≤◌, length, map};
+ghost use Rattle.std.specs.List.{sum};
+ghost use Rattle.model.specs.Spelling.{IsImage, IsTable, PatternFits, StringFits, most};
+ghost use Rattle.model.specs.WellFormed.{code_at, expressions_at, labels_at, pat_bytes, pattern_bytes, patterns_at, statements_at, string_bytes};
+
+use model::{Bytes, Image, PatInstr, Seq};
+
+/// The offsets of the first entry of each table.
+#[derive(Clone, Copy)]
+pub(crate) struct Places {
+    pub(crate) labels: usize,
+    pub(crate) statements: usize,
+    pub(crate) expressions: usize,
+    pub(crate) patterns: usize,
+    pub(crate) code: usize,
+}
+
+// How many bytes the strings have, with their lengths.
+fn strings_size(strings: &[Bytes]) -> usize
+    requires { IsTable StringFits strings.now }
+    ensures { result ≡ sum (map string_bytes strings.now) }
+{
+    let mut size = 0;
+    for string in strings {
+        size += 4 + string.as_slice().len();
+    }
+    size
+}
+
+/// How many bytes an instruction of a pattern has.
+pub(crate) fn pat_bytes(instr: PatInstr) -> usize
+    ensures { result ≡ pat_bytes instr }
+{
+    match instr {
+        PatInstr::Len(_)
+        | PatInstr::Pos(_)
+        | PatInstr::RPos(_)
+        | PatInstr::Tab(_)
+        | PatInstr::RTab(_) => 9,
+        _ => 5,
+    }
+}
+
+/// How many bytes a pattern has, with its count.
+pub(crate) fn pattern_bytes(pattern: &[PatInstr]) -> usize
+    requires { length pattern.now ≤ most }
+    ensures { result ≡ pattern_bytes pattern.now }
+{
+    let mut size = 4;
+    for instr in pattern {
+        size += pat_bytes(*instr);
+    }
+    size
+}
+
+// How many bytes the patterns have.
+fn patterns_size(patterns: &[Seq<PatInstr>]) -> usize
+    requires { IsTable PatternFits patterns.now }
+    ensures { result ≡ sum (map pattern_bytes patterns.now) }
+{
+    let mut size = 0;
+    for pattern in patterns {
+        size += pattern_bytes(pattern.as_slice());
+    }
+    size
+}
+
+/// Where the parts of an image stand once it is spelt.
+#[tactic(auto, using(crate::proofs::Sizes::places_short))]
+pub(crate) fn places_of(image: &Image) -> Places
+    requires { IsImage image.now }
+    ensures labels { result.labels ≡ labels_at image.now }
+    ensures statements { result.statements ≡ statements_at image.now }
+    ensures expressions { result.expressions ≡ expressions_at image.now }
+    ensures patterns { result.patterns ≡ patterns_at image.now }
+    ensures code { result.code ≡ code_at image.now }
+{
+    let labels = 18 + strings_size(image.strings.as_slice());
+    let statements = labels + 8 * image.labels.as_slice().len() + 4;
+    let expressions = statements + 4 * image.statements.as_slice().len() + 4;
+    let patterns = expressions + 4 * image.expressions.as_slice().len() + 4;
+    let code = patterns + patterns_size(image.patterns.as_slice()) + 4;
+    Places {
+        labels,
+        statements,
+        expressions,
+        patterns,
+        code,
+    }
+}
+
+/// Where an offset of the code stands in the module.
+pub(crate) fn code_offset(image: &Image, at: u32) -> usize
+    requires { IsImage image.now }
+    ensures { result ≡ code_at image.now + at }
+{
+    places_of(image).code + at as usize
+}

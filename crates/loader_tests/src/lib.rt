@@ -1,0 +1,7 @@
+//! Tests of loading.
+#![tactic(auto)]
+
+#[cfg(test)]
+mod bytes;
+#[cfg(test)]
+mod tables;
