@@ -1,7 +1,7 @@
 //! What the program tells on standard error, and its exit status.
 
 use crate::refusal::Refusal;
-use model::{Ending, LoadFault, Status, Stop};
+use model::{Ending, FormatFault, FormatRule, LoadFault, Status, Stop, UnitFault};
 use std::io::{self, Write};
 
 /// What the program has to tell at its end.
@@ -42,12 +42,35 @@ fn report_ending<W: Write>(ending: Ending, out: &mut W) -> Result<u8, WriteFault
     }
 }
 
+fn report_no_memory<W: Write>(out: &mut W) -> Result<u8, WriteFault> {
+    writeln!(out, "no memory")?;
+    Ok(6)
+}
+
 fn report_stop<W: Write>(stop: Stop, out: &mut W) -> Result<u8, WriteFault> {
     match stop {
-        Stop::Unit { unit, cause } => writeln!(out, "unit {unit} {cause}")?,
-        Stop::NoMemory => writeln!(out, "no memory")?,
+        Stop::Unit {
+            cause: UnitFault::Memory,
+            ..
+        }
+        | Stop::NoMemory => report_no_memory(out),
+        Stop::Unit { unit, cause } => {
+            writeln!(out, "unit {unit} {cause}")?;
+            Ok(6)
+        }
     }
-    Ok(6)
+}
+
+fn report_bad_module<W: Write>(fault: LoadFault, out: &mut W) -> Result<u8, WriteFault> {
+    if let LoadFault::Format(FormatFault {
+        rule: FormatRule::Memory,
+        ..
+    }) = fault
+    {
+        return report_no_memory(out);
+    }
+    writeln!(out, "{fault}")?;
+    Ok(4)
 }
 
 fn report_status<W: Write>(status: Status, out: &mut W) -> Result<u8, WriteFault> {
@@ -69,10 +92,7 @@ fn report_refusal<W: Write>(refusal: &Refusal, out: &mut W) -> Result<u8, WriteF
                 writeln!(out, "{fault}")?;
             }
         }
-        Refusal::Memory => {
-            writeln!(out, "no memory")?;
-            return Ok(6);
-        }
+        Refusal::Memory => return report_no_memory(out),
     }
     Ok(3)
 }
@@ -85,10 +105,7 @@ pub fn report<W: Write>(told: &Told<'_>, out: &mut W) -> Result<u8, WriteFault> 
             Ok(2)
         }
         Told::Refused(refusal) => report_refusal(refusal, out),
-        Told::BadModule(fault) => {
-            writeln!(out, "{fault}")?;
-            Ok(4)
-        }
+        Told::BadModule(fault) => report_bad_module(*fault, out),
         Told::Ran(status) => report_status(*status, out),
         Told::CannotRead(file) => {
             writeln!(out, "cannot read {file}")?;
@@ -98,9 +115,6 @@ pub fn report<W: Write>(told: &Told<'_>, out: &mut W) -> Result<u8, WriteFault> 
             writeln!(out, "cannot write {file}")?;
             Ok(6)
         }
-        Told::NoMemory => {
-            writeln!(out, "no memory")?;
-            Ok(6)
-        }
+        Told::NoMemory => report_no_memory(out),
     }
 }
