@@ -1,0 +1,5 @@
+//! Tests of the flow of code.
+#![tactic(auto)]
+
+#[cfg(test)]
+mod modules;
