@@ -83,7 +83,7 @@ pub overflows : (a z : ℤ) (n m turn : ℕ) → power a m ≡ power a n → tur
 overflows a z n m turn same lt is other =
     let d : m - suc turn + suc turn ≡ m = omega (arith, lt) in
     sym (faults_beyond error.Arithmetic (power a n)
-      (λ fits. not_later a (suc turn) (m - suc turn) (λ f. other (subst (FitsSigned w64) (sym is) f)) (subst (FitsSigned w64) (sym (ap (power a) d ∙ same)) fits)))
+    (λ fits. not_later a (suc turn) (m - suc turn) (λ f. other (subst (FitsSigned w64) (sym is) f)) (subst (FitsSigned w64) (sym (ap (power a) d ∙ same)) fits)))
 
 not_below_zero : (a p : ℤ) (e : ℤ) (m turn : ℕ) → int_lt e (pos 0) ≡ false → power a m ≡ power a (nat_abs e) → p ≡ power a turn → turn < m → (FitsSigned w64 (a *ℤ p) → ⊥) → Bad error.Arithmetic ≡ raised a e
 not_below_zero a p (pos n) m turn h same is lt other = overflows a (a *ℤ p) n m turn same lt (ap (λ x. a *ℤ x) is) other

@@ -35,6 +35,6 @@ left_by false mine other h = refl
 pub end_stays : (u : ℕ) (io : Io) → None ≡ first_of (io.left u) → after_read u io ≡ io
 end_stays u io e = λ i. record {
   left = λ v. left_by (nat_eq u v) (rest_of (io.left u)) (io.left v)
-    (λ q. ap rest_of (no_first (io.left u) e) ∙ sym (no_first (io.left u) e) ∙ ap (λ w. io.left w) ((Decides-eqb u v).0 q)) i;
+      (λ q. ap rest_of (no_first (io.left u) e) ∙ sym (no_first (io.left u) e) ∙ ap (λ w. io.left w) ((Decides-eqb u v).0 q)) i;
   printed = io.printed;
 }

@@ -76,7 +76,7 @@ pub read_takes : (x : Bytes) (u : ℕ) (got : Option Bytes) (line : Bytes) (h ne
     → IfTold o n (λ io io'. AnswersOrFails r (world_of new io') (take_record x u (io.left u) (world_of h io)))
 read_takes x u got line h new o n r is reads f =
     told_read o n u (Some line) _ (subst (λ z. Reads u z o n) is reads)
-      (λ io e. subst (λ p. AnswersOrFails r (world_of new (after_read u io)) p) (sym (reads_one x u (io.left u) line h io e)) (f (after_read u io)))
+    (λ io e. subst (λ p. AnswersOrFails r (world_of new (after_read u io)) p) (sym (reads_one x u (io.left u) line h io e)) (f (after_read u io)))
 
 reads_none : (x : Bytes) (u : ℕ) (rows : List Bytes) (w : MW) → None ≡ first_of rows → take_record x u rows w ≡ Refuses w
 reads_none x u [] w e = refl
@@ -101,8 +101,8 @@ pub fetched_unit : (n : Name) (x : Bytes) (u : ℕ) (h new : Held) (s : Source) 
     → IfTold o m (λ io io'. AnswersOrFails r (world_of new io') (fetch_op (name_of n) (world_of h io)))
 fetched_unit n x u h new s r o m is from f reads =
     told_on o m _ _
-      (λ io io' a. subst (λ p. AnswersOrFails r (world_of new io') p) (sym (ap (λ z. fetch_op (name_of z) (world_of h io)) is ∙ f io ∙ ap (λ z. fetched_from z x (world_of h io)) from)) a)
-      reads
+    (λ io io' a. subst (λ p. AnswersOrFails r (world_of new io') p) (sym (ap (λ z. fetch_op (name_of z) (world_of h io)) is ∙ f io ∙ ap (λ z. fetched_from z x (world_of h io)) from)) a)
+    reads
 
 -- ---- assigning
 
@@ -114,8 +114,8 @@ pub written : (u : ℕ) (v v' : MVal) (h : Held) (r : Result (record {}) Fault) 
     → IfTold o n (λ io io'. Answers r (world_of h io') (write_var (Some u) v' (world_of h io)))
 written u v v' h r o n same on prints =
     told_on o n _ _
-      (λ io io' f. subst (λ p. Answers r (world_of h io') p) (ap (λ z. print_text u (to_text z) (world_of h io)) same ∙ ap (λ b. write_if b u v' (world_of h io)) (sym on)) (f h))
-      prints
+    (λ io io' f. subst (λ p. Answers r (world_of h io') p) (ap (λ z. print_text u (to_text z) (world_of h io)) same ∙ ap (λ b. write_if b u v' (world_of h io)) (sym on)) (f h))
+    prints
 
 if_same : (x : Bytes) (v w : MVal) → (if bytes_eq x x then v else w) ≡ v
 if_same x v w = ap (λ b. if b then v else w) ((bytes_eq-Decides x x).1 refl)
@@ -126,16 +126,16 @@ pub assigned_to_unit : (n : Name) (x : Bytes) (u : ℕ) (v : MVal) (h new : Held
     → IfTold o m (λ io io'. Answers r (world_of new io') (assign_op (name_of n) v (world_of h io)))
 assigned_to_unit n x u v h new r o m is out set writes =
     told_on o m _ _
-      (λ io io' a. subst (λ p. Answers r (world_of new io') p)
-        (ap (λ z. write_var (Some u) z (world_of new io)) (ap (λ w. w.vars x) (set io) ∙ if_same x v ((world_of h io).vars x))
-          ∙ ap (λ w. write_var (Some u) v w) (set io)
-          ∙ ap (λ z. write_var z v (set_var x v (world_of h io))) out
-          ∙ sym (ap (λ z. assign_op (name_of z) v (world_of h io)) is)) a)
-      writes
+    (λ io io' a. subst (λ p. Answers r (world_of new io') p)
+    (ap (λ z. write_var (Some u) z (world_of new io)) (ap (λ w. w.vars x) (set io) ∙ if_same x v ((world_of h io).vars x))
+    ∙ ap (λ w. write_var (Some u) v w) (set io)
+    ∙ ap (λ z. write_var z v (set_var x v (world_of h io))) out
+    ∙ sym (ap (λ z. assign_op (name_of z) v (world_of h io)) is)) a)
+    writes
 
 pub assigned_alone : (n : Name) (x : Bytes) (v : MVal) (h new : Held) (o : Option Io) → n ≡ name.Variable x → None ≡ output_in (variable_at x h.variables)
     → ((io : Io) → world_of new io ≡ set_var x v (world_of h io))
     → IfTold o o (λ io io'. assign_op (name_of n) v (world_of h io) ≡ Gives (record {}) (world_of new io'))
 assigned_alone n x v h new o is out set =
     told_same o _
-      (λ io. ap (λ z. assign_op (name_of z) v (world_of h io)) is ∙ ap (λ z. write_var z v (set_var x v (world_of h io))) (sym out) ∙ ap (λ w. Gives (record {}) w) (sym (set io)))
+    (λ io. ap (λ z. assign_op (name_of z) v (world_of h io)) is ∙ ap (λ z. write_var z v (set_var x v (world_of h io))) (sym out) ∙ ap (λ w. Gives (record {}) w) (sym (set io)))

@@ -60,6 +60,12 @@ AnswersOrFails (Ok None) w o = o ≡ Refuses w
 AnswersOrFails (Err (fault.Error e)) w o = o ≡ Faults e w
 AnswersOrFails (Err (fault.Stop s)) w o = Unit {0}
 
+-- unless it stopped, a call gives what the operation goes on with, or its error
+abbrev pub LeadsTo : {W A B : Type 0} → Result A Fault → W → (A → Op W B) → Op W B → Type 0
+LeadsTo (Ok a) w k o = o ≡ k a
+LeadsTo (Err (fault.Error e)) w k o = o ≡ Faults e w
+LeadsTo (Err (fault.Stop s)) w k o = Unit {0}
+
 -- a call that stopped
 abbrev pub IfStopped : {A : Type 0} → Result A Fault → (Stop → Type 0) → Type 0
 IfStopped (Err (fault.Stop s)) P = P s

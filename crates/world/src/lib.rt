@@ -15,4 +15,4 @@ pub use fault::Fault;
 pub use operators::{alt, cond, imm, indir};
 pub use value::Value;
 pub use world::World;
-pub use world_operators::Begun;
+pub use world_operators::{Begun, Span};

@@ -1,9 +1,9 @@
 //! Names that are fetched and assigned to. A variable may read its value from a unit, or write it to one.
 
-ghost use Rattle.std.specs.Prelude.{◌≡◌, ◌≤◌, ℕ, Some, option_map, IfOk, IfErr, OnOk, OnErr};
+ghost use Rattle.std.specs.Prelude.{◌≡◌, ◌≤◌, ℕ, Some, length, option_map, IfOk, IfErr, OnOk, OnErr};
 ghost use Rattle.model.specs.Io.{Io};
 ghost use Rattle.model.specs.Told.{IfTold};
-ghost use Rattle.model.specs.Operators.{fetch_op, take_record, as_read, assign_op, write_var, print_text};
+ghost use Rattle.model.specs.Operators.{fetch_op, take_record, as_read, assign_op, splice_op, write_var, print_text};
 ghost use Rattle.model.specs.Conversions.{to_text};
 ghost use Rattle.model.specs.declared.run.Stop.TheVariants.{NoMemory};
 ghost use Rattle.pattern_compiler.specs.View.{name_of};
@@ -14,6 +14,7 @@ ghost use Rattle.world.specs.Answers.{answer_map, Answers, AnswersOrFails, done,
 use crate::fault::Fault;
 use crate::value::Value;
 use crate::world::{Source, World, is_zero};
+use crate::world_operators::Span;
 use model::{ErrorCode, KeyId, Stop, UnitFault};
 use pattern_compiler::Name;
 use std::alloc::Global;
@@ -104,6 +105,26 @@ impl World {
         }
     }
 
+    /// Assigns to a name the subject of a match with a value in the place of what was found.
+    pub fn splice<U: Units>(
+        &mut self,
+        alloc: Global,
+        units: &mut U,
+        name: &Name,
+        span: &Span,
+        value: &Value,
+    ) -> Result<(), Fault>
+        requires start { span.now.start ≤ length span.now.subject }
+        requires end { span.now.end ≤ length span.now.subject }
+        ensures assigned { IfTold (U.told units.old) (U.told units.new) (λ io io'.
+            Answers (done result) (world_of self.new io') (splice_op (name_of name.now) span.now.subject span.now.start span.now.end (value_of value.now) (world_of self.old io))) }
+        ensures stop { IfStopped result (λ stop. IsStop stop (U.failures units.old) (U.failures units.new)) }
+        ensures grows { (u : ℕ) → U.failures units.old u ≤ U.failures units.new u }
+    {
+        let whole = self.replaced(alloc, span, value)?;
+        self.assign(alloc, units, name, whole)
+    }
+
     // Writes a variable's value, unless `&OUTPUT` is 0.
     fn write<U: Units>(
         &self,
@@ -126,12 +147,7 @@ impl World {
 }
 
 // Writes a value as a record.
-fn print<U: Units>(
-    alloc: Global,
-    units: &mut U,
-    unit: u8,
-    value: &Value,
-) -> Result<(), Fault>
+fn print<U: Units>(alloc: Global, units: &mut U, unit: u8, value: &Value) -> Result<(), Fault>
     ensures printed { IfTold (U.told units.old) (U.told units.new) (λ io io'.
         (h : Held) → Answers (done result) (world_of h io') (print_text unit (to_text (value_of value.now)) (world_of h io))) }
     ensures stop { IfStopped result (λ stop. IsStop stop (U.failures units.old) (U.failures units.new)) }

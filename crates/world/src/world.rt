@@ -123,12 +123,7 @@ impl World {
         self.put(alloc, b"PUNCH", Variable::on_units(None, Some(7)))
     }
 
-    fn put_pattern(
-        &mut self,
-        alloc: Global,
-        name: &[u8],
-        code: PatCode,
-    ) -> Result<(), AllocError>
+    fn put_pattern(&mut self, alloc: Global, name: &[u8], code: PatCode) -> Result<(), AllocError>
         ensures { OnOk result (self.new ≡ with_variable name.now (pattern_variable code) self.old) }
     {
         self.put(alloc, name, Variable::holding(Value::Pattern(code)))
