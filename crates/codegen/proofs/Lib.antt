@@ -1,2 +1,5 @@
 pub mod ImageRows
 pub mod LabelTables
+pub mod Laying
+pub mod Unevaluated
+pub mod Queue

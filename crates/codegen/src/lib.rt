@@ -2,6 +2,7 @@
 #![tactic(auto)]
 
 mod bodies;
+mod generating;
 mod gotos;
 mod labels;
 mod statements;
