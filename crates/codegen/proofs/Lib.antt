@@ -3,3 +3,4 @@ pub mod LabelTables
 pub mod Laying
 pub mod Unevaluated
 pub mod Queue
+pub mod Images
