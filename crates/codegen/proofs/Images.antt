@@ -83,28 +83,32 @@ step_own xs i n m k x l done now g h j less is number own numbered s put (counte
     let rest : List Statement = drop (i + 1) xs in
     let more : drop i xs ≡ x ∷ rest = next (λ l. None) xs i x less is in
     let m1 : suc n ≡ m = omega (arith, number) in
-    let len = ap length more in
-    (omega (arith, counted, number), numbered.code ∙ code,
-     ap (with_texts (label_texts (map stmt_of rest))) numbered.texts ∙ ap (λ t. with_texts t h.texts) (sym (ap (λ r. label_texts (map stmt_of r)) more ∙ with_own (stmt_of x) l (map stmt_of rest) own)) ∙ texts,
-     (λ t longer.
-       let place : place_of l t ≡ k = ap (place_of l) (longer.1 ∙ ap (λ z. z ++ longer.0) numbered.texts) ∙ place_stays l h.texts longer.0 ∙ ap (place_of l) (sym numbered.texts) ∙ sym numbered.at in
-       let before : Longer h.texts t = longer_trans h.texts j.texts t (subst (λ z. Longer h.texts z) (sym numbered.texts) (longer_texts (l ∷ []) h.texts)) longer in
-       all t before ∙ ap (λ r. done ++ layout.labels t n (map stmt_of r)) more ∙ ap (λ r. done ++ r) (labels_own t n (stmt_of x) l (map stmt_of rest) own)
-       ∙ ap (λ p. done ++ record { string = p; statement = n } ∷ layout.labels t (suc n) (map stmt_of rest)) place
-       ∙ ap (λ q. done ++ record { string = k; statement = n } ∷ layout.labels t q (map stmt_of rest)) m1
-       ∙ sym (ap (λ d. d ++ layout.labels t m (map stmt_of rest)) put ∙ append_assoc done (record { string = k; statement = n } ∷ []) (layout.labels t m (map stmt_of rest)))),
-     omega (arith, room, len, s))
+    let len = ap length more in (
+      omega (arith, counted, number),
+      numbered.code ∙ code,
+      ap (with_texts (label_texts (map stmt_of rest))) numbered.texts ∙ ap (λ t. with_texts t h.texts) (sym (ap (λ r. label_texts (map stmt_of r)) more ∙ with_own (stmt_of x) l (map stmt_of rest) own)) ∙ texts,
+      (λ t longer.
+          let place : place_of l t ≡ k = ap (place_of l) (longer.1 ∙ ap (λ z. z ++ longer.0) numbered.texts) ∙ place_stays l h.texts longer.0 ∙ ap (place_of l) (sym numbered.texts) ∙ sym numbered.at in
+          let before : Longer h.texts t = longer_trans h.texts j.texts t (subst (λ z. Longer h.texts z) (sym numbered.texts) (longer_texts (l ∷ []) h.texts)) longer in
+          all t before ∙ ap (λ r. done ++ layout.labels t n (map stmt_of r)) more ∙ ap (λ r. done ++ r) (labels_own t n (stmt_of x) l (map stmt_of rest) own)
+          ∙ ap (λ p. done ++ record { string = p; statement = n } ∷ layout.labels t (suc n) (map stmt_of rest)) place
+          ∙ ap (λ q. done ++ record { string = k; statement = n } ∷ layout.labels t q (map stmt_of rest)) m1
+          ∙ sym (ap (λ d. d ++ layout.labels t m (map stmt_of rest)) put ∙ append_assoc done (record { string = k; statement = n } ∷ []) (layout.labels t m (map stmt_of rest)))),
+      omega (arith, room, len, s),
+    )
 
 pub step_none : (xs : List Statement) (i n m : ℕ) (x : Statement) (done : List image.Label) (g h : Gen) → i < length xs → x ≡ get_or xs i x → m ≡ n + 1 → own_label (stmt_of x) ≡ None → Kept xs i n done g h → Kept xs (i + 1) m done g h
 step_none xs i n m x done g h less is number own (counted, code, texts, all, room) =
     let rest : List Statement = drop (i + 1) xs in
     let more : drop i xs ≡ x ∷ rest = next (λ l. None) xs i x less is in
     let m1 : suc n ≡ m = omega (arith, number) in
-    let len = ap length more in
-    (omega (arith, counted, number), code,
-     ap (λ t. with_texts t h.texts) (sym (ap (λ r. label_texts (map stmt_of r)) more ∙ without_own (stmt_of x) (map stmt_of rest) own)) ∙ texts,
-     (λ t longer. all t longer ∙ ap (λ r. done ++ layout.labels t n (map stmt_of r)) more ∙ ap (λ r. done ++ r) (labels_none t n (stmt_of x) (map stmt_of rest) own) ∙ ap (λ q. done ++ layout.labels t q (map stmt_of rest)) m1),
-     omega (arith, room, len))
+    let len = ap length more in (
+      omega (arith, counted, number),
+      code,
+      ap (λ t. with_texts t h.texts) (sym (ap (λ r. label_texts (map stmt_of r)) more ∙ without_own (stmt_of x) (map stmt_of rest) own)) ∙ texts,
+      (λ t longer. all t longer ∙ ap (λ r. done ++ layout.labels t n (map stmt_of r)) more ∙ ap (λ r. done ++ r) (labels_none t n (stmt_of x) (map stmt_of rest) own) ∙ ap (λ q. done ++ layout.labels t q (map stmt_of rest)) m1),
+      omega (arith, room, len),
+    )
 
 pub ends_texts : (xs : List Statement) (i n : ℕ) (done : List image.Label) (g h : Gen) → drop i xs ≡ [] → Kept xs i n done g h → h.texts ≡ with_texts (label_texts (map stmt_of xs)) g.texts
 ends_texts xs i n done g h none (counted, code, texts, all, room) = ap (λ r. with_texts (label_texts (map stmt_of r)) h.texts) (sym none) ∙ texts

@@ -26,11 +26,11 @@ pub laid_more : {g h j : Gen} (p : Part) (ps : List Part) (os : List ℕ) → Em
 laid_more {g} {h} {j} p ps os x y = record {
   parts = both (still_put p j.taken x) y.parts;
   offsets = λ texts l.
-    let l1 : Longer h.texts texts = longer_trans h.texts j.texts texts (subst (λ t. Longer h.texts t) (sym y.parts.texts) (longer_texts (joined ps).texts h.texts)) l in
-    let first = p.code texts (length g.waiting) (total g.code) in
-    let waits : length h.waiting ≡ length g.waiting + length p.later = ap length x.waiting ∙ length-append g.waiting p.later in
-    let at : total h.code ≡ total g.code + total first = ap total (x.code texts l1) ∙ total_append g.code first in
-    ap (λ o. total g.code ∷ o) (y.offsets texts l ∙ ap (λ n. layout.offsets ps texts n (total h.code)) waits ∙ ap (λ o. layout.offsets ps texts (length g.waiting + length p.later) o) at);
+      let l1 : Longer h.texts texts = longer_trans h.texts j.texts texts (subst (λ t. Longer h.texts t) (sym y.parts.texts) (longer_texts (joined ps).texts h.texts)) l in
+      let first = p.code texts (length g.waiting) (total g.code) in
+      let waits : length h.waiting ≡ length g.waiting + length p.later = ap length x.waiting ∙ length-append g.waiting p.later in
+      let at : total h.code ≡ total g.code + total first = ap total (x.code texts l1) ∙ total_append g.code first in
+      ap (λ o. total g.code ∷ o) (y.offsets texts l ∙ ap (λ n. layout.offsets ps texts n (total h.code)) waits ∙ ap (λ o. layout.offsets ps texts (length g.waiting + length p.later) o) at);
 }
 
 -- ---- statements
@@ -58,18 +58,19 @@ module _ (number_of : Bytes → Option ℕ) where
       let more : drop i xs ≡ x ∷ rest = next xs i x less is in
       let m1 : m ≡ suc n = omega (arith, number) in
       let w = ap (λ l. weights.total weights.weight (map stmt_of l)) more in
-      let l = ap length more in
-      (omega (arith, counted, number),
-       emits.taken ∙ taken,
-       (λ j ps z.
-         let z1 : Laid (layout.statements number_of (suc n) (map stmt_of rest)) ps k j = subst (λ m. Laid (layout.statements number_of m (map stmt_of rest)) ps k j) m1 z in
-         let z2 : Laid (layout.statements number_of n (map stmt_of (x ∷ rest))) (total h.code ∷ ps) h j = laid_more (layout.statement number_of n (stmt_of x)) (layout.statements number_of (suc n) (map stmt_of rest)) ps emits z1 in
-         let z3 = all j (total h.code ∷ ps) (subst (λ l. Laid (layout.statements number_of n (map stmt_of l)) (total h.code ∷ ps) h j) (sym more) z2) in
-         subst (λ o. Laid (layout.statements number_of 1 (map stmt_of xs)) o g j) (sym (ap (λ l. l ++ ps) put ∙ append_assoc os (at ∷ []) ps ∙ ap (λ a. os ++ a ∷ ps) place)) z3),
-       (subst (λ l. AllByRecursion CountableStmt (map stmt_of l)) more countable).1,
-       omega (arith, room, w, l, s))
+      let l = ap length more in (
+        omega (arith, counted, number),
+        emits.taken ∙ taken,
+        (λ j ps z.
+            let z1 : Laid (layout.statements number_of (suc n) (map stmt_of rest)) ps k j = subst (λ m. Laid (layout.statements number_of m (map stmt_of rest)) ps k j) m1 z in
+            let z2 : Laid (layout.statements number_of n (map stmt_of (x ∷ rest))) (total h.code ∷ ps) h j = laid_more (layout.statement number_of n (stmt_of x)) (layout.statements number_of (suc n) (map stmt_of rest)) ps emits z1 in
+            let z3 = all j (total h.code ∷ ps) (subst (λ l. Laid (layout.statements number_of n (map stmt_of l)) (total h.code ∷ ps) h j) (sym more) z2) in
+            subst (λ o. Laid (layout.statements number_of 1 (map stmt_of xs)) o g j) (sym (ap (λ l. l ++ ps) put ∙ append_assoc os (at ∷ []) ps ∙ ap (λ a. os ++ a ∷ ps) place)) z3),
+        (subst (λ l. AllByRecursion CountableStmt (map stmt_of l)) more countable).1,
+        omega (arith, room, w, l, s),
+      )
 
   pub ends : (xs : List Statement) (i n : ℕ) (os : List ℕ) (g h : Gen) → drop i xs ≡ [] → Kept xs i n os g h → Laid (layout.statements number_of 1 (map stmt_of xs)) os g h
   ends xs i n os g h none (counted, taken, all, countable, room) =
       subst (λ o. Laid (layout.statements number_of 1 (map stmt_of xs)) o g h) (append-nil os)
-        (all h [] (subst (λ l. Laid (layout.statements number_of n (map stmt_of l)) [] h h) (sym none) (laid_none h)))
+      (all h [] (subst (λ l. Laid (layout.statements number_of n (map stmt_of l)) [] h h) (sym none) (laid_none h)))

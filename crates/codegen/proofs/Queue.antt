@@ -21,7 +21,7 @@ weigh es = weights.total of_expr es
 abbrev pub Kept : Gen → List ℕ → Gen → Type 0
 Kept g os h =
     ((fuel : ℕ) → weights.total of_expr (left g) ≤ fuel
-      → (m : ℕ) × (weights.total of_expr (left h) ≤ m) × ((j : Gen) (ps : List ℕ) → Laid (layout.expressions m (left h)) ps h j → Laid (layout.expressions fuel (left g)) (os ++ ps) g j))
+    → (m : ℕ) × (weights.total of_expr (left h) ≤ m) × ((j : Gen) (ps : List ℕ) → Laid (layout.expressions m (left h)) ps h j → Laid (layout.expressions fuel (left g)) (os ++ ps) g j))
     × AllByRecursion Countable (left h)
     × (size h ≤ size g)
 
@@ -85,20 +85,24 @@ step e os now at g h h1 i k takes place put (all, countable, room) x ret s r =
         → (m : ℕ) × (weights.total of_expr (left h) ≤ m) × ((j : Gen) (ps : List ℕ) → Laid (layout.expressions m (left h)) ps h j → Laid (layout.expressions fuel (left g)) (os ++ ps) g j)
         → (m : ℕ) × (weights.total of_expr (left k) ≤ m) × ((j : Gen) (ps : List ℕ) → Laid (layout.expressions m (left k)) ps k j → Laid (layout.expressions fuel (left g)) (now ++ ps) g j)
     by fuel t u (zero, w, f) = let a = ap weigh t.is in let b = u.lighter in absurd (omega (arith, a, b, w))
-    by fuel t u (suc m, w, f) = (m, (let a = ap weigh t.is in let b = u.lighter in omega (arith, a, b, w)), λ j ps z.
-      let rest = layout.expressions m (left h1 ++ (layout.expression e).later) in
-      let z1 : Laid rest ps k j = subst (λ l. Laid (layout.expressions m l) ps k j) u.joined z in
-      let z2 : Laid (layout.expressions (suc m) (e ∷ left h1)) (total h1.code ∷ ps) h1 j = laid_more (layout.expression e) rest ps u.emits z1 in
-      let z3 : Laid (layout.expressions (suc m) (e ∷ left h1)) (total h1.code ∷ ps) h j = earlier (layout.expressions (suc m) (e ∷ left h1)) (total h1.code ∷ ps) e h h1 j takes z2 in
-      let z4 = f j (total h1.code ∷ ps) (subst (λ l. Laid (layout.expressions (suc m) l) (total h1.code ∷ ps) h j) (sym t.is) z3) in
-      subst (λ o. Laid (layout.expressions fuel (left g)) o g j) (sym (ap (λ l. l ++ ps) put ∙ append_assoc os (at ∷ []) ps ∙ ap (λ a. os ++ a ∷ ps) place)) z4)
+    by fuel t u (suc m, w, f) = (
+      m,
+      (let a = ap weigh t.is in let b = u.lighter in omega (arith, a, b, w)),
+      λ j ps z.
+          let rest = layout.expressions m (left h1 ++ (layout.expression e).later) in
+          let z1 : Laid rest ps k j = subst (λ l. Laid (layout.expressions m l) ps k j) u.joined z in
+          let z2 : Laid (layout.expressions (suc m) (e ∷ left h1)) (total h1.code ∷ ps) h1 j = laid_more (layout.expression e) rest ps u.emits z1 in
+          let z3 : Laid (layout.expressions (suc m) (e ∷ left h1)) (total h1.code ∷ ps) h j = earlier (layout.expressions (suc m) (e ∷ left h1)) (total h1.code ∷ ps) e h h1 j takes z2 in
+          let z4 = f j (total h1.code ∷ ps) (subst (λ l. Laid (layout.expressions (suc m) l) (total h1.code ∷ ps) h j) (sym t.is) z3) in
+          subst (λ o. Laid (layout.expressions fuel (left g)) o g j) (sym (ap (λ l. l ++ ps) put ∙ append_assoc os (at ∷ []) ps ∙ ap (λ a. os ++ a ∷ ps) place)) z4,
+    )
 
 pub ends : (os : List ℕ) (g h k : Gen) → Takes None h k → Kept g os h → (fuel : ℕ) → weights.total of_expr (left g) ≤ fuel → Laid (layout.expressions fuel (left g)) os g k
 ends os g h k (is, none) (all, countable, room) fuel w =
     let a = all fuel w in
     subst (λ k. Laid (layout.expressions fuel (left g)) os g k) (sym is)
-      (subst (λ o. Laid (layout.expressions fuel (left g)) o g h) (append-nil os)
-        (a.2 h [] (subst (λ l. Laid (layout.expressions a.0 l) [] h h) (sym none) (empty a.0))))
+    (subst (λ o. Laid (layout.expressions fuel (left g)) o g h) (append-nil os)
+    (a.2 h [] (subst (λ l. Laid (layout.expressions a.0 l) [] h h) (sym none) (empty a.0))))
   where
     empty : (m : ℕ) → Laid (layout.expressions m []) [] h h
     empty zero = laid_none h

@@ -49,7 +49,7 @@ loop-e-preserved c =
     let e = expr_of c.in-Some.e.now in
     let takes = subst (λ o. Takes (option_map (λ e. expr_of e.now) o) (gen_of c.loop-e.g) (gen_of c.take.new.self)) c.in-Some.is c.take.ensures in
     step e c.loop-e.offsets.items _ c.at.result (gen_of c.args.g.now) (gen_of c.loop-e.g) (gen_of c.take.new.self) (gen_of c.value.new.g) (gen_of c.put.new.self) takes c.at.ensures c.in_ok-push.ensures.items c.loop-e.invariant
-      c.in_ok-value.ensures.emits c.in_ok-put.ensures.put c.in_ok-value.ensures.size c.in_ok-put.ensures.size
+    c.in_ok-value.ensures.emits c.in_ok-put.ensures.put c.in_ok-value.ensures.size c.in_ok-put.ensures.size
 
 pub returns-clause-laid : goal.returns-clause-laid
 returns-clause-laid c =
