@@ -9,7 +9,6 @@ use Rattle.model.specs.Names.{named, key_named, prim_named}
 use Rattle.expr_codegen.specs.Code.{nothing, one, with_string, unevaluated, ◌>>◌, handled}
 use Rattle.codegen.specs.Layout.{image_of}
 
-
 -- ` OUTPUT = 'HI'`, `END`: 18 bytes of code
 hi : image_of (Plain None (Assign (Name (codes "OUTPUT")) (Some (Literal (codes "HI")))) Next ∷ End None ∷ []) ≡ record {
   entry = 1;
@@ -25,37 +24,37 @@ hi = refl
 
 -- `L X 'A' = *B :S(L)`, ` OUTPUT = ~Y :F(NONE)`, `END L`
 ways : image_of (
-  Plain (Some (codes "L")) (Replace (Name (codes "X")) (Literal (codes "A")) (Some (Apply u.Unevaluated (Name (codes "B"))))) (OnSuccess (Label (codes "L")))
-  ∷ Plain None (Assign (Name (codes "OUTPUT")) (Some (Apply u.Negate (Name (codes "Y"))))) (OnFailure (Label (codes "NONE")))
-  ∷ End (Some (codes "L")) ∷ []) ≡ record {
-  entry = 1;
-  strings = codes "X" ∷ codes "A" ∷ codes "OUTPUT" ∷ codes "Y" ∷ codes "B" ∷ codes "L" ∷ [];
-  labels = record { string = 5; statement = 1 } ∷ [];
-  statements = 0 ∷ 29 ∷ 62 ∷ [];
-  expressions = 63 ∷ [];
-  patterns = [];
-  code =
-    op.Begin 29 ∷ op.Var 0 ∷ op.FetchK ∷ op.Str 1 ∷ op.MatchR ∷ op.Expr 0 ∷ op.Splice ∷ op.Body ∷ op.Goto 1
-    ∷ op.Begin 61 ∷ op.Var 2 ∷ op.Try 53 ∷ op.Var 3 ∷ op.Fetch ∷ op.Drop ∷ op.Untry ∷ op.Fail ∷ op.Null ∷ op.Assign ∷ op.Body ∷ op.Goto 3 ∷ op.NoLabel
-    ∷ op.End
-    ∷ op.Var 4 ∷ op.Fetch ∷ op.Ret ∷ [];
-}
+    Plain (Some (codes "L")) (Replace (Name (codes "X")) (Literal (codes "A")) (Some (Apply u.Unevaluated (Name (codes "B"))))) (OnSuccess (Label (codes "L")))
+    ∷ Plain None (Assign (Name (codes "OUTPUT")) (Some (Apply u.Negate (Name (codes "Y"))))) (OnFailure (Label (codes "NONE")))
+    ∷ End (Some (codes "L")) ∷ []) ≡ record {
+      entry = 1;
+      strings = codes "X" ∷ codes "A" ∷ codes "OUTPUT" ∷ codes "Y" ∷ codes "B" ∷ codes "L" ∷ [];
+      labels = record { string = 5; statement = 1 } ∷ [];
+      statements = 0 ∷ 29 ∷ 62 ∷ [];
+      expressions = 63 ∷ [];
+      patterns = [];
+      code =
+          op.Begin 29 ∷ op.Var 0 ∷ op.FetchK ∷ op.Str 1 ∷ op.MatchR ∷ op.Expr 0 ∷ op.Splice ∷ op.Body ∷ op.Goto 1
+          ∷ op.Begin 61 ∷ op.Var 2 ∷ op.Try 53 ∷ op.Var 3 ∷ op.Fetch ∷ op.Drop ∷ op.Untry ∷ op.Fail ∷ op.Null ∷ op.Assign ∷ op.Body ∷ op.Goto 3 ∷ op.NoLabel
+          ∷ op.End
+          ∷ op.Var 4 ∷ op.Fetch ∷ op.Ret ∷ [];
+    }
 unfolding nothing one with_string unevaluated ◌>>◌ handled
 ways = refl
 
 -- ` X = **A *B`, `END`: the expression inside the first has its number behind the second
 queue : image_of (
-  Plain None (Assign (Name (codes "X")) (Some (Combine b.Concatenate (Apply u.Unevaluated (Apply u.Unevaluated (Name (codes "A")))) (Apply u.Unevaluated (Name (codes "B")))))) Next
-  ∷ End None ∷ []) ≡ record {
-  entry = 1;
-  strings = codes "X" ∷ codes "B" ∷ codes "A" ∷ [];
-  labels = [];
-  statements = 0 ∷ 23 ∷ [];
-  expressions = 24 ∷ 30 ∷ 37 ∷ [];
-  patterns = [];
-  code =
-    op.Begin 23 ∷ op.Var 0 ∷ op.Expr 0 ∷ op.Expr 1 ∷ op.Cat ∷ op.Assign ∷ op.Body ∷ op.End
-    ∷ op.Expr 2 ∷ op.Ret ∷ op.Var 1 ∷ op.Fetch ∷ op.Ret ∷ op.Var 2 ∷ op.Fetch ∷ op.Ret ∷ [];
-}
+    Plain None (Assign (Name (codes "X")) (Some (Combine b.Concatenate (Apply u.Unevaluated (Apply u.Unevaluated (Name (codes "A")))) (Apply u.Unevaluated (Name (codes "B")))))) Next
+    ∷ End None ∷ []) ≡ record {
+      entry = 1;
+      strings = codes "X" ∷ codes "B" ∷ codes "A" ∷ [];
+      labels = [];
+      statements = 0 ∷ 23 ∷ [];
+      expressions = 24 ∷ 30 ∷ 37 ∷ [];
+      patterns = [];
+      code =
+          op.Begin 23 ∷ op.Var 0 ∷ op.Expr 0 ∷ op.Expr 1 ∷ op.Cat ∷ op.Assign ∷ op.Body ∷ op.End
+          ∷ op.Expr 2 ∷ op.Ret ∷ op.Var 1 ∷ op.Fetch ∷ op.Ret ∷ op.Var 2 ∷ op.Fetch ∷ op.Ret ∷ [];
+    }
 unfolding nothing one with_string unevaluated ◌>>◌ handled
 queue = refl

@@ -64,10 +64,12 @@ label_step es t n l rest = by (number_in es t) refl
     behind None true = refl
     behind None false = refl
     behind (Some x) b = refl
+
     known : (x : Option ℕ) (k : ℕ) (b : Bool) → (b ≡ true → x ≡ Some k) → or_else x rest ≡ or_else x (if b then Some n else rest)
     known None k true h = let z : None ≡ Some k = h refl in cc
     known None k false h = refl
     known (Some x) k b h = refl
+
     by : (r : Option ℕ) → number_in es t ≡ r → or_else (number_in (if is_some r then es else es ++ (t, n) ∷ []) l) rest ≡ or_else (number_in es l) (if bytes_eq t l then Some n else rest)
     by None e = ap (λ x. or_else x rest) (number_snoc es t n l) ∙ behind (number_in es l) (bytes_eq l t) ∙ ap (λ b. or_else (number_in es l) (if b then Some n else rest)) (bytes_eq_sym l t)
     by (Some k) e = known (number_in es l) k (bytes_eq t l) (λ h. ap (number_in es) (sym ((bytes_eq-Decides t l).0 h)) ∙ e)
@@ -95,18 +97,22 @@ next_label xs i n x t h e =
     ∙ ap (λ m. if is_text t (label_of (stmt_of x)) then Some n else labelled_from m (map stmt_of (drop (i + 1) xs)) t) (let z : suc n ≡ n + 1 = omega arith in z)
 
 pub step_labelled : (xs : List Statement) (i n m : ℕ) (x : Statement) (l : Bytes) (es now : List (List ℕ × ℕ)) → i < length xs → x ≡ get_or xs i x → label_of (stmt_of x) ≡ Some l → m ≡ n + 1 → now ≡ with_label l n es → Kept xs i n es → Kept xs (i + 1) m now
-step_labelled xs i n m x l es now h e label is put (number, all) =
-    (omega (arith, number, is), λ t.
+step_labelled xs i n m x l es now h e label is put (number, all) = (
+  omega (arith, number, is),
+  λ t.
       let rest : Option ℕ = labelled_from (n + 1) (map stmt_of (drop (i + 1) xs)) t in
       ap (λ k. or_else (number_in now t) (labelled_from k (map stmt_of (drop (i + 1) xs)) t)) is ∙ ap (λ k. or_else (number_in k t) rest) put ∙ label_step es l n t rest
-      ∙ ap (λ o. or_else (number_in es t) (if is_text t o then Some n else rest)) (sym label) ∙ ap (or_else (number_in es t)) (sym (next_label xs i n x t h e)) ∙ all t)
+      ∙ ap (λ o. or_else (number_in es t) (if is_text t o then Some n else rest)) (sym label) ∙ ap (or_else (number_in es t)) (sym (next_label xs i n x t h e)) ∙ all t,
+)
 
 pub step_unlabelled : (xs : List Statement) (i n m : ℕ) (x : Statement) (es : List (List ℕ × ℕ)) → i < length xs → x ≡ get_or xs i x → label_of (stmt_of x) ≡ None → m ≡ n + 1 → Kept xs i n es → Kept xs (i + 1) m es
-step_unlabelled xs i n m x es h e label is (number, all) =
-    (omega (arith, number, is), λ t.
+step_unlabelled xs i n m x es h e label is (number, all) = (
+  omega (arith, number, is),
+  λ t.
       let rest : Option ℕ = labelled_from (n + 1) (map stmt_of (drop (i + 1) xs)) t in
       ap (λ k. or_else (number_in es t) (labelled_from k (map stmt_of (drop (i + 1) xs)) t)) is
-      ∙ ap (λ o. or_else (number_in es t) (if is_text t o then Some n else rest)) (sym label) ∙ ap (or_else (number_in es t)) (sym (next_label xs i n x t h e)) ∙ all t)
+      ∙ ap (λ o. or_else (number_in es t) (if is_text t o then Some n else rest)) (sym label) ∙ ap (or_else (number_in es t)) (sym (next_label xs i n x t h e)) ∙ all t,
+)
 
 pub ends : (xs : List Statement) (i n : ℕ) (es : List (List ℕ × ℕ)) → drop i xs ≡ [] → Kept xs i n es → (t : Bytes) → number_in es t ≡ labelled_from 1 (map stmt_of xs) t
 ends xs i n es none (number, all) t = sym (or_none (number_in es t)) ∙ ap (λ l. or_else (number_in es t) (labelled_from n (map stmt_of l) t)) (sym none) ∙ all t

@@ -1,7 +1,8 @@
 -- Statements whose calls and references have as few arguments as instructions can count.
-use Rattle.std.specs.Prelude.{⊤, ℕ, Option, Some, None}
+use Rattle.std.specs.Prelude.{⊤, ◌≤◌, ℕ, List, length, Option, Some, None}
+use Rattle.std.specs.List.{AllByRecursion}
 use Rattle.model.specs.Trees.{Expr, Place, Label, Computed, Goto, Next, Always, OnSuccess, OnFailure, Both, Body, Nothing, Evaluate, Match, Assign, Replace, Stmt, Plain, End}
-use Rattle.model.specs.Weights.{of_place}
+use Rattle.model.specs.Weights.{of_place, total, weight}
 use Rattle.expr_codegen.specs.Emitting.{Countable}
 
 abbrev pub CountableObject : Option Expr → Type 0
@@ -37,3 +38,9 @@ of_failure (Always p) = of_place p
 of_failure (OnSuccess p) = 0
 of_failure (OnFailure p) = of_place p
 of_failure (Both p q) = of_place q
+
+-- statements whose code has a place for each offset and each number
+pub record Fits (ss : List Stmt) : Type 0 where
+  pub countable : AllByRecursion CountableStmt ss
+  pub together : total weight ss ≤ 1048576
+  pub count : length ss ≤ 1048576

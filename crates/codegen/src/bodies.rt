@@ -28,11 +28,7 @@ fn key_target(subject: &Expr) -> Option<&[u8]>
 }
 
 // Puts the code of an object, which is null where it is absent.
-fn object<'a>(
-    alloc: Global,
-    g: &mut Generator<'a>,
-    o: &'a Option<Expr>,
-) -> Result<(), AllocError>
+fn object<'a>(alloc: Global, g: &mut Generator<'a>, o: &'a Option<Expr>) -> Result<(), AllocError>
     requires countable { CountableObject (object_of o.now) }
     requires room { size (gen_of g.old) + 9 * weights.of_object (object_of o.now) + 1 < 2 ^ 31 }
     ensures emits { OnOk result (Emits (layout.object (object_of o.now)) (gen_of g.old) (gen_of g.new)) }

@@ -3,7 +3,8 @@
 ghost use Rattle.std.specs.Prelude.{◌≡◌, ◌<◌, ◌^◌, List, [], ℕ, map, length, option_map, OnOk, IfOk};
 ghost use Rattle.model.specs.Programs as programs;
 ghost use Rattle.model.specs.TreeViews.{stmt_of};
-ghost use Rattle.codegen.specs.Labels.{entry_of, number_in, with_label};
+ghost use Rattle.codegen.specs.Labels.{entry_by, entry_of, number_in, with_label};
+ghost use Rattle.codegen.specs.Labels as labels;
 
 use indexmap::IndexMap;
 use model::Stmt;
@@ -49,6 +50,38 @@ impl Labels {
         let label = Vec::from_slice(alloc, label)?;
         self.numbers.insert(label, number)?;
         Ok(())
+    }
+}
+
+/// The label that a statement gives, but for END.
+pub fn own_label(statement: &Stmt) -> Option<&[u8]>
+    ensures { option_map (λ l. l.now) result ≡ labels.own_label (stmt_of statement.now) }
+{
+    match statement {
+        Stmt::Plain { label, .. } => label.as_deref(),
+        Stmt::End { .. } => None,
+    }
+}
+
+// The label that END gives as the entry.
+fn entry_label(statements: &[Stmt]) -> Option<&[u8]>
+    ensures { option_map (λ l. l.now) result ≡ programs.entry_label (map stmt_of statements.now) }
+{
+    for statement in statements {
+        if let Stmt::End { entry } = statement {
+            return entry.as_deref();
+        }
+    }
+    None
+}
+
+/// The number of the first statement to run.
+pub fn entry_number(labels: &Labels, statements: &[Stmt]) -> u32
+    ensures { result ≡ entry_by (number_in labels.now) (programs.entry_label (map stmt_of statements.now)) }
+{
+    match entry_label(statements) {
+        Some(label) => labels.find(label).unwrap_or(1),
+        None => 1,
     }
 }
 

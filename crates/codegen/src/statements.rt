@@ -4,7 +4,6 @@ ghost use Rattle.std.specs.Prelude.{◌≡◌, ◌<◌, ◌≤◌, ◌+◌, ◌*
 ghost use Rattle.model.specs.Trees as trees;
 ghost use Rattle.model.specs.TreeViews.{body_of, goto_of, stmt_of};
 ghost use Rattle.model.specs.Weights as weights;
-
 ghost use Rattle.expr_codegen.specs.Emitting.{Emits, size};
 ghost use Rattle.expr_codegen.specs.Views.{gen_of};
 ghost use Rattle.codegen.specs.Countable.{CountableBody, CountableGoto, CountableStmt};

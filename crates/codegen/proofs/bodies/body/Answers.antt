@@ -13,5 +13,5 @@ pub returns-in_ok-put-in-Evaluate-clause-emits : goal.returns-in_ok-put-in-Evalu
 returns-in_ok-put-in-Evaluate-clause-emits c = as_part (both c.in_ok-value-in-Evaluate.ensures.emits (instr op.Drop _ _ c.in_ok-put-in-Evaluate.ensures.put)) (ap (λ d. layout.body (body_of d)) (sym c.in-Evaluate.is))
 
 pub returns-in_ok-put-in-Match-clause-emits : goal.returns-in_ok-put-in-Match-clause-emits
-returns-in_ok-put-in-Match-clause-emits c = 
+returns-in_ok-put-in-Match-clause-emits c =
     as_part (both c.in_ok-value-in-Match.ensures.emits (both c.in_ok-value-in-Match-2.ensures.emits (instr op.Match _ _ c.in_ok-put-in-Match.ensures.put))) (ap (λ d. layout.body (body_of d)) (sym c.in-Match.is))

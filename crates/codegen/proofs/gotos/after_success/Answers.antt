@@ -9,7 +9,7 @@ use Rattle.codegen.specs.Layout as layout
 use Rattle.codegen.proofs.gotos.after_success.Goals as goal
 
 pub returns-in_ok-put-in-OnFailure-clause-emits : goal.returns-in_ok-put-in-OnFailure-clause-emits
-returns-in_ok-put-in-OnFailure-clause-emits c = 
+returns-in_ok-put-in-OnFailure-clause-emits c =
     let next : c.args.number + 1 ≡ suc c.args.number = omega arith in
     as_part (instr _ _ _ c.in_ok-put-in-OnFailure.ensures.put) (ap (λ n. one (op.Goto n)) next ∙ ap (λ d. layout.after_success (number_in c.args.labels.now) c.args.number (goto_of d)) (sym c.in-OnFailure.is))
 

@@ -6,12 +6,12 @@ use Rattle.expr_codegen.proofs.Joins.{both, instr, changed, stays}
 use Rattle.codegen.proofs.statements.plain.Goals as goal
 
 pub change-requires : goal.change-requires
-change-requires c = 
+change-requires c =
     stays (op.Begin 0) (op.Begin c.at-failed.result) c.len-begin.result _ _ _ c.len-begin.ensures c.in_ok-put.ensures.put
-      (both c.in_ok-body.ensures.emits (both (instr op.Body _ _ c.in_ok-put-2.ensures.put) (both c.in_ok-after_success.ensures.emits c.in_ok-after_failure.ensures.emits))) refl
+    (both c.in_ok-body.ensures.emits (both (instr op.Body _ _ c.in_ok-put-2.ensures.put) (both c.in_ok-after_success.ensures.emits c.in_ok-after_failure.ensures.emits))) refl
 
 pub returns-clause-emits : goal.returns-clause-emits
-returns-clause-emits c = 
+returns-clause-emits c =
     changed op.Begin 0 c.at-failed.result _ _ _ _ _ (λ m. refl) c.in_ok-put.ensures.put
-      (both c.in_ok-body.ensures.emits (both (instr op.Body _ _ c.in_ok-put-2.ensures.put) c.in_ok-after_success.ensures.emits)) c.at-failed.ensures c.in_ok-after_failure.ensures.emits
-      (c.change.ensures.put ∙ ap (λ n. with_changed n (op.Begin c.at-failed.result) (gen_of c.after_failure.new.g)) c.len-begin.ensures)
+    (both c.in_ok-body.ensures.emits (both (instr op.Body _ _ c.in_ok-put-2.ensures.put) c.in_ok-after_success.ensures.emits)) c.at-failed.ensures c.in_ok-after_failure.ensures.emits
+    (c.change.ensures.put ∙ ap (λ n. with_changed n (op.Begin c.at-failed.result) (gen_of c.after_failure.new.g)) c.len-begin.ensures)
