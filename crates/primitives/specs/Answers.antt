@@ -4,8 +4,8 @@ use Rattle.model.specs.declared.primitives.PrimId.{PrimId}
 use Rattle.model.specs.declared.primitives.PrimId.TheVariants as p
 use Rattle.model.specs.Calls.{AValue, AName}
 use Rattle.model.specs.Conversions.{Op, Gives, Refuses, Faults}
-use Rattle.model.specs.Machine.{PCode, MW}
-use Rattle.model.specs.Primitives.{Returns, Calls, int_same}
+use Rattle.model.specs.Machine.{PCode, MVal, MW}
+use Rattle.model.specs.Primitives.{Returns, Calls, int_same, returned}
 use Rattle.model.specs.Primitives as model
 use Rattle.pattern_compiler.specs.View.{name_of}
 use Rattle.world.specs.declared.fault.Fault.{Fault}
@@ -43,6 +43,10 @@ abbrev pub ComesTo : Result Outcome Fault → MW → Op MW (model.Outcome PCode 
 ComesTo (Ok r) w o = o ≡ op_of r w
 ComesTo (Err (fault.Error e)) w o = o ≡ Faults e w
 ComesTo (Err (fault.Stop s)) w o = Unit {0}
+
+-- in each world, unless it stopped, a call answers as the operation does, which changes nothing
+abbrev pub AnswersAs : Result Outcome Fault → (MW → Op MW MVal) → Type 0
+AnswersAs r o = (w : MW) → ComesTo r w (returned (o w))
 
 -- which integers a comparison holds of
 abbrev pub test_of : Comparison → ℤ → ℤ → Bool

@@ -7,7 +7,7 @@ ghost use Rattle.model.specs.declared.run.Stop.TheVariants.{NoMemory};
 ghost use Rattle.pattern_compiler.specs.View.{name_of};
 ghost use Rattle.world.specs.Values.{value_of};
 ghost use Rattle.world.specs.Answers.{IfStopped};
-ghost use Rattle.primitives.specs.Answers.{ComesTo, op_of, test_of};
+ghost use Rattle.primitives.specs.Answers.{AnswersAs, ComesTo, test_of};
 
 use crate::outcome::Outcome;
 use model::ErrorCode;
@@ -53,7 +53,7 @@ pub(crate) fn compare(test: Comparison, left: &Value, right: &Value) -> Result<O
 
 /// LGT.
 pub(crate) fn lgt(alloc: Global, left: &Value, right: &Value) -> Result<Outcome, Fault>
-    ensures answer { (w : MW) → ComesTo result w (returned (lgt_op (value_of left.now) (value_of right.now) w)) }
+    ensures answer { AnswersAs result (lgt_op (value_of left.now) (value_of right.now)) }
     ensures stop { IfStopped result (λ stop. stop ≡ NoMemory) }
 {
     let s = left.to_text(alloc)?;
@@ -69,7 +69,7 @@ fn comes_after(s: &[u8], t: &[u8]) -> bool
 
 /// IDENT.
 pub(crate) fn ident(left: &Value, right: &Value) -> Result<Outcome, Fault>
-    ensures answer { (w : MW) → ComesTo result w (returned (same_op (λ b. b) (same_value (value_of left.now) (value_of right.now)) w)) }
+    ensures answer { AnswersAs result (same_op (λ b. b) (same_value (value_of left.now) (value_of right.now))) }
     ensures stop { IfStopped result (λ stop. stop ≡ NoMemory) }
 {
     match same_value(left, right) {
@@ -80,7 +80,7 @@ pub(crate) fn ident(left: &Value, right: &Value) -> Result<Outcome, Fault>
 
 /// DIFFER.
 pub(crate) fn differ(left: &Value, right: &Value) -> Result<Outcome, Fault>
-    ensures answer { (w : MW) → ComesTo result w (returned (same_op not (same_value (value_of left.now) (value_of right.now)) w)) }
+    ensures answer { AnswersAs result (same_op not (same_value (value_of left.now) (value_of right.now))) }
     ensures stop { IfStopped result (λ stop. stop ≡ NoMemory) }
 {
     match same_value(left, right) {
@@ -130,7 +130,7 @@ fn same_name(left: &Name, right: &Name) -> bool
 
 /// INTEGER.
 pub(crate) fn integer(value: &Value) -> Result<Outcome, Fault>
-    ensures answer { (w : MW) → ComesTo result w (returned (holds_if (is_integer (value_of value.now)) w)) }
+    ensures answer { AnswersAs result (holds_if (is_integer (value_of value.now))) }
     ensures stop { IfStopped result (λ stop. stop ≡ NoMemory) }
 {
     Ok(Outcome::holds_if(value.to_int().is_ok()))
