@@ -3,7 +3,7 @@ use Rattle.std.proofs.Common.{◌≡◌, ℕ, refl}
 use Rattle.model.specs.Conversions.{Conv, Got, Bad, Op, Gives, conv, then_conv, answer_of}
 use Rattle.model.specs.Machine.{PCode, MVal, MW, codes_of}
 use Rattle.model.specs.Operators.{kind_op}
-use Rattle.model.specs.Pattern.{Basic, Kind, Answer, want_of, with_answer}
+use Rattle.model.specs.Pattern.{Kind, Answer, want_of, with_answer}
 use Rattle.model.specs.PatternCode.{basic_code}
 use Rattle.model.specs.Values.{Pat}
 use Rattle.world.specs.declared.value.Value.{Value}

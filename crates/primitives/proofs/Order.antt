@@ -1,9 +1,8 @@
 -- The order of strings.
-use Rattle.std.proofs.Common.{◌≡◌, ℕ, List, [], ◌∷◌, Option, Some, Bool, true, false, cond, nat_lt, refl, arith}
+use Rattle.std.proofs.Common.{◌≡◌, [], ◌∷◌, Some, Bool, true, false, cond, nat_lt, refl, arith}
 use Rattle.std.specs.Prelude.{◌==◌, if◌then◌else◌}
 use Rattle.std.specs.Ordering.{partial_gt, nat_cmp, partial_ordering_then, is_some_and, is_gt}
 use Rattle.std.specs.Cmp.Lexicographic.{slice_partial_cmp}
-use Rattle.std.specs.declared.cmp.Ordering.{Ordering}
 use Rattle.std.specs.declared.cmp.Ordering.TheVariants.{Less, Equal, Greater}
 use Rattle.model.specs.Trees.{Bytes}
 use Rattle.model.specs.Primitives.{comes_after}

@@ -1,4 +1,4 @@
-use Rattle.std.proofs.Common.{◌≡◌, [], ◌∷◌, sym, subst}
+use Rattle.std.proofs.Common.{[], ◌∷◌, sym, subst}
 use Rattle.model.specs.Machine.{codes_of}
 use Rattle.model.specs.Primitives.{prim_op}
 use Rattle.world.specs.Values.{value_of}

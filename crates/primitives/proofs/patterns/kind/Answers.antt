@@ -1,4 +1,4 @@
-use Rattle.std.proofs.Common.{◌≡◌, subst, sym}
+use Rattle.std.proofs.Common.{subst, sym}
 use Rattle.model.specs.Primitives.{returned}
 use Rattle.pattern_compiler.specs.View.{kind_of}
 use Rattle.primitives.specs.Answers.{ComesTo}
