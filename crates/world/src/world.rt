@@ -1,6 +1,6 @@
 //! The world of a run.
 
-ghost use Rattle.std.specs.Prelude.{◌≡◌, [], None, IfOk, IfErr, OnOk, OnErr};
+ghost use Rattle.std.specs.Prelude.{◌≡◌, [], pos, None, IfOk, IfErr, OnOk, OnErr};
 ghost use Rattle.model.specs.Io.{Io};
 ghost use Rattle.model.specs.Values.{set_var};
 ghost use Rattle.model.specs.Operators.{fetch_var};
@@ -97,6 +97,13 @@ impl World {
         world.put_patterns(alloc)?;
         world.put_units(alloc)?;
         Ok(world)
+    }
+
+    /// The longest string that `&MAXLNGTH` allows.
+    pub fn longest(&self) -> usize
+        ensures { self.now.keys.maxlngth ≡ pos result }
+    {
+        self.keywords.longest()
     }
 
     // The variables that hold patterns at first.

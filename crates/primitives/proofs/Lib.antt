@@ -1,0 +1,3 @@
+pub mod KindParts
+pub mod Order
+pub mod Arguments

@@ -1,0 +1,58 @@
+-- What calls of primitives answer.
+use Rattle.std.specs.Prelude.{◌≡◌, ℕ, ℤ, map, Bool, true, false, not, int_le, int_lt, Result, Ok, Err}
+use Rattle.model.specs.declared.primitives.PrimId.{PrimId}
+use Rattle.model.specs.declared.primitives.PrimId.TheVariants as p
+use Rattle.model.specs.Calls.{AValue, AName}
+use Rattle.model.specs.Conversions.{Op, Gives, Refuses, Faults}
+use Rattle.model.specs.Machine.{PCode, MVal, MW}
+use Rattle.model.specs.Primitives.{Returns, Calls, int_same, returned}
+use Rattle.model.specs.Primitives as model
+use Rattle.pattern_compiler.specs.View.{name_of}
+use Rattle.world.specs.declared.fault.Fault.{Fault}
+use Rattle.world.specs.declared.fault.Fault.TheVariants as fault
+use Rattle.world.specs.Values.{value_of}
+use Rattle.primitives.specs.declared.outcome.Outcome.{Outcome}
+use Rattle.primitives.specs.declared.outcome.Outcome.TheVariants as outcome
+use Rattle.primitives.specs.declared.predicates.Comparison.{Comparison}
+use Rattle.primitives.specs.declared.predicates.Comparison.TheVariants as comparison
+
+-- the primitives that calls can run so far
+abbrev pub is_there : PrimId → Bool
+is_there p.Array = false
+is_there p.Table = false
+is_there p.Item = false
+is_there p.Copy = false
+is_there p.Convert = false
+is_there p.Data = false
+is_there p.Define = false
+is_there p.Apply = false
+is_there p.Input = false
+is_there p.Output = false
+is_there p.Detach = false
+is_there _ = true
+
+-- what an outcome is of an operation that leaves this world
+abbrev pub op_of : Outcome → MW → Op MW (model.Outcome PCode ℕ)
+op_of (outcome.Value v) w = Gives (Returns (AValue (value_of v))) w
+op_of (outcome.Name n) w = Gives (Returns (AName (name_of n))) w
+op_of outcome.Failure w = Refuses w
+op_of (outcome.Call f vs) w = Gives (Calls f (map value_of vs.items)) w
+
+-- unless it stopped, a call comes to what the operation comes to, which leaves this world
+abbrev pub ComesTo : Result Outcome Fault → MW → Op MW (model.Outcome PCode ℕ) → Type 0
+ComesTo (Ok r) w o = o ≡ op_of r w
+ComesTo (Err (fault.Error e)) w o = o ≡ Faults e w
+ComesTo (Err (fault.Stop s)) w o = Unit {0}
+
+-- in each world, unless it stopped, a call answers as the operation does, which changes nothing
+abbrev pub AnswersAs : Result Outcome Fault → (MW → Op MW MVal) → Type 0
+AnswersAs r o = (w : MW) → ComesTo r w (returned (o w))
+
+-- which integers a comparison holds of
+abbrev pub test_of : Comparison → ℤ → ℤ → Bool
+test_of comparison.Eq i j = int_same i j
+test_of comparison.Ne i j = not (int_same i j)
+test_of comparison.Lt i j = int_lt i j
+test_of comparison.Le i j = int_le i j
+test_of comparison.Gt i j = int_lt j i
+test_of comparison.Ge i j = int_le j i

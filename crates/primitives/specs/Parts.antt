@@ -1,0 +1,25 @@
+-- The arguments of patterns' primitives.
+use Rattle.std.specs.Prelude.{ℕ}
+use Rattle.model.specs.Trees.{Bytes}
+use Rattle.model.specs.Conversions.{Conv, Got, Op, Gives, conv, then_conv, to_text, to_integer, to_pattern, count_of, set_of, answer_of}
+use Rattle.model.specs.Pattern.{Basic, Kind, want_of, with_answer}
+use Rattle.model.specs.PatternCode.{basic_code}
+use Rattle.model.specs.Values.{Pat}
+use Rattle.model.specs.Machine.{MVal, MW, codes_of}
+
+abbrev pub to_count : MVal → Conv ℕ
+to_count v = then_conv (to_integer v) count_of
+
+abbrev pub to_set : MVal → Conv Bytes
+to_set v = then_conv (to_text v) set_of
+
+-- the part that a kind is with this argument
+abbrev pub part_of : Kind → MVal → Conv Basic
+part_of k v = then_conv (answer_of codes_of (want_of k) v) (λ y. Got (with_answer k y))
+
+-- the pattern of a kind whose argument isn't an expression
+abbrev pub known_op : Kind → MVal → MW → Op MW MVal
+known_op k v w = conv (part_of k v) w (λ b. Gives (Pat (basic_code b)) w)
+
+abbrev pub arbno_op : MVal → MW → Op MW MVal
+arbno_op v w = conv (to_pattern codes_of v) w (λ q. Gives (Pat (codes_of.arbno q)) w)

@@ -1,0 +1,141 @@
+//! Calls of primitives.
+
+ghost use Rattle.std.specs.Prelude.{◌≡◌, [], ◌∷◌, map, IsTrue, OnErr};
+ghost use Rattle.model.specs.Io.{Io};
+ghost use Rattle.model.specs.Values.{Str};
+ghost use Rattle.model.specs.Calls.{arg_at};
+ghost use Rattle.model.specs.Machine.{codes_of};
+ghost use Rattle.model.specs.Primitives.{prim_op};
+ghost use Rattle.model.specs.declared.run.Stop.TheVariants.{NoMemory};
+ghost use Rattle.world.specs.Values.{value_of};
+ghost use Rattle.world.specs.Held.{world_of};
+ghost use Rattle.world.specs.Answers.{IfStopped};
+ghost use Rattle.primitives.specs.Answers.{ComesTo, is_there};
+
+use crate::functions::{data_type, dupl, remdr, replace, size, trim};
+use crate::outcome::Outcome;
+use crate::patterns::{arbno, kind};
+use crate::predicates::{Comparison, compare, differ, ident, integer, lgt};
+use model::PrimId;
+use pattern_compiler::Kind;
+use std::alloc::Global;
+use world::{Fault, Value, World};
+
+/// Whether calls of a primitive can run.
+pub fn is_there(id: PrimId) -> bool
+    ensures { result ≡ is_there id }
+{
+    match id {
+        PrimId::Len
+        | PrimId::Pos
+        | PrimId::RPos
+        | PrimId::Tab
+        | PrimId::RTab
+        | PrimId::Any
+        | PrimId::NotAny
+        | PrimId::Span
+        | PrimId::Break
+        | PrimId::Arbno
+        | PrimId::Eq
+        | PrimId::Ne
+        | PrimId::Lt
+        | PrimId::Le
+        | PrimId::Gt
+        | PrimId::Ge
+        | PrimId::Lgt
+        | PrimId::Ident
+        | PrimId::Differ
+        | PrimId::Integer
+        | PrimId::Size
+        | PrimId::Trim
+        | PrimId::Dupl
+        | PrimId::Replace
+        | PrimId::Remdr
+        | PrimId::DataType => true,
+        PrimId::Array
+        | PrimId::Table
+        | PrimId::Item
+        | PrimId::Copy
+        | PrimId::Convert
+        | PrimId::Data
+        | PrimId::Define
+        | PrimId::Apply
+        | PrimId::Input
+        | PrimId::Output
+        | PrimId::Detach => false,
+    }
+}
+
+/// Calls a primitive. An absent argument is null. A call that gives an error or stops changes nothing.
+pub fn call_prim(
+    alloc: Global,
+    id: PrimId,
+    arguments: &[Value],
+    world: &mut World,
+) -> Result<Outcome, Fault>
+    requires there { IsTrue (is_there id) }
+    ensures answer { (io : Io) → ComesTo result (world_of world.new io) (prim_op codes_of id (map value_of arguments.now) (world_of world.old io)) }
+    ensures stop { IfStopped result (λ stop. stop ≡ NoMemory) }
+    ensures unchanged { OnErr result (world.new ≡ world.old) }
+{
+    let null = Value::null();
+    let first = argument(arguments, 0, &null);
+    let second = argument(arguments, 1, &null);
+    let third = argument(arguments, 2, &null);
+    call_with(alloc, id, first, second, third, world)
+}
+
+// Calls a primitive that doesn't change the world.
+fn call_with(
+    alloc: Global,
+    id: PrimId,
+    first: &Value,
+    second: &Value,
+    third: &Value,
+    world: &World,
+) -> Result<Outcome, Fault>
+    requires there { IsTrue (is_there id) }
+    ensures answer { (io : Io) → ComesTo result (world_of world.now io) (prim_op codes_of id (value_of first.now ∷ value_of second.now ∷ value_of third.now ∷ []) (world_of world.now io)) }
+    ensures stop { IfStopped result (λ stop. stop ≡ NoMemory) }
+{
+    match id {
+        PrimId::Len => kind(alloc, Kind::Len, first),
+        PrimId::Pos => kind(alloc, Kind::Pos, first),
+        PrimId::RPos => kind(alloc, Kind::RPos, first),
+        PrimId::Tab => kind(alloc, Kind::Tab, first),
+        PrimId::RTab => kind(alloc, Kind::RTab, first),
+        PrimId::Any => kind(alloc, Kind::Any, first),
+        PrimId::NotAny => kind(alloc, Kind::NotAny, first),
+        PrimId::Span => kind(alloc, Kind::Span, first),
+        PrimId::Break => kind(alloc, Kind::Break, first),
+        PrimId::Arbno => arbno(alloc, first),
+        PrimId::Eq => compare(Comparison::Eq, first, second),
+        PrimId::Ne => compare(Comparison::Ne, first, second),
+        PrimId::Lt => compare(Comparison::Lt, first, second),
+        PrimId::Le => compare(Comparison::Le, first, second),
+        PrimId::Gt => compare(Comparison::Gt, first, second),
+        PrimId::Ge => compare(Comparison::Ge, first, second),
+        PrimId::Lgt => lgt(alloc, first, second),
+        PrimId::Ident => ident(first, second),
+        PrimId::Differ => differ(first, second),
+        PrimId::Integer => integer(first),
+        PrimId::Size => size(alloc, first),
+        PrimId::Trim => trim(alloc, first),
+        PrimId::Dupl => dupl(alloc, first, second, world.longest()),
+        PrimId::Replace => replace(alloc, first, second, third),
+        PrimId::Remdr => remdr(first, second),
+        PrimId::DataType => data_type(alloc, first, world),
+        _ => unreachable!(),
+    }
+}
+
+// The argument of this number, or null.
+fn argument<'a>(arguments: &'a [Value], number: usize, null: &'a Value) -> &'a Value
+    requires { value_of null.now ≡ Str [] }
+    ensures { value_of result.now ≡ arg_at (map value_of arguments.now) number }
+{
+    match arguments.get(number) {
+        Some(value) => value,
+        None => null,
+    }
+}

@@ -1,0 +1,137 @@
+//! The primitives that hold or fail.
+
+ghost use Rattle.std.specs.Prelude.{◌≡◌, not};
+ghost use Rattle.model.specs.Machine.{MW};
+ghost use Rattle.model.specs.Primitives.{returned, compare_op, lgt_op, same_op, same_value, same_name, is_integer, holds_if, comes_after};
+ghost use Rattle.model.specs.declared.run.Stop.TheVariants.{NoMemory};
+ghost use Rattle.pattern_compiler.specs.View.{name_of};
+ghost use Rattle.world.specs.Values.{value_of};
+ghost use Rattle.world.specs.Answers.{IfStopped};
+ghost use Rattle.primitives.specs.Answers.{AnswersAs, ComesTo, test_of};
+
+use crate::outcome::Outcome;
+use model::ErrorCode;
+use pattern_compiler::Name;
+use std::alloc::Global;
+use world::{Fault, Value};
+
+/// A comparison of integers.
+#[derive(Clone, Copy)]
+pub(crate) enum Comparison {
+    Eq,
+    Ne,
+    Lt,
+    Le,
+    Gt,
+    Ge,
+}
+
+impl Comparison {
+    fn holds(self, i: i64, j: i64) -> bool
+        ensures { result ≡ test_of self i j }
+    {
+        match self {
+            Comparison::Eq => i == j,
+            Comparison::Ne => i != j,
+            Comparison::Lt => i < j,
+            Comparison::Le => i <= j,
+            Comparison::Gt => i > j,
+            Comparison::Ge => i >= j,
+        }
+    }
+}
+
+/// EQ, NE, LT, LE, GT and GE.
+pub(crate) fn compare(test: Comparison, left: &Value, right: &Value) -> Result<Outcome, Fault>
+    ensures answer { (w : MW) → ComesTo result w (returned (compare_op (test_of test) (value_of left.now) (value_of right.now) w)) }
+    ensures stop { IfStopped result (λ stop. stop ≡ NoMemory) }
+{
+    let i = left.to_int()?;
+    let j = right.to_int()?;
+    Ok(Outcome::holds_if(test.holds(i, j)))
+}
+
+/// LGT.
+pub(crate) fn lgt(alloc: Global, left: &Value, right: &Value) -> Result<Outcome, Fault>
+    ensures answer { AnswersAs result (lgt_op (value_of left.now) (value_of right.now)) }
+    ensures stop { IfStopped result (λ stop. stop ≡ NoMemory) }
+{
+    let s = left.to_text(alloc)?;
+    let t = right.to_text(alloc)?;
+    Ok(Outcome::holds_if(comes_after(s.as_slice(), t.as_slice())))
+}
+
+fn comes_after(s: &[u8], t: &[u8]) -> bool
+    ensures { result ≡ comes_after s.now t.now }
+{
+    s > t
+}
+
+/// IDENT.
+pub(crate) fn ident(left: &Value, right: &Value) -> Result<Outcome, Fault>
+    ensures answer { AnswersAs result (same_op (λ b. b) (same_value (value_of left.now) (value_of right.now))) }
+    ensures stop { IfStopped result (λ stop. stop ≡ NoMemory) }
+{
+    match same_value(left, right) {
+        Some(same) => Ok(Outcome::holds_if(same)),
+        None => Err(Fault::Error(ErrorCode::WrongType)),
+    }
+}
+
+/// DIFFER.
+pub(crate) fn differ(left: &Value, right: &Value) -> Result<Outcome, Fault>
+    ensures answer { AnswersAs result (same_op not (same_value (value_of left.now) (value_of right.now))) }
+    ensures stop { IfStopped result (λ stop. stop ≡ NoMemory) }
+{
+    match same_value(left, right) {
+        Some(same) => Ok(Outcome::holds_if(!same)),
+        None => Err(Fault::Error(ErrorCode::WrongType)),
+    }
+}
+
+// Whether two values have one type and one content; of patterns and expressions it can't be asked.
+fn same_value(left: &Value, right: &Value) -> Option<bool>
+    ensures { result ≡ same_value (value_of left.now) (value_of right.now) }
+{
+    match (left, right) {
+        (Value::Pattern(_) | Value::Expression(_), _) => None,
+        (_, Value::Pattern(_) | Value::Expression(_)) => None,
+        (Value::String(s), Value::String(t)) => Some(s == t),
+        (Value::Integer(i), Value::Integer(j)) => Some(i == j),
+        (Value::Name(n), Value::Name(m)) => Some(same_name(n, m)),
+        (Value::Object(k), Value::Object(l)) => Some(k == l),
+        _ => Some(false),
+    }
+}
+
+// Whether two names are of one place.
+fn same_name(left: &Name, right: &Name) -> bool
+    ensures { result ≡ same_name (name_of left.now) (name_of right.now) }
+{
+    match (left, right) {
+        (Name::Variable(x), Name::Variable(y)) => x == y,
+        (
+            Name::Element {
+                object: k,
+                index: i,
+            },
+            Name::Element {
+                object: l,
+                index: j,
+            },
+        ) => k == l && i == j,
+        (Name::IntegerKey { object: k, key: i }, Name::IntegerKey { object: l, key: j }) => k == l
+            && i == j,
+        (Name::StringKey { object: k, key: s }, Name::StringKey { object: l, key: t }) => k == l
+            && s == t,
+        _ => false,
+    }
+}
+
+/// INTEGER.
+pub(crate) fn integer(value: &Value) -> Result<Outcome, Fault>
+    ensures answer { AnswersAs result (holds_if (is_integer (value_of value.now))) }
+    ensures stop { IfStopped result (λ stop. stop ≡ NoMemory) }
+{
+    Ok(Outcome::holds_if(value.to_int().is_ok()))
+}
