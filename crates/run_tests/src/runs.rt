@@ -48,7 +48,15 @@ fn prints_in_its_fourth_step(rt: HostRuntime) -> Result<(), Fail> {
 #[test]
 fn literals_come_in_order(rt: HostRuntime) -> Result<(), Fail> {
     let deck = b" OUTPUT = 'A'\n OUTPUT = \"it's\"\n OUTPUT = 'A'\nEND\n";
-    assert!(rt; prints(rt.alloc(), deck, 1000, Status::Ended(Ending::Normal), b"A\nit's\nA\n"));
+    assert!(rt;
+        prints(
+            rt.alloc(),
+            deck,
+            1000,
+            Status::Ended(Ending::Normal),
+            b"A\nit's\nA\n"
+        )
+    );
     Ok(())
 }
 
