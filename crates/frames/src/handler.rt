@@ -2,9 +2,10 @@
 
 ghost use Rattle.std.specs.Prelude.{◌≡◌, ◌∷◌, List, drop};
 ghost use Rattle.frames.specs.View.{operands_of, handlers_of};
-ghost use Rattle.frames.specs.Failing.{IsBegin, IsTry, caught_by, kept_by, caught_at};
-ghost use Rattle.frames.specs.declared.handler.Handler.TheVariants as handler;
-ghost use Rattle.model.specs.Machine.{Frame, MW, fail_to};
+ghost use Rattle.frames.specs.Failing.{IsInBegin, caught_by, kept_by, caught_at};
+ghost use Rattle.model.specs.Flow.{IsInTry};
+ghost use Rattle.model.specs.Machine as m;
+ghost use Rattle.model.specs.Machine.{Frame, MW, State, fail_to, unbegin, untry};
 
 use crate::operand::Operand;
 use crate::stack::Stack;
@@ -25,16 +26,18 @@ pub enum Caught {
 
 /// Takes off the newest handler, BEGIN's.
 pub fn pop_begin(handlers: &mut Stack<Handler>)
-    requires { IsBegin handlers.old }
-    ensures { handlers.new ≡ drop 1 handlers.old }
+    requires { IsInBegin (handlers_of handlers.old) }
+    ensures rest { handlers.new ≡ drop 1 handlers.old }
+    ensures pops { (w : MW) (k : List m.Handler → State) → unbegin (handlers_of handlers.old) w k ≡ k (handlers_of handlers.new) }
 {
     let _handler = handlers.pop();
 }
 
 /// Takes off the newest handler, a TRY's.
 pub fn pop_try(handlers: &mut Stack<Handler>)
-    requires { IsTry handlers.old }
-    ensures { handlers.new ≡ drop 1 handlers.old }
+    requires { IsInTry (handlers_of handlers.old) }
+    ensures rest { handlers.new ≡ drop 1 handlers.old }
+    ensures pops { (w : MW) (k : List m.Handler → State) → untry (handlers_of handlers.old) w k ≡ k (handlers_of handlers.new) }
 {
     let _handler = handlers.pop();
 }

@@ -1,6 +1,6 @@
 //! The match under way.
 
-ghost use Rattle.std.specs.Prelude.{◌≡◌, ◌<◌, ◌≤◌, [], ◌∷◌, List, length, false, IfOk, OnOk, OnErr, if◌then◌else◌};
+ghost use Rattle.std.specs.Prelude.{◌≡◌, ◌≢◌, ◌<◌, ◌≤◌, [], ◌∷◌, List, length, false, IfOk, OnOk, OnErr, if◌then◌else◌};
 ghost use Rattle.frames.specs.View.{operands_of};
 ghost use Rattle.frames.specs.Matches.{in_match, matching_of};
 ghost use Rattle.match_machine.specs.Held.{IsQuestion};
@@ -52,9 +52,9 @@ impl Matching {
         keep: bool,
     ) -> Result<Matching, AllocError>
         ensures { IfOk result (λ g. g ≡ record {
-            search = record { subject = subject; code = code; state = Starting 0 (if anchored then 0 else length subject) []; refused = false };
-            place = place;
-            keep = keep;
+          search = record { subject = subject; code = code; state = Starting 0 (if anchored then 0 else length subject) []; refused = false };
+          place = place;
+          keep = keep;
         }) }
     {
         let replaced = if keep { Some(subject.clone()?) } else { None };
@@ -79,6 +79,7 @@ impl Matching {
         requires bound { 0 < bound }
         ensures event { IfOk result (λ (e, n). event_is e ≡ event_of self.new.search.state) }
         ensures count { IfOk result (λ (e, n). (0 < n) × (n ≤ bound)) }
+        ensures fewer { IfOk result (λ (e, n). n < bound → event_is e ≢ Running) }
         ensures steps { IfOk result (λ (e, n). (img : Module) (ops : List m.Operand) (hs : List m.Handler) (fs : List Frame) (w : MW) →
             steps img n (in_match self.old ops hs fs w) ≡ on_event img (event_is e) (matching_of self.old ops hs) self.new.search.state fs w) }
         ensures same { OnOk result (self.new ≡ record self.old { search = record self.old.search { state = self.new.search.state } }) }

@@ -1,6 +1,6 @@
 //! The operands of instructions.
 
-ghost use Rattle.std.specs.Prelude.{◌≡◌, [], ◌∷◌, ◌++◌, List, map, reverse, replicate, length, drop, OnOk};
+ghost use Rattle.std.specs.Prelude.{◌≡◌, [], ◌∷◌, ◌++◌, List, map, reverse, replicate, length, drop, OnOk, OnErr};
 ghost use Rattle.frames.specs.View.{operands_of};
 ghost use Rattle.frames.specs.Kinds.{TopIs, AreOnTop};
 ghost use Rattle.frames.specs.declared.operand.Operand.TheVariants as operand;
@@ -75,8 +75,7 @@ pub fn top_name(operands: &Stack<Operand>) -> &Name
     }
 }
 
-/// Takes off values, and leaves them in the order in which they were put on, and nothing else, in the vector. Where memory
-/// was refused some may be gone.
+/// Takes off values into the vector, in the order in which they were put on. What was in it is dropped.
 pub fn pop_values(
     operands: &mut Stack<Operand>,
     count: usize,
@@ -85,10 +84,12 @@ pub fn pop_values(
     requires { AreOnTop (replicate count V) operands.old }
     ensures count { OnOk result (length values.new.items ≡ count) }
     ensures operands { OnOk result (operands.old ≡ map operand.Value (reverse values.new.items) ++ operands.new) }
+    ensures err { OnErr result ((operands.new ≡ operands.old) × (values.new.items ≡ [])) }
     ensures pops { OnOk result ((w : MW) (k : List MVal → List m.Operand → State) →
         pop_many count (operands_of operands.old) [] w k ≡ k (map value_of values.new.items) (operands_of operands.new)) }
 {
     values.clear();
+    values.reserve(count)?;
     for _turn in 0..count {
         values.push(pop_value(operands))?;
     }
