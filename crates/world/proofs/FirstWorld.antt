@@ -55,14 +55,14 @@ first_reads : (x : Bytes) → input_in (variable_at x first_variables) ≡ cond 
 first_reads x =
     is_among input_in x first_variables
     ∙ as_given input_in (λ y. cond (bytes_eq y (codes "INPUT")) (Some 5) None) x (cond (bytes_eq x (codes "INPUT")) (Some 5) (cond (bytes_eq x (codes "OUTPUT")) None (cond (bytes_eq x (codes "PUNCH")) None None))) first_patterns
-      (refl, (refl, (refl, (refl, (refl, (refl, (refl, tt)))))))
-      (ap (cond (bytes_eq x (codes "INPUT")) (Some 5)) (same_two (bytes_eq x (codes "OUTPUT")) (bytes_eq x (codes "PUNCH")) None))
+    (refl, (refl, (refl, (refl, (refl, (refl, (refl, tt)))))))
+    (ap (cond (bytes_eq x (codes "INPUT")) (Some 5)) (same_two (bytes_eq x (codes "OUTPUT")) (bytes_eq x (codes "PUNCH")) None))
 
 first_writes : (x : Bytes) → output_in (variable_at x first_variables) ≡ cond (bytes_eq x (codes "OUTPUT")) (Some 6) (cond (bytes_eq x (codes "PUNCH")) (Some 7) None)
 first_writes x =
     is_among output_in x first_variables
     ∙ as_given output_in (λ y. cond (bytes_eq y (codes "OUTPUT")) (Some 6) (cond (bytes_eq y (codes "PUNCH")) (Some 7) None)) x (cond (bytes_eq x (codes "OUTPUT")) (Some 6) (cond (bytes_eq x (codes "PUNCH")) (Some 7) None)) (first_patterns ++ (codes "INPUT", null_variable (Some 5) None) ∷ [])
-      (refl, (refl, (refl, (refl, (refl, (refl, (refl, (refl, tt)))))))) refl
+    (refl, (refl, (refl, (refl, (refl, (refl, (refl, (refl, tt)))))))) refl
 
 first_io : (io : Io) → io.printed ≡ [] → io ≡ record { left = io.left; printed = [] }
 first_io io e = ap (λ ps. record { left = io.left; printed = ps }) e

@@ -1,9 +1,12 @@
 -- What calls answer, as the definitions see it.
-use Rattle.std.specs.Prelude.{◌≡◌, Option, Some, None, Result, Ok, Err}
+use Rattle.std.specs.Prelude.{◌≡◌, ◌≢◌, ℕ, Option, Some, None, Result, Ok, Err}
 use Rattle.model.specs.declared.run.ErrorCode.{ErrorCode}
 use Rattle.model.specs.declared.run.ErrorCode.TheVariants as error
 use Rattle.model.specs.declared.run.Stop.{Stop}
 use Rattle.model.specs.declared.run.Stop.TheVariants as stop
+use Rattle.model.specs.declared.run.UnitFault.{UnitFault}
+use Rattle.model.specs.declared.run.UnitFault.TheVariants as unit
+use Rattle.model.specs.Units.{IsCounted}
 use Rattle.model.specs.Conversions.{Conv, Got, Bad, Op, Gives, Refuses, Faults}
 use Rattle.strings.specs.declared.fault.StrFault.{StrFault}
 use Rattle.strings.specs.declared.fault.StrFault.TheVariants as text
@@ -18,6 +21,11 @@ fault_of text.TooLong = fault.Error error.StringTooLong
 abbrev pub answer_map : {A B E : Type 0} → (A → B) → Result A E → Result B E
 answer_map f (Ok a) = Ok (f a)
 answer_map f (Err e) = Err e
+
+-- the answer of a call that gives nothing
+abbrev pub done : {E : Type 0} → Result (Unit {0}) E → Result (record {}) E
+done (Ok u) = Ok (record {})
+done (Err e) = Err e
 
 -- ---- conversions
 
@@ -52,7 +60,25 @@ AnswersOrFails (Ok None) w o = o ≡ Refuses w
 AnswersOrFails (Err (fault.Error e)) w o = o ≡ Faults e w
 AnswersOrFails (Err (fault.Stop s)) w o = Unit {0}
 
+-- unless it stopped, a call gives what the operation goes on with, or its error
+abbrev pub LeadsTo : {W A B : Type 0} → Result A Fault → W → (A → Op W B) → Op W B → Type 0
+LeadsTo (Ok a) w k o = o ≡ k a
+LeadsTo (Err (fault.Error e)) w k o = o ≡ Faults e w
+LeadsTo (Err (fault.Stop s)) w k o = Unit {0}
+
 -- a call that stopped
 abbrev pub IfStopped : {A : Type 0} → Result A Fault → (Stop → Type 0) → Type 0
 IfStopped (Err (fault.Stop s)) P = P s
 IfStopped _ P = Unit {0}
+
+-- ---- units
+
+-- a unit's failure was counted there, and it isn't one of memory
+abbrev pub IsStop : Stop → (ℕ → ℕ) → (ℕ → ℕ) → Type 0
+IsStop stop.NoMemory old new = Unit {0}
+IsStop (stop.Unit u cause) old new = (cause ≢ unit.Memory) × IsCounted cause (old u) (new u)
+
+-- why a run stops where a unit refuses a call
+abbrev pub stop_of : ℕ → UnitFault → Stop
+stop_of u unit.Memory = stop.NoMemory
+stop_of u cause = stop.Unit u cause

@@ -1,10 +1,12 @@
 -- The world as it is held, and as the definitions see it.
-use Rattle.std.specs.Prelude.{ℕ, List, [], ◌∷◌, ◌++◌, Option, Some, None, bytes_eq, codes}
+use Rattle.std.specs.Prelude.{ℕ, List, [], ◌∷◌, ◌++◌, Option, Some, None, bytes_eq, codes, Bool, false}
 use Rattle.std.specs.Map.{lookup}
 use Rattle.model.specs.Trees.{Bytes}
 use Rattle.model.specs.Io.{Io}
-use Rattle.model.specs.Keywords.{Keys}
-use Rattle.model.specs.Values.{Str}
+use Rattle.model.specs.Keywords.{Keys, KeyValue, IsInteger, IsText, is_zero}
+use Rattle.model.specs.Conversions.{Op, Gives}
+use Rattle.model.specs.Operators.{take_record, as_read, limited}
+use Rattle.model.specs.Values.{Str, set_var}
 use Rattle.indexmap.specs.IndexMap.{insert_entry}
 use Rattle.model.specs.Pattern as p
 use Rattle.model.specs.Steps.{Code}
@@ -12,6 +14,8 @@ use Rattle.model.specs.Machine.{MVal, MW, codes_of}
 use Rattle.world.specs.Values.{value_of}
 use Rattle.world.specs.declared.value.Value.TheVariants as v
 use Rattle.world.specs.declared.world.Variable.{Variable}
+use Rattle.world.specs.declared.world.Source.{Source}
+use Rattle.world.specs.declared.world.Source.TheVariants as source
 
 pub record Held : Type 0 where
   -- in the order of first assignment
@@ -47,6 +51,21 @@ world_of h io = record {
   };
   io = io;
 }
+
+-- ---- fetching and assigning
+
+-- what fetching comes to from here
+abbrev pub fetched_from : Source → Bytes → MW → Op MW MVal
+fetched_from (source.Value v) x w = Gives (value_of v) w
+fetched_from (source.Unit u) x w = take_record x u (w.io.left u) w
+
+-- a variable takes a record as its value
+abbrev pub taken : (name bytes : Bytes) → MW → Op MW MVal
+taken x r w = let s : Bytes = as_read r w in limited s w (Gives (Str s) (set_var x (Str s) w))
+
+abbrev pub zero_in : KeyValue → Bool
+zero_in (IsInteger z) = is_zero z
+zero_in (IsText s) = false
 
 -- ---- at first
 

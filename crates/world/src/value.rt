@@ -3,7 +3,7 @@
 ghost use Rattle.std.specs.Prelude.{◌≡◌, []};
 ghost use Rattle.model.specs.Values.{Str};
 ghost use Rattle.model.specs.Conversions.{is_null};
-ghost use Rattle.world.specs.Values.{value_of};
+ghost use Rattle.world.specs.Values.{value_of, has_text};
 
 use pattern_compiler::{Name, PatCode};
 use std::alloc::AllocError;
@@ -53,6 +53,17 @@ impl Value {
     {
         match self {
             Value::String(text) => text.is_empty(),
+            _ => false,
+        }
+    }
+
+    /// Whether it converts to a string.
+    pub fn has_text(&self) -> bool
+        ensures { result ≡ has_text (value_of self.now) }
+    {
+        match self {
+            Value::String(_) => true,
+            Value::Integer(_) => true,
             _ => false,
         }
     }

@@ -3,14 +3,17 @@
 ghost use Rattle.std.specs.Prelude.{◌≡◌, [], None, IfOk, IfErr, OnOk, OnErr};
 ghost use Rattle.model.specs.Io.{Io};
 ghost use Rattle.model.specs.Values.{set_var};
+ghost use Rattle.model.specs.Operators.{fetch_var};
+ghost use Rattle.model.specs.Keywords.{key_value};
 ghost use Rattle.model.specs.Agreement.{first_m};
 ghost use Rattle.world.specs.Values.{value_of};
-ghost use Rattle.world.specs.Held.{world_of, variable_at, value_in, output_in, with_variable, pattern_variable, first_patterns, first_variables};
+ghost use Rattle.world.specs.Held.{world_of, fetched_from, zero_in, variable_at, value_in, output_in, with_variable, pattern_variable, first_patterns, first_variables};
 ghost use Rattle.world.specs.declared.value.Value.TheVariants.{String};
 
 use crate::value::Value;
 use indexmap::IndexMap;
-use keywords::Keywords;
+use keywords::{KeyValue, Keywords};
+use model::KeyId;
 use pattern_compiler::{Basic, PatCode};
 use std::alloc::{AllocError, Global};
 use std::marker::Model;
@@ -24,6 +27,14 @@ struct Variable {
     input: Option<u8>,
     /// The unit that it writes to.
     output: Option<u8>,
+}
+
+/// Where the value of a variable comes from.
+#[derive(Drop)]
+pub(crate) enum Source {
+    Value(Value),
+    /// The next record of a unit.
+    Unit(u8),
 }
 
 impl Variable {
@@ -60,7 +71,7 @@ impl Variable {
 #[derive(Drop)]
 pub struct World {
     variables: IndexMap<Text, Variable>,
-    keywords: Keywords,
+    pub(crate) keywords: Keywords,
 }
 
 impl Model for World {
@@ -112,12 +123,7 @@ impl World {
         self.put(alloc, b"PUNCH", Variable::on_units(None, Some(7)))
     }
 
-    fn put_pattern(
-        &mut self,
-        alloc: Global,
-        name: &[u8],
-        code: PatCode,
-    ) -> Result<(), AllocError>
+    fn put_pattern(&mut self, alloc: Global, name: &[u8], code: PatCode) -> Result<(), AllocError>
         ensures { OnOk result (self.new ≡ with_variable name.now (pattern_variable code) self.old) }
     {
         self.put(alloc, name, Variable::holding(Value::Pattern(code)))
@@ -133,8 +139,24 @@ impl World {
         Ok(())
     }
 
-    // A variable's value, which is null at first.
-    fn value(&self, name: &Text) -> Result<Value, AllocError>
+    /// Where the value of a variable comes from.
+    pub(crate) fn source(&self, name: &Text) -> Result<Source, AllocError>
+        ensures { IfOk result (λ source. (io : Io) →
+            fetch_var name.now ((world_of self.now io).plain.reads name.now) (world_of self.now io) ≡ fetched_from source name.now (world_of self.now io)) }
+    {
+        let Some(variable) = self.variables.get(name) else {
+            return Ok(Source::Value(Value::null()));
+        };
+        if let Some(unit) = variable.input {
+            if !is_zero(&self.keywords, KeyId::Input) {
+                return Ok(Source::Unit(unit));
+            }
+        }
+        Ok(Source::Value(variable.value.clone()?))
+    }
+
+    /// A variable's value, which is null at first.
+    pub(crate) fn value(&self, name: &Text) -> Result<Value, AllocError>
         ensures { IfOk result (λ value. value_of value ≡ value_in (variable_at name.now self.now.variables)) }
     {
         match self.variables.get(name) {
@@ -143,8 +165,8 @@ impl World {
         }
     }
 
-    // Gives a variable another value, and tells the unit that it writes to.
-    fn set(&mut self, name: &Text, value: Value) -> Result<Option<u8>, AllocError>
+    /// Gives a variable another value, and tells the unit that it writes to.
+    pub(crate) fn set(&mut self, name: &Text, value: Value) -> Result<Option<u8>, AllocError>
         ensures set { OnOk result ((io : Io) → world_of self.new io ≡ set_var name.now (value_of value) (world_of self.old io)) }
         ensures output { IfOk result (λ unit. unit ≡ output_in (variable_at name.now self.old.variables)) }
     {
@@ -155,5 +177,15 @@ impl World {
         let variable = Variable::holding(value);
         let _none = self.variables.insert(name.clone()?, variable)?;
         Ok(None)
+    }
+}
+
+/// Whether a keyword holds the integer 0.
+pub(crate) fn is_zero(keywords: &Keywords, id: KeyId) -> bool
+    ensures { result ≡ zero_in (key_value id keywords.now) }
+{
+    match keywords.get(id) {
+        KeyValue::Integer(n) => n == 0,
+        KeyValue::Text(_) => false,
     }
 }

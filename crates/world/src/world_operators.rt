@@ -1,0 +1,138 @@
+//! Operators that ask the world, but no unit.
+
+ghost use Rattle.std.specs.Prelude.{◌≡◌, ◌++◌, ◌+◌, ◌<◌, ◌≤◌, length, IfOk, IfErr, Err, ◌↔◌, take, drop};
+ghost use Rattle.model.specs.Io.{Io};
+ghost use Rattle.model.specs.Machine.{codes_of};
+ghost use Rattle.model.specs.Operators.{cat_op, keyget_op, keyset_op, match_op, assign_op, splice_op};
+ghost use Rattle.model.specs.Target.{Name};
+ghost use Rattle.model.specs.declared.run.Stop.TheVariants.{NoMemory};
+ghost use Rattle.world.specs.Values.{value_of, begun_of};
+ghost use Rattle.world.specs.Held.{world_of};
+ghost use Rattle.world.specs.Answers.{answer_map, done, op_of, Answers, IfStopped, LeadsTo};
+
+use crate::fault::Fault;
+use crate::value::Value;
+use crate::world::{World, is_zero};
+use keywords::KeyValue;
+use model::{ErrorCode, KeyId};
+use pattern_compiler::PatCode;
+use std::alloc::Global;
+use strings::{StrFault, Text};
+
+/// What a match begins with.
+#[derive(Drop)]
+pub struct Begun {
+    pub subject: Text,
+    pub pattern: PatCode,
+    /// Whether it matches at the first place alone.
+    pub anchored: bool,
+}
+
+/// A part of a subject, which a match found.
+#[derive(Drop)]
+pub struct Span {
+    pub subject: Text,
+    pub start: usize,
+    pub end: usize,
+}
+
+// The subject with the text in the place of the part.
+fn spliced(alloc: Global, span: &Span, text: &[u8], limit: usize) -> Result<Text, StrFault>
+    requires start { span.now.start ≤ length span.now.subject }
+    requires end { span.now.end ≤ length span.now.subject }
+    ensures ok { IfOk result (λ all. all ≡ take span.now.start span.now.subject ++ (text.now ++ drop span.now.end span.now.subject)) }
+    ensures too_long { (result ≡ Err StrFault.TooLong) ↔ (limit < length (take span.now.start span.now.subject ++ (text.now ++ drop span.now.end span.now.subject))) }
+{
+    let subject = span.subject.as_slice();
+    let front = &subject[..span.start];
+    let back = &subject[span.end..];
+    if front.len() > limit {
+        return Err(StrFault::TooLong);
+    }
+    let room = limit - front.len();
+    if text.len() > room || back.len() > room - text.len() {
+        return Err(StrFault::TooLong);
+    }
+    let mut all = Vec::with_capacity(alloc, front.len() + text.len() + back.len())?;
+    all.extend_from_slice(front)?;
+    all.extend_from_slice(text)?;
+    all.extend_from_slice(back)?;
+    Text::from_vec(all)
+}
+
+impl World {
+    /// The subject of a replacement with a value in the place of the part: what is to be assigned.
+    pub(crate) fn replaced(&self, alloc: Global, span: &Span, value: &Value) -> Result<Value, Fault>
+        requires start { span.now.start ≤ length span.now.subject }
+        requires end { span.now.end ≤ length span.now.subject }
+        ensures value { (io : Io) (name : Name) → LeadsTo (answer_map value_of result) (world_of self.now io) (λ v. assign_op name v (world_of self.now io)) (splice_op name span.now.subject span.now.start span.now.end (value_of value.now) (world_of self.now io)) }
+        ensures stop { IfStopped result (λ stop. stop ≡ NoMemory) }
+    {
+        let text = value.to_text(alloc)?;
+        let whole = spliced(alloc, span, text.as_slice(), self.keywords.longest())?;
+        Ok(Value::String(whole))
+    }
+
+    /// Two values one after the other. The null string gives the other, unconverted.
+    pub fn cat(&self, alloc: Global, left: &Value, right: &Value) -> Result<Value, Fault>
+        ensures value { (io : Io) → Answers (answer_map value_of result) (world_of self.now io) (cat_op codes_of (value_of left.now) (value_of right.now) (world_of self.now io)) }
+        ensures stop { IfStopped result (λ stop. stop ≡ NoMemory) }
+    {
+        if left.is_null() {
+            return Ok(right.clone()?);
+        }
+        if right.is_null() {
+            return Ok(left.clone()?);
+        }
+        if left.has_text() && right.has_text() {
+            let front = left.to_text(alloc)?;
+            let back = right.to_text(alloc)?;
+            let text = Text::concat(alloc, &front, &back, self.keywords.longest())?;
+            return Ok(Value::String(text));
+        }
+        let first = left.to_pattern(alloc)?;
+        let second = right.to_pattern(alloc)?;
+        Ok(Value::Pattern(PatCode::cat(alloc, &first, &second)?))
+    }
+
+    /// The value of a keyword.
+    pub fn keyword(&self, id: KeyId) -> Result<Value, Fault>
+        ensures value { (io : Io) → Answers (answer_map value_of result) (world_of self.now io) (keyget_op id (world_of self.now io)) }
+        ensures stop { IfStopped result (λ stop. stop ≡ NoMemory) }
+    {
+        match self.keywords.get(id) {
+            KeyValue::Integer(n) => Ok(Value::Integer(n)),
+            KeyValue::Text(text) => Ok(Value::String(text.clone()?)),
+        }
+    }
+
+    /// Assigns to a keyword; a refused assignment changes nothing.
+    pub fn set_keyword(&mut self, id: KeyId, value: &Value) -> Result<(), ErrorCode>
+        ensures { (io : Io) → op_of (done result) (world_of self.new io) ≡ keyset_op id (value_of value.now) (world_of self.old io) }
+    {
+        let n = value.to_int()?;
+        let Ok(()) = self.keywords.set(id, n) else {
+            return Err(ErrorCode::BadKeywordValue);
+        };
+        Ok(())
+    }
+
+    /// What a match of these values begins with.
+    pub fn begin_match(
+        &self,
+        alloc: Global,
+        subject: &Value,
+        pattern: &Value,
+    ) -> Result<Begun, Fault>
+        ensures begun { (io : Io) → Answers (answer_map begun_of result) (world_of self.now io) (match_op codes_of (value_of subject.now) (value_of pattern.now) (world_of self.now io)) }
+        ensures stop { IfStopped result (λ stop. stop ≡ NoMemory) }
+    {
+        let subject = subject.to_text(alloc)?;
+        let pattern = pattern.to_pattern(alloc)?;
+        Ok(Begun {
+            subject,
+            pattern,
+            anchored: !is_zero(&self.keywords, KeyId::Anchor),
+        })
+    }
+}
