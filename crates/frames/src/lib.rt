@@ -8,5 +8,5 @@ mod stack;
 
 pub use handler::{Caught, Handler, fail, pop_begin, pop_try};
 pub use matching::Matching;
-pub use operand::{Operand, Span, pop_name, pop_span, pop_value, pop_values, top_name};
+pub use operand::{Operand, pop_name, pop_span, pop_value, pop_values, top_name};
 pub use stack::Stack;

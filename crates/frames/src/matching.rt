@@ -10,13 +10,14 @@ ghost use Rattle.model.specs.Steps.{Starting, event_of, with_more};
 ghost use Rattle.model.specs.Machine as m;
 ghost use Rattle.model.specs.Machine.{Module, Frame, MW, found_as, on_event, steps};
 
-use crate::operand::{Operand, Span};
+use crate::operand::Operand;
 use crate::stack::Stack;
 use match_machine::{Answer, Event, Matcher};
 use pattern_compiler::PatCode;
 use std::alloc::{AllocError, Global};
 use std::marker::Model;
 use strings::Text;
+use world::Span;
 
 /// A match under way, which the operands and the handlers of its statement wait for where they are.
 #[derive(Drop)]

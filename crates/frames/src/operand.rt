@@ -12,22 +12,14 @@ ghost use Rattle.world.specs.Values.{value_of};
 use crate::stack::Stack;
 use pattern_compiler::Name;
 use std::alloc::AllocError;
-use strings::Text;
-use world::Value;
-
-/// What a replacement replaces: the subject, and where the match in it began and ended.
-#[derive(Drop)]
-pub struct Span {
-    pub subject: Text,
-    pub start: usize,
-    pub end: usize,
-}
+use world::{Span, Value};
 
 /// An operand of an instruction.
 #[derive(Drop)]
 pub enum Operand {
     Value(Value),
     Name(Name),
+    /// What a replacement replaces: the subject, and where the match in it began and ended.
     Span(Span),
 }
 
