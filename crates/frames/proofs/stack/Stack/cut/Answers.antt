@@ -1,4 +1,4 @@
-use Rattle.std.proofs.Common.{◌≡◌, ◌-◌, ◌∙◌, List, ap, drop, length, reverse, subst}
+use Rattle.std.proofs.Common.{◌≡◌, ◌-◌, ◌∙◌, ap, drop, length, reverse, subst}
 use Rattle.frames.proofs.Stacks.{cut_keeps}
 use Rattle.frames.proofs.stack.Stack.cut.Goals as goal
 
