@@ -1,12 +1,12 @@
 //! The match under way.
 
-ghost use Rattle.std.specs.Prelude.{◌≡◌, ◌≢◌, ◌<◌, ◌≤◌, [], ◌∷◌, List, length, false, IfOk, OnOk, OnErr, if◌then◌else◌};
+ghost use Rattle.std.specs.Prelude.{◌≡◌, ◌≢◌, ◌<◌, ◌≤◌, [], ◌∷◌, List, length, true, false, IfOk, IfErr, IsErr, OnOk, OnErr, if◌then◌else◌};
 ghost use Rattle.frames.specs.View.{operands_of};
 ghost use Rattle.frames.specs.Matches.{in_match, matching_of};
 ghost use Rattle.match_machine.specs.Held.{IsQuestion};
 ghost use Rattle.match_machine.specs.View.{event_is, answer_of};
 ghost use Rattle.model.specs.Pattern.{Running};
-ghost use Rattle.model.specs.Steps.{Starting, event_of, with_more};
+ghost use Rattle.model.specs.Steps.{Starting, Over, Lost, event_of, with_more};
 ghost use Rattle.model.specs.Machine as m;
 ghost use Rattle.model.specs.Machine.{Module, Frame, MW, found_as, on_event, steps};
 
@@ -84,6 +84,8 @@ impl Matching {
         ensures steps { IfOk result (λ (e, n). (img : Module) (ops : List m.Operand) (hs : List m.Handler) (fs : List Frame) (w : MW) →
             steps img n (in_match self.old ops hs fs w) ≡ on_event img (event_is e) (matching_of self.old ops hs) self.new.search.state fs w) }
         ensures same { OnOk result (self.new ≡ record self.old { search = record self.old.search { state = self.new.search.state } }) }
+        ensures refused { IfErr result (λ _. self.new ≡ record self.old { search = record self.old.search { state = Over Lost; refused = true } }) }
+        ensures stays { self.old.search.refused ≡ true → IsErr result }
     {
         let (event, count) = self.matcher.advance(bound)?;
         Ok((event, count))
