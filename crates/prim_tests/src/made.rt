@@ -66,18 +66,21 @@ fn values(alloc: Global, args: [Arg<'_>; 3]) -> Result<Vec<Value>, Fault> {
     Ok(values)
 }
 
-fn called(alloc: Global, id: PrimId, args: [Arg<'_>; 3]) -> Result<Outcome, Fault> {
-    let mut world = World::new(alloc)?;
-    let arguments = values(alloc, args)?;
+fn called(alloc: Global, id: PrimId, arguments: &[Value]) -> Result<Outcome, Fault> {
     if !is_there(id) {
         return Err(Fault::Error(ErrorCode::UndefinedFunction));
     }
-    call_prim(alloc, id, arguments.as_slice(), &mut world)
+    let mut world = World::new(alloc)?;
+    call_prim(alloc, id, arguments, &mut world)
+}
+
+fn called_with(alloc: Global, id: PrimId, args: [Arg<'_>; 3]) -> Result<Outcome, Fault> {
+    called(alloc, id, values(alloc, args)?.as_slice())
 }
 
 /// Whether a call, in the world as a run begins, comes to this.
 pub fn comes_to(alloc: Global, id: PrimId, args: [Arg<'_>; 3], want: Want<'_>) -> bool {
-    match called(alloc, id, args) {
+    match called_with(alloc, id, args) {
         Ok(outcome) => is_outcome(&outcome, want),
         Err(Fault::Error(error)) => is_error(error, want),
         Err(Fault::Stop(_)) => false,
