@@ -1,4 +1,2 @@
-pub mod Generated
 pub mod Fragment
-pub mod PrintedLaws
 pub mod Compiled
