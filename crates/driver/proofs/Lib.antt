@@ -1,2 +1,3 @@
 pub mod RunsToday
 pub mod WholeDecks
+pub mod WholeRuns

@@ -1,2 +1,3 @@
 pub mod Fragment
 pub mod Compiled
+pub mod Whole

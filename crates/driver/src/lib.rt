@@ -6,6 +6,7 @@ mod fragment;
 mod refusal;
 mod running;
 mod telling;
+mod whole;
 mod words;
 
 pub use compiling::compile_deck;
@@ -13,4 +14,5 @@ pub use fragment::not_yet;
 pub use refusal::Refusal;
 pub use running::run_module;
 pub use telling::{Told, WriteFault, report};
+pub use whole::run_deck;
 pub use words::{Job, read_words};
