@@ -1,6 +1,5 @@
 -- Where each statement runs today, each instruction of the image runs yet.
-use Rattle.std.proofs.Common.{◌≡◌, ◌∙◌, refl, sym, ap, subst, ℕ, zero, suc, ◌+◌, List, [], ◌∷◌, ◌++◌, length, arith, Bool, true, false, ◌&&◌, Option, Some, None}
-use Rattle.std.specs.List.{AllByRecursion}
+use Rattle.std.proofs.Common.{◌≡◌, ◌∙◌, refl, ap, subst, ℕ, zero, suc, ◌+◌, List, [], ◌∷◌, ◌++◌, length, arith, Bool, true, false, ◌&&◌, Option, Some, None}
 use Rattle.model.specs.declared.causes.StmtFault.{StmtFault}
 use Rattle.model.specs.declared.instr.Instr.{Instr}
 use Rattle.model.specs.declared.instr.Instr.TheVariants as op
@@ -10,7 +9,7 @@ use Rattle.model.specs.Programs.{labelled_from}
 use Rattle.model.specs.Trees.{Bytes, Expr, Name, Integer, Literal, Keyword, Call, Reference, Apply, Combine, Goto, Next, Always, OnSuccess, OnFailure, Both, Body, Nothing, Evaluate, Match, Assign, Replace, Stmt, Plain, End}
 use Rattle.model.specs.Weights as weights
 use Rattle.expr_codegen.specs.Code.{Part, nothing, one, with_string, ◌>>◌, handled, name}
-use Rattle.codegen.specs.Layout.{object, assignment, body, after_success, after_failure, statement, statements, statements_of, expressions, expressions_of, joined, code_of, image_of}
+use Rattle.codegen.specs.Layout.{object, assignment, body, statement, statements, statements_of, expressions, expressions_of, joined, image_of}
 use Rattle.codegen_laws.proofs.Standing.{all_join}
 use Rattle.loader.specs.Running.{AreRunYet, IsRunYet}
 use Rattle.driver.specs.Fragment.{is_output, is_literal, prints_literal, is_next, runs_today, fault_unless, not_yet}

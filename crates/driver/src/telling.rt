@@ -62,10 +62,12 @@ fn report_stop<W: Write>(stop: Stop, out: &mut W) -> Result<u8, WriteFault> {
 }
 
 fn report_bad_module<W: Write>(fault: LoadFault, out: &mut W) -> Result<u8, WriteFault> {
-    if let LoadFault::Format(FormatFault {
-        rule: FormatRule::Memory,
-        ..
-    }) = fault
+    if let LoadFault::Format(
+        FormatFault {
+            rule: FormatRule::Memory,
+            ..
+        },
+    ) = fault
     {
         return report_no_memory(out);
     }

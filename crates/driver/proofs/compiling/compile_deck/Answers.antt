@@ -1,4 +1,4 @@
-use Rattle.std.proofs.Common.{◌∙◌, sym, ap, subst, map, arith}
+use Rattle.std.proofs.Common.{◌∙◌, sym, subst, map, arith}
 use Rattle.model.specs.Spelling.{IsImage}
 use Rattle.model.specs.TreeViews.{stmt_of}
 use Rattle.parser.proofs.ReadLists.{is_nothing}
