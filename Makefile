@@ -8,8 +8,8 @@ PROGRAM := crates/sno
 BENCHES := $(wildcard crates/*_bench)
 # What a proof reads, folders too, so that a file that goes is noticed.
 SOURCES := crates.txt $(shell find crates/*/src crates/*/specs crates/*/proofs 2>/dev/null)
-# The program's own words, beyond the deck on standard input.
-HAS_WORDS := $(shell grep -E '^(sno|driver):.* clap( |$$)' crates.txt 2>/dev/null)
+# Whether the program's words name files for units.
+HAS_UNITS := $(shell grep -l 'UNIT=FILE' crates/driver/src/words.rt 2>/dev/null)
 
 .PHONY: help run try sno test check bench fmt clean toolchain program deck input
 .DEFAULT_GOAL := help
@@ -30,7 +30,7 @@ deck: program
 	@: $(if $(wildcard $(DECK)),,$(error no such deck: $(DECK)))
 
 input: deck
-	@: $(if $(INPUT),$(if $(HAS_WORDS),$(if $(wildcard $(INPUT)),,$(error no such file: $(INPUT))),$(error INPUT is not there yet: the program reads no words, so unit 5 has no file)))
+	@: $(if $(INPUT),$(if $(HAS_UNITS),$(if $(wildcard $(INPUT)),,$(error no such file: $(INPUT))),$(error INPUT is not there yet: no word of the program names a file for unit 5)))
 
 run: input build/sno ## DECK=file [INPUT=file]: run a deck on the proved program, built first where the source changed
 ifeq ($(INPUT),)

@@ -54,17 +54,18 @@ grouped : (a b c : Part) → Same ((a >> b) >> c) (a >> b >> c)
 unfolding ◌>>◌
 grouped a b c = record {
   code = λ texts k at.
-    let u : List Instr = a.code texts k at in
-    let v : List Instr = b.code texts (k + length a.later) (at + total u) in
-    ap (λ n. (u ++ v) ++ c.code texts n (at + total (u ++ v))) (waits k a.later b.later)
-    ∙ ap (λ n. (u ++ v) ++ c.code texts (k + length a.later + length b.later) n) (ap (λ n. at + n) (total_append u v) ∙ sum at (total u) (total v))
-    ∙ append_assoc u v (c.code texts (k + length a.later + length b.later) (at + total u + total v));
+      let u : List Instr = a.code texts k at in
+      let v : List Instr = b.code texts (k + length a.later) (at + total u) in
+      ap (λ n. (u ++ v) ++ c.code texts n (at + total (u ++ v))) (waits k a.later b.later)
+      ∙ ap (λ n. (u ++ v) ++ c.code texts (k + length a.later + length b.later) n) (ap (λ n. at + n) (total_append u v) ∙ sum at (total u) (total v))
+      ∙ append_assoc u v (c.code texts (k + length a.later + length b.later) (at + total u + total v));
   texts = append_assoc a.texts b.texts c.texts;
   later = append_assoc a.later b.later c.later;
 }
   where
     sum : (a b c : ℕ) → a + (b + c) ≡ a + b + c
     sum a b c = omega arith
+
     waits : (k : ℕ) (xs ys : List Expr) → k + length (xs ++ ys) ≡ k + length xs + length ys
     waits k xs ys = ap (λ n. k + n) (length-append xs ys) ∙ sum k (length xs) (length ys)
 

@@ -97,14 +97,14 @@ pub both : {a b : Part} {g h k : Gen} → Emits a g h → Emits b h k → Emits 
 unfolding ◌>>◌
 both {a} {b} {g} {h} {k} x y = record {
   code = λ texts l.
-    let l1 : Longer h.texts texts = longer_trans h.texts k.texts texts (subst (λ t. Longer h.texts t) (sym y.texts) (longer_texts b.texts h.texts)) l in
-    let first : List Instr = a.code texts (length g.waiting) (total g.code) in
-    let waits : length h.waiting ≡ length g.waiting + length a.later = ap length x.waiting ∙ length-append g.waiting a.later in
-    let at : total h.code ≡ total g.code + total first = ap total (x.code texts l1) ∙ total_append g.code first in
-    y.code texts l ∙ ap (λ c. c ++ b.code texts (length h.waiting) (total h.code)) (x.code texts l1)
-    ∙ ap (λ n. (g.code ++ first) ++ b.code texts n (total h.code)) waits
-    ∙ ap (λ o. (g.code ++ first) ++ b.code texts (length g.waiting + length a.later) o) at
-    ∙ append_assoc g.code first (b.code texts (length g.waiting + length a.later) (total g.code + total first));
+      let l1 : Longer h.texts texts = longer_trans h.texts k.texts texts (subst (λ t. Longer h.texts t) (sym y.texts) (longer_texts b.texts h.texts)) l in
+      let first : List Instr = a.code texts (length g.waiting) (total g.code) in
+      let waits : length h.waiting ≡ length g.waiting + length a.later = ap length x.waiting ∙ length-append g.waiting a.later in
+      let at : total h.code ≡ total g.code + total first = ap total (x.code texts l1) ∙ total_append g.code first in
+      y.code texts l ∙ ap (λ c. c ++ b.code texts (length h.waiting) (total h.code)) (x.code texts l1)
+      ∙ ap (λ n. (g.code ++ first) ++ b.code texts n (total h.code)) waits
+      ∙ ap (λ o. (g.code ++ first) ++ b.code texts (length g.waiting + length a.later) o) at
+      ∙ append_assoc g.code first (b.code texts (length g.waiting + length a.later) (total g.code + total first));
   texts = y.texts ∙ ap (with_texts b.texts) x.texts ∙ sym (texts_append a.texts b.texts g.texts);
   waiting = y.waiting ∙ ap (λ w. w ++ b.later) x.waiting ∙ append_assoc g.waiting a.later b.later;
   taken = y.taken ∙ x.taken;
@@ -120,8 +120,8 @@ pub text : (i : ℕ → Instr) (s : Bytes) (k : ℕ) (g h j : Gen) → Numbered 
 unfolding with_string
 text i s k g h j n e = subst (Emits (with_string i s) g) (sym e) (record {
   code = λ texts l.
-    let place : k ≡ place_of s texts = n.at ∙ ap (place_of s) n.texts ∙ sym (place_stays s g.texts l.0) ∙ ap (λ t. place_of s (t ++ l.0)) (sym n.texts) ∙ ap (place_of s) (sym l.1) in
-    ap (λ c. c ++ i k ∷ []) n.code ∙ ap (λ m. g.code ++ i m ∷ []) place;
+      let place : k ≡ place_of s texts = n.at ∙ ap (place_of s) n.texts ∙ sym (place_stays s g.texts l.0) ∙ ap (λ t. place_of s (t ++ l.0)) (sym n.texts) ∙ ap (place_of s) (sym l.1) in
+      ap (λ c. c ++ i k ∷ []) n.code ∙ ap (λ m. g.code ++ i m ∷ []) place;
   texts = n.texts;
   waiting = n.waiting ∙ nil_right g.waiting;
   taken = n.taken;
@@ -138,16 +138,16 @@ pub changed : {a b : Part} (i : ℕ → Instr) (n t : ℕ) (g g1 h k k1 : Gen) �
 unfolding handled ◌>>◌
 changed {a} {b} i n t g g1 h k k1 five put x at y set = subst (Emits (handled i a b) g) (sym set) (record {
   code = λ texts l.
-    let w : length g1.waiting ≡ length g.waiting = ap (λ (z : Gen). length z.waiting) put in
-    let o : total g1.code ≡ total g.code + 5 = ap (λ (z : Gen). total z.code) put ∙ total_snoc g.code (i n) ∙ ap (λ m. total g.code + m) (five n) in
-    let l1 : Longer h.texts texts = longer_trans h.texts k.texts texts (subst (λ t. Longer h.texts t) (sym y.texts) (longer_texts b.texts h.texts)) l in
-    let first : List Instr = a.code texts (length g.waiting) (total g.code + 5) in
-    let whole : List Instr = (a >> b).code texts (length g.waiting) (total g.code + 5) in
-    let begins : h.code ≡ g1.code ++ first = x.code texts l1 ∙ ap (λ m. g1.code ++ a.code texts m (total g1.code)) w ∙ ap (λ m. g1.code ++ a.code texts (length g.waiting) m) o in
-    let all : k.code ≡ g.code ++ i n ∷ whole = (both x y).code texts l ∙ ap (λ m. g1.code ++ (a >> b).code texts m (total g1.code)) w ∙ ap (λ m. g1.code ++ (a >> b).code texts (length g.waiting) m) o
-        ∙ ap (λ (z : Gen). z.code ++ whole) put ∙ append_assoc g.code (i n ∷ []) whole in
-    let there : t ≡ total g.code + 5 + total first = at ∙ ap total begins ∙ total_append g1.code first ∙ ap (λ m. m + total first) o in
-    ap (λ c. slice_set c (length g.code) (i t)) all ∙ set_at g.code whole (i n) (i t) ∙ ap (λ m. g.code ++ i m ∷ whole) there;
+      let w : length g1.waiting ≡ length g.waiting = ap (λ (z : Gen). length z.waiting) put in
+      let o : total g1.code ≡ total g.code + 5 = ap (λ (z : Gen). total z.code) put ∙ total_snoc g.code (i n) ∙ ap (λ m. total g.code + m) (five n) in
+      let l1 : Longer h.texts texts = longer_trans h.texts k.texts texts (subst (λ t. Longer h.texts t) (sym y.texts) (longer_texts b.texts h.texts)) l in
+      let first : List Instr = a.code texts (length g.waiting) (total g.code + 5) in
+      let whole : List Instr = (a >> b).code texts (length g.waiting) (total g.code + 5) in
+      let begins : h.code ≡ g1.code ++ first = x.code texts l1 ∙ ap (λ m. g1.code ++ a.code texts m (total g1.code)) w ∙ ap (λ m. g1.code ++ a.code texts (length g.waiting) m) o in
+      let all : k.code ≡ g.code ++ i n ∷ whole = (both x y).code texts l ∙ ap (λ m. g1.code ++ (a >> b).code texts m (total g1.code)) w ∙ ap (λ m. g1.code ++ (a >> b).code texts (length g.waiting) m) o
+      ∙ ap (λ (z : Gen). z.code ++ whole) put ∙ append_assoc g.code (i n ∷ []) whole in
+      let there : t ≡ total g.code + 5 + total first = at ∙ ap total begins ∙ total_append g1.code first ∙ ap (λ m. m + total first) o in
+      ap (λ c. slice_set c (length g.code) (i t)) all ∙ set_at g.code whole (i n) (i t) ∙ ap (λ m. g.code ++ i m ∷ whole) there;
   texts = (both x y).texts ∙ ap (λ (z : Gen). with_texts (a.texts ++ b.texts) z.texts) put;
   waiting = (both x y).waiting ∙ ap (λ (z : Gen). z.waiting ++ (a.later ++ b.later)) put;
   taken = (both x y).taken ∙ ap (λ (z : Gen). z.taken) put;

@@ -13,7 +13,7 @@ ghost use Rattle.expr_codegen.specs.Views.{gen_of};
 
 use crate::generator::Generator;
 use crate::single::{call, keyword, literal, variable};
-use model::{Argument, Binary, Expr, Instr, ArithOp, SignOp, Unary};
+use model::{Argument, ArithOp, Binary, Expr, Instr, SignOp, Unary};
 use std::alloc::{AllocError, Global};
 
 /// Puts the code for the value of an expression.

@@ -142,11 +142,8 @@ fn length_of(i: Instr) -> u32
         | Instr::Try(_)
         | Instr::Pat(_) => 5,
         Instr::Elem(_) | Instr::PrimV(_, _) | Instr::PrimN(_, _) => 3,
-        Instr::Return(_)
-        | Instr::KeyGet(_)
-        | Instr::KeySet(_)
-        | Instr::Sign(_)
-        | Instr::Arith(_) => 2,
+        Instr::Return(_) | Instr::KeyGet(_) | Instr::KeySet(_) | Instr::Sign(_) | Instr::Arith(_) =>
+            2,
         _ => 1,
     }
 }

@@ -78,7 +78,7 @@ fn main(rt: HostRuntime) -> Result<(), BenchError> {
         println!(rt; "{size} bytes, from offset {start}")?;
         return Ok(());
     }
-    for count in [50_000, 400_000] {
+    for count in [50_000, 800_000] {
         let bytes = module_bytes(alloc, count)?;
         let begun = Instant::now(&rt)?;
         let program = load(alloc, bytes.as_slice())?;

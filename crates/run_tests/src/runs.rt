@@ -6,7 +6,7 @@ use std::alloc::Global;
 use std::test::Fail;
 use unit_io::MemUnits;
 
-const HELLO: &[u8] = b" OUTPUT = 'HI'\nEND\n".as_slice();
+const HELLO: [u8; 19] = *b" OUTPUT = 'HI'\nEND\n";
 
 /// How the deck's module runs on these units up to a bound. Nothing, if the deck or the module is refused.
 fn run(alloc: Global, deck: &[u8], units: &mut MemUnits, bound: u64) -> Option<Status> {
@@ -38,17 +38,25 @@ fn repeated(alloc: Global, card: &[u8], count: usize) -> Result<Vec<u8>, Fail> {
 #[test]
 fn prints_in_its_fourth_step(rt: HostRuntime) -> Result<(), Fail> {
     let alloc = rt.alloc();
-    assert!(rt; prints(alloc, HELLO, 3, Status::Running, b""));
-    assert!(rt; prints(alloc, HELLO, 4, Status::Running, b"HI\n"));
-    assert!(rt; prints(alloc, HELLO, 5, Status::Running, b"HI\n"));
-    assert!(rt; prints(alloc, HELLO, 6, Status::Ended(Ending::Normal), b"HI\n"));
+    assert!(rt; prints(alloc, &HELLO, 3, Status::Running, b""));
+    assert!(rt; prints(alloc, &HELLO, 4, Status::Running, b"HI\n"));
+    assert!(rt; prints(alloc, &HELLO, 5, Status::Running, b"HI\n"));
+    assert!(rt; prints(alloc, &HELLO, 6, Status::Ended(Ending::Normal), b"HI\n"));
     Ok(())
 }
 
 #[test]
 fn literals_come_in_order(rt: HostRuntime) -> Result<(), Fail> {
     let deck = b" OUTPUT = 'A'\n OUTPUT = \"it's\"\n OUTPUT = 'A'\nEND\n";
-    assert!(rt; prints(rt.alloc(), deck, 1000, Status::Ended(Ending::Normal), b"A\nit's\nA\n"));
+    assert!(rt;
+        prints(
+            rt.alloc(),
+            deck,
+            1000,
+            Status::Ended(Ending::Normal),
+            b"A\nit's\nA\n"
+        )
+    );
     Ok(())
 }
 
@@ -65,7 +73,7 @@ fn a_closed_unit_stops_the_run(rt: HostRuntime) -> Result<(), Fail> {
         unit: 6,
         cause: UnitFault::NotOpen,
     };
-    assert!(rt; run(rt.alloc(), HELLO, &mut units, 1000) == Some(Status::Stopped(stop)));
+    assert!(rt; run(rt.alloc(), &HELLO, &mut units, 1000) == Some(Status::Stopped(stop)));
     Ok(())
 }
 

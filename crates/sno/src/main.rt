@@ -3,8 +3,8 @@
 
 use driver::{Job, Told, compile_deck, read_words, report, run_deck, run_module};
 use model::{Status, Stop, UnitFault};
-use std::io::{ErrorKind, Read};
 use std::alloc::AllocError;
+use std::io::{ErrorKind, Read};
 use std::process::ExitCode;
 use std::{env, fs, io};
 use unit_io::FileUnits;

@@ -33,7 +33,7 @@ applied-returns-in_ok-defer-in-Unevaluated-clause-emits t c = value_of_op c.args
 pub applied-returns-in_ok-put-in-Indirect-2-clause-emits : goal.applied-returns-in_ok-put-in-Indirect-2-clause-emits
 applied-returns-in_ok-put-in-Indirect-2-clause-emits t c =
     value_of_op c.args.op u.Indirect (expr_of c.args.x.now) c.in-Indirect.is
-      (both c.in_ok-value-in-Indirect.ensures.emits (both (instr op.Indir _ _ c.in_ok-put-in-Indirect.ensures.put) (instr op.Fetch _ _ c.in_ok-put-in-Indirect-2.ensures.put)))
+    (both c.in_ok-value-in-Indirect.ensures.emits (both (instr op.Indir _ _ c.in_ok-put-in-Indirect.ensures.put) (instr op.Fetch _ _ c.in_ok-put-in-Indirect-2.ensures.put)))
 
 pub applied-returns-in_ok-put-in-Plus-clause-emits : goal.applied-returns-in_ok-put-in-Plus-clause-emits
 applied-returns-in_ok-put-in-Plus-clause-emits t c = value_of_op c.args.op u.Plus (expr_of c.args.x.now) c.in-Plus.is (both c.in_ok-value-in-Plus.ensures.emits (instr _ _ _ c.in_ok-put-in-Plus.ensures.put))
@@ -44,20 +44,20 @@ applied-returns-in_ok-put-in-Minus-clause-emits t c = value_of_op c.args.op u.Mi
 pub applied-returns-in_ok-put-in-Interrogate-2-clause-emits : goal.applied-returns-in_ok-put-in-Interrogate-2-clause-emits
 applied-returns-in_ok-put-in-Interrogate-2-clause-emits t c =
     value_of_op c.args.op u.Interrogate (expr_of c.args.x.now) c.in-Interrogate.is
-      (both c.in_ok-value-in-Interrogate.ensures.emits (both (instr op.Drop _ _ c.in_ok-put-in-Interrogate.ensures.put) (instr op.Null _ _ c.in_ok-put-in-Interrogate-2.ensures.put)))
+    (both c.in_ok-value-in-Interrogate.ensures.emits (both (instr op.Drop _ _ c.in_ok-put-in-Interrogate.ensures.put) (instr op.Null _ _ c.in_ok-put-in-Interrogate-2.ensures.put)))
 
 pub negated-change-requires : goal.negated-change-requires
 negated-change-requires t c =
     stays (op.Try 0) (op.Try c.at-target.result) c.len-number.result _ _ _ c.len-number.ensures c.in_ok-put.ensures.put
-      (both c.in_ok-value.ensures.emits (both (instr op.Drop _ _ c.in_ok-put-2.ensures.put) (both (instr op.Untry _ _ c.in_ok-put-3.ensures.put) (both (instr op.Fail _ _ c.in_ok-put-4.ensures.put) (instr op.Null _ _ c.in_ok-put-5.ensures.put)))))
-      refl
+    (both c.in_ok-value.ensures.emits (both (instr op.Drop _ _ c.in_ok-put-2.ensures.put) (both (instr op.Untry _ _ c.in_ok-put-3.ensures.put) (both (instr op.Fail _ _ c.in_ok-put-4.ensures.put) (instr op.Null _ _ c.in_ok-put-5.ensures.put)))))
+    refl
 
 pub negated-returns-clause-emits : goal.negated-returns-clause-emits
 negated-returns-clause-emits t c =
     changed op.Try 0 c.at-target.result _ _ _ _ _ (λ m. refl) c.in_ok-put.ensures.put
-      (both c.in_ok-value.ensures.emits (both (instr op.Drop _ _ c.in_ok-put-2.ensures.put) (both (instr op.Untry _ _ c.in_ok-put-3.ensures.put) (instr op.Fail _ _ c.in_ok-put-4.ensures.put))))
-      c.at-target.ensures (instr op.Null _ _ c.in_ok-put-5.ensures.put)
-      (c.change.ensures.put ∙ ap (λ n. with_changed n (op.Try c.at-target.result) (gen_of c.put-5.new.self)) c.len-number.ensures)
+    (both c.in_ok-value.ensures.emits (both (instr op.Drop _ _ c.in_ok-put-2.ensures.put) (both (instr op.Untry _ _ c.in_ok-put-3.ensures.put) (instr op.Fail _ _ c.in_ok-put-4.ensures.put))))
+    c.at-target.ensures (instr op.Null _ _ c.in_ok-put-5.ensures.put)
+    (c.change.ensures.put ∙ ap (λ n. with_changed n (op.Try c.at-target.result) (gen_of c.put-5.new.self)) c.len-number.ensures)
 
 pub applied_name-returns-in_ok-put-in-Indirect-clause-emits : goal.applied_name-returns-in_ok-put-in-Indirect-clause-emits
 applied_name-returns-in_ok-put-in-Indirect-clause-emits t c = name_of_op c.args.op u.Indirect (expr_of c.args.x.now) c.in-Indirect.is (both c.in_ok-value-in-Indirect.ensures.emits (instr op.Indir _ _ c.in_ok-put-in-Indirect.ensures.put))
@@ -67,8 +67,8 @@ applied_name-returns-in_ok-put-in-Indirect-clause-emits t c = name_of_op c.args.
 pub combined-returns-clause-emits : goal.combined-returns-clause-emits
 combined-returns-clause-emits t c =
     as_part (both c.in_ok-value.ensures.emits (both c.in_ok-wanted.ensures.emits (instr _ _ _ c.in_ok-put.ensures.put)))
-      (ap (λ b. code.value (expr_of c.args.x.now) >> views.wanted b (expr_of c.args.y.now) >> one c.instr_of.result) c.takes_target.ensures
-       ∙ ap (λ i. code.value (expr_of c.args.x.now) >> views.wanted (views.takes_target c.args.op) (expr_of c.args.y.now) >> one i) c.instr_of.ensures ∙ combined_is c.args.op _ _)
+    (ap (λ b. code.value (expr_of c.args.x.now) >> views.wanted b (expr_of c.args.y.now) >> one c.instr_of.result) c.takes_target.ensures
+    ∙ ap (λ i. code.value (expr_of c.args.x.now) >> views.wanted (views.takes_target c.args.op) (expr_of c.args.y.now) >> one i) c.instr_of.ensures ∙ combined_is c.args.op _ _)
 
 -- ---- arguments
 
@@ -78,10 +78,11 @@ arguments-loop-argument-preserved t c =
     let i = c.loop-argument.argument-index in
     let x = c.argument-item.result in
     elim c.match-argument.branch [
-      goal.arguments-in-Absent+in_ok-put-in-Absent w ↦ loop_step xs i x m.Absent (gen_of c.args.g.now) (gen_of c.loop-argument.g) _ _ (ap gen_of w.g-is) (ap arg_of w.in-Absent.is) c.loop-argument-test.true c.argument-item.is c.loop-argument.invariant
-        (instr op.Null _ _ w.in_ok-put-in-Absent.ensures.put) (let s = w.in_ok-put-in-Absent.ensures.size in omega (arith, s))
-    | goal.arguments-in-Given+in_ok-value-in-Given w ↦ loop_step xs i x (m.Given (expr_of w.in-Given.e)) (gen_of c.args.g.now) (gen_of c.loop-argument.g) _ _ (ap gen_of w.g-is) (ap arg_of w.in-Given.is) c.loop-argument-test.true c.argument-item.is c.loop-argument.invariant
-        w.in_ok-value-in-Given.ensures.emits (let s = w.in_ok-value-in-Given.ensures.size in omega (arith, s)) ]
+      | goal.arguments-in-Absent+in_ok-put-in-Absent w ↦ loop_step xs i x m.Absent (gen_of c.args.g.now) (gen_of c.loop-argument.g) _ _ (ap gen_of w.g-is) (ap arg_of w.in-Absent.is) c.loop-argument-test.true c.argument-item.is c.loop-argument.invariant
+          (instr op.Null _ _ w.in_ok-put-in-Absent.ensures.put) (let s = w.in_ok-put-in-Absent.ensures.size in omega (arith, s))
+      | goal.arguments-in-Given+in_ok-value-in-Given w ↦ loop_step xs i x (m.Given (expr_of w.in-Given.e)) (gen_of c.args.g.now) (gen_of c.loop-argument.g) _ _ (ap gen_of w.g-is) (ap arg_of w.in-Given.is) c.loop-argument-test.true c.argument-item.is c.loop-argument.invariant
+          w.in_ok-value-in-Given.ensures.emits (let s = w.in_ok-value-in-Given.ensures.size in omega (arith, s))
+    ]
 
 pub arguments-put-requires : goal.arguments-put-requires
 arguments-put-requires t c =

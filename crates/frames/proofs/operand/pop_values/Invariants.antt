@@ -1,0 +1,10 @@
+use Rattle.std.proofs.Common.{◌≡◌, ◌++◌, ◌≤◌, map, length, vec_capacity}
+use Rattle.frames.specs.declared.operand.Operand.TheVariants.{Value}
+use Rattle.frames.proofs.operand.pop_values.Given as goal
+
+abbrev pub invariant-loop-turn : goal.invariant-loop-turn
+invariant-loop-turn l = record {
+  taken : l.fn.operands ≡ map Value l.values.items ++ l.operands;
+  count : length l.values.items ≡ l._turn;
+  room : l.count ≤ vec_capacity l.values;
+}

@@ -1,0 +1,123 @@
+//! The match under way.
+
+ghost use Rattle.std.specs.Prelude.{◌≡◌, ◌≢◌, ◌<◌, ◌≤◌, [], ◌∷◌, List, length, true, false, IfOk, IfErr, IsErr, OnOk, OnErr, if◌then◌else◌};
+ghost use Rattle.frames.specs.View.{operands_of};
+ghost use Rattle.frames.specs.Matches.{in_match, matching_of};
+ghost use Rattle.match_machine.specs.Held.{IsQuestion};
+ghost use Rattle.match_machine.specs.View.{event_is, answer_of};
+ghost use Rattle.model.specs.Pattern.{Running};
+ghost use Rattle.model.specs.Steps.{Starting, Over, Lost, event_of, with_more};
+ghost use Rattle.model.specs.Machine as m;
+ghost use Rattle.model.specs.Machine.{Module, Frame, MW, found_as, on_event, steps};
+
+use crate::operand::Operand;
+use crate::stack::Stack;
+use match_machine::{Answer, Event, Matcher};
+use pattern_compiler::PatCode;
+use std::alloc::{AllocError, Global};
+use std::marker::Model;
+use strings::Text;
+use world::Span;
+
+/// A match under way, which the operands and the handlers of its statement wait for where they are.
+#[derive(Drop)]
+pub struct Matching {
+    matcher: Matcher,
+    /// Where a match that succeeds goes on.
+    place: u32,
+    /// The subject, if the match leaves what it matched for a replacement.
+    replaced: Option<Text>,
+}
+
+impl Model for Matching {
+    ghost use Rattle.std.specs.Prelude.{is_some};
+    ghost use Rattle.frames.specs.Matches.{Match, IfGiven};
+    ghost use Rattle.std.specs.Prelude.{◌≡◌};
+
+    ghost Value = { Match };
+
+    ghost view = { λ g. record { search = g.matcher; place = g.place; keep = is_some g.replaced } };
+
+    ghost invariant = { λ g. IfGiven g.replaced (λ subject. subject ≡ g.matcher.subject) };
+}
+
+impl Matching {
+    /// A match before its first step. `place` is where it goes on if it succeeds, and `keep` whether it then leaves what
+    /// it matched.
+    pub fn start(
+        alloc: Global,
+        code: PatCode,
+        subject: Text,
+        anchored: bool,
+        place: u32,
+        keep: bool,
+    ) -> Result<Matching, AllocError>
+        ensures { IfOk result (λ g. g ≡ record {
+          search = record { subject = subject; code = code; state = Starting 0 (if anchored then 0 else length subject) []; refused = false };
+          place = place;
+          keep = keep;
+        }) }
+    {
+        let replaced = if keep { Some(subject.clone()?) } else { None };
+        Ok(Matching {
+            matcher: Matcher::start(alloc, code, subject, anchored),
+            place,
+            replaced,
+        })
+    }
+
+    /// Where it goes on if it succeeds.
+    pub fn place(&self) -> u32
+        ensures { result ≡ self.now.place }
+    {
+        self.place
+    }
+
+    /// At least one step and at most so many, and fewer only up to an event; the event, and how many steps. The machine
+    /// makes as many, and goes on from the last by that event.
+    pub fn advance(&mut self, bound: u64) -> Result<(Event, u64), AllocError>
+        requires running { event_of self.old.search.state ≡ Running }
+        requires bound { 0 < bound }
+        ensures event { IfOk result (λ (e, n). event_is e ≡ event_of self.new.search.state) }
+        ensures count { IfOk result (λ (e, n). (0 < n) × (n ≤ bound)) }
+        ensures fewer { IfOk result (λ (e, n). n < bound → event_is e ≢ Running) }
+        ensures steps { IfOk result (λ (e, n). (img : Module) (ops : List m.Operand) (hs : List m.Handler) (fs : List Frame) (w : MW) →
+            steps img n (in_match self.old ops hs fs w) ≡ on_event img (event_is e) (matching_of self.old ops hs) self.new.search.state fs w) }
+        ensures same { OnOk result (self.new ≡ record self.old { search = record self.old.search { state = self.new.search.state } }) }
+        ensures refused { IfErr result (λ _. self.new ≡ record self.old { search = record self.old.search { state = Over Lost; refused = true } }) }
+        ensures stays { self.old.search.refused ≡ true → IsErr result }
+    {
+        let (event, count) = self.matcher.advance(bound)?;
+        Ok((event, count))
+    }
+
+    /// The answer to the question that was the last event, with which the match goes on. Takes no memory.
+    pub fn supply(&mut self, answer: Answer)
+        requires { IsQuestion (event_of self.old.search.state) }
+        ensures state { self.new ≡ record self.old { search = record self.old.search { state = with_more (answer_of answer ∷ []) self.old.search.state } } }
+        ensures running { event_of self.new.search.state ≡ Running }
+    {
+        self.matcher.supply(answer)
+    }
+
+    /// The match succeeded between two places: leaves what it matched, if it has to.
+    pub fn found(
+        self,
+        operands: &mut Stack<Operand>,
+        start: usize,
+        end: usize,
+    ) -> Result<(), AllocError>
+        ensures ok { OnOk result (operands_of operands.new ≡ found_as self.keep self.search.subject start end (operands_of operands.old)) }
+        ensures err { OnErr result (operands.new ≡ operands.old) }
+    {
+        let Matching { replaced, .. } = self;
+        match replaced {
+            Some(subject) => operands.push(Operand::Span(Span {
+                subject,
+                start,
+                end,
+            })),
+            None => Ok(()),
+        }
+    }
+}

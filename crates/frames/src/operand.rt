@@ -1,0 +1,90 @@
+//! The operands of instructions.
+
+ghost use Rattle.std.specs.Prelude.{◌≡◌, [], ◌∷◌, ◌++◌, List, map, reverse, replicate, length, drop, OnOk, OnErr};
+ghost use Rattle.frames.specs.View.{operands_of};
+ghost use Rattle.frames.specs.Kinds.{TopIs, AreOnTop};
+ghost use Rattle.frames.specs.declared.operand.Operand.TheVariants as operand;
+ghost use Rattle.model.specs.Flow.{V, N, R};
+ghost use Rattle.model.specs.Machine as m;
+ghost use Rattle.model.specs.Machine.{MVal, MW, State, pop_many};
+ghost use Rattle.world.specs.Values.{value_of};
+
+use crate::stack::Stack;
+use pattern_compiler::Name;
+use std::alloc::AllocError;
+use world::{Span, Value};
+
+/// An operand of an instruction.
+#[derive(Drop)]
+pub enum Operand {
+    Value(Value),
+    Name(Name),
+    /// What a replacement replaces: the subject, and where the match in it began and ended.
+    Span(Span),
+}
+
+/// Takes off the newest operand, a value.
+pub fn pop_value(operands: &mut Stack<Operand>) -> Value
+    requires { TopIs V operands.old }
+    ensures { operands.old ≡ operand.Value result ∷ operands.new }
+{
+    match operands.pop() {
+        Operand::Value(value) => value,
+        _ => unreachable!(),
+    }
+}
+
+/// Takes off the newest operand, a name.
+pub fn pop_name(operands: &mut Stack<Operand>) -> Name
+    requires { TopIs N operands.old }
+    ensures { operands.old ≡ operand.Name result ∷ operands.new }
+{
+    match operands.pop() {
+        Operand::Name(name) => name,
+        _ => unreachable!(),
+    }
+}
+
+/// Takes off the newest operand, what a replacement replaces.
+pub fn pop_span(operands: &mut Stack<Operand>) -> Span
+    requires { TopIs R operands.old }
+    ensures { operands.old ≡ operand.Span result ∷ operands.new }
+{
+    match operands.pop() {
+        Operand::Span(span) => span,
+        _ => unreachable!(),
+    }
+}
+
+/// The newest operand, a name, which stays.
+pub fn top_name(operands: &Stack<Operand>) -> &Name
+    requires { TopIs N operands.now }
+    ensures { operands.now ≡ operand.Name result.now ∷ drop 1 operands.now }
+{
+    match operands.top() {
+        Operand::Name(name) => name,
+        _ => unreachable!(),
+    }
+}
+
+/// Takes off values into the vector, in the order in which they were put on. What was in it is dropped.
+pub fn pop_values(
+    operands: &mut Stack<Operand>,
+    count: usize,
+    values: &mut Vec<Value>,
+) -> Result<(), AllocError>
+    requires { AreOnTop (replicate count V) operands.old }
+    ensures count { OnOk result (length values.new.items ≡ count) }
+    ensures operands { OnOk result (operands.old ≡ map operand.Value (reverse values.new.items) ++ operands.new) }
+    ensures err { OnErr result ((operands.new ≡ operands.old) × (values.new.items ≡ [])) }
+    ensures pops { OnOk result ((w : MW) (k : List MVal → List m.Operand → State) →
+        pop_many count (operands_of operands.old) [] w k ≡ k (map value_of values.new.items) (operands_of operands.new)) }
+{
+    values.clear();
+    values.reserve(count)?;
+    for _turn in 0..count {
+        values.push(pop_value(operands))?;
+    }
+    values.reverse();
+    Ok(())
+}
