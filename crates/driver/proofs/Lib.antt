@@ -1,7 +1,3 @@
-pub mod Placing
-pub mod TextPlaces
-pub mod Flowing
-pub mod Parts
-pub mod Fitting
-pub mod Printing
+pub mod RunsToday
 pub mod WholeDecks
+pub mod WholeRuns

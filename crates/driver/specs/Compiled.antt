@@ -11,10 +11,11 @@ use Rattle.model.specs.Faults.{verdict, CardRefused, Refused, Accepted}
 use Rattle.model.specs.Spelling.{IsImage, spelling}
 use Rattle.model.specs.Trees.{Stmt}
 use Rattle.model.specs.WellFormed.{IsWellFormed}
+use Rattle.codegen.specs.Layout.{image_of}
+use Rattle.loader.specs.Loaded.{IsLoaded}
 use Rattle.driver.specs.declared.refusal.Refusal.{Refusal}
 use Rattle.driver.specs.declared.refusal.Refusal.TheVariants as refusal
-use Rattle.driver.specs.Fragment.{literals_of, not_yet}
-use Rattle.driver.specs.Generated.{image_of}
+use Rattle.driver.specs.Fragment.{not_yet}
 
 -- ---- decks that are accepted
 
@@ -23,16 +24,18 @@ pub record IsAccepted (deck : List ℕ) (ss : List Stmt) : Type 0 where
   pub faultless : verdict deck ≡ Accepted ss
   pub runs : not_yet 1 ss ≡ []
 
--- the bytes are the module of the deck: they spell a well-formed image that does what the deck's statements mean
+-- the bytes are the module of the deck: they spell its image, which is well-formed, does what the deck's statements mean,
+-- and has no instruction that the machine doesn't run yet
 pub record IsModuleOf (deck bytes : List ℕ) : Type 0 where
   pub statements : List Stmt
   pub trees : verdict deck ≡ Accepted statements
   pub image : Image
-  pub generated : image ≡ image_of (literals_of statements)
+  pub generated : image ≡ image_of statements
   pub has_spelling : IsImage image
   pub spelt : bytes ≡ spelling image
   pub sound : IsWellFormed image
   pub agrees : Agrees statements image
+  pub loads : IsLoaded image
 
 -- ---- decks that are refused
 

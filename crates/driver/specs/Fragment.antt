@@ -1,44 +1,30 @@
 -- The part of the language that runs today: statements that print a literal, and END.
-use Rattle.std.specs.Prelude.{◌≡◌, ◌≢◌, ℕ, suc, ◌+◌, List, [], ◌∷◌, Option, None, Some, Bool, true, false, is_some, bytes_eq, if◌then◌else◌}
+use Rattle.std.specs.Prelude.{ℕ, ◌+◌, List, [], ◌∷◌, Option, None, Some, Bool, true, false, ◌&&◌, bytes_eq, codes, if◌then◌else◌}
 use Rattle.model.specs.declared.causes.StmtFault.{StmtFault}
 use Rattle.model.specs.declared.causes.Cause.TheVariants as cause
-use Rattle.model.specs.Trees.{Bytes, Expr, Name, Literal, Goto, Next, Body, Assign, Stmt, Plain, End}
-use Rattle.driver.specs.Generated.{output}
+use Rattle.model.specs.Trees.{Expr, Name, Literal, Goto, Next, Body, Assign, Stmt, Plain, End}
 
 abbrev pub is_output : Expr → Bool
-is_output (Name x) = bytes_eq x output
+is_output (Name x) = bytes_eq x (codes "OUTPUT")
 is_output _ = false
 
-abbrev pub literal_in : Option Expr → Option Bytes
-literal_in (Some (Literal l)) = Some l
-literal_in _ = None
+abbrev pub is_literal : Option Expr → Bool
+is_literal (Some (Literal l)) = true
+is_literal _ = false
 
-abbrev pub printed_by : Body → Option Bytes
-printed_by (Assign x o) = if is_output x then literal_in o else None
-printed_by _ = None
+abbrev pub prints_literal : Body → Bool
+prints_literal (Assign x o) = is_output x && is_literal o
+prints_literal _ = false
 
-abbrev pub if_next : Goto → Option Bytes → Option Bytes
-if_next Next l = l
-if_next _ l = None
-
--- the literal that a statement prints
-abbrev pub literal_of : Stmt → Option Bytes
-literal_of (Plain None b g) = if_next g (printed_by b)
-literal_of _ = None
-
-abbrev pub before : Option Bytes → List Bytes → List Bytes
-before None ls = ls
-before (Some l) ls = l ∷ ls
-
--- the literals that statements print
-abbrev pub literals_of : List Stmt → List Bytes
-literals_of [] = []
-literals_of (s ∷ ss) = before (literal_of s) (literals_of ss)
+abbrev pub is_next : Goto → Bool
+is_next Next = true
+is_next _ = false
 
 -- whether a statement runs today: it prints a literal, or is END without an entry
 abbrev pub runs_today : Stmt → Bool
+runs_today (Plain None b g) = prints_literal b && is_next g
 runs_today (End None) = true
-runs_today s = is_some (literal_of s)
+runs_today _ = false
 
 abbrev pub fault_unless : Bool → ℕ → List StmtFault → List StmtFault
 fault_unless b n faults = if b then faults else record { number = n; cause = cause.NotYet } ∷ faults

@@ -1,4 +1,3 @@
-pub mod Generated
 pub mod Fragment
-pub mod PrintedLaws
 pub mod Compiled
+pub mod Whole

@@ -1,21 +1,19 @@
 //! From a deck to a module.
 
-ghost use Rattle.std.specs.Prelude.{◌≡◌, ◌<◌, ◌^◌, List, ℕ, map, length, IfOk, IfErr, OnOk};
+ghost use Rattle.std.specs.Prelude.{◌≡◌, List, IfOk, IfErr, OnOk};
 ghost use Rattle.model.specs.Faults.{verdict, Accepted};
 ghost use Rattle.model.specs.Trees as tree;
-ghost use Rattle.model.specs.TreeViews.{program_of, stmt_of};
+ghost use Rattle.model.specs.TreeViews.{program_of};
 ghost use Rattle.driver.specs.Compiled.{IsAccepted, IsModuleOf, IsRefusalOf, OfCards, OfStatements};
-ghost use Rattle.driver.specs.Fragment.{literals_of};
-ghost use Rattle.driver.specs.Generated.{image_of};
 
-use crate::fragment::{literals, not_yet};
-use crate::generating::generate;
+use crate::fragment::not_yet;
 use crate::refusal::Refusal;
 use card_reader::read_deck;
-use model::{CardFault, CardRule, DeckFault, Image, Program, Stmt};
+use codegen::generate;
+use model::{CardFault, CardRule, DeckFault, Program};
 use module_format::write_image;
 use parser::parse_deck;
-use std::alloc::{AllocError, Global};
+use std::alloc::Global;
 
 impl From<CardFault> for Refusal {
     ghost from_gives = { OfCards };
@@ -49,15 +47,6 @@ fn read_program(alloc: Global, deck: &[u8]) -> Result<Program, Refusal>
     Ok(program)
 }
 
-// The image of statements that all run today.
-fn image(alloc: Global, statements: &[Stmt]) -> Result<Image, AllocError>
-    requires { length statements.now < 2 ^ 24 }
-    ensures { IfOk result (λ image. image ≡ image_of (literals_of (map stmt_of statements.now))) }
-{
-    let literals = literals(alloc, statements)?;
-    generate(alloc, &literals)
-}
-
 /// The module of a deck, or why the deck is refused.
 pub fn compile_deck(alloc: Global, deck: &[u8]) -> Result<Vec<u8>, Refusal>
     // A deck that is accepted has no fault, and each of its statements runs today.
@@ -68,12 +57,11 @@ pub fn compile_deck(alloc: Global, deck: &[u8]) -> Result<Vec<u8>, Refusal>
     ensures refused { IfErr result (IsRefusalOf deck.now) }
 {
     let program = read_program(alloc, deck)?;
-    let statements = program.statements.as_slice();
-    let faults = not_yet(alloc, statements)?;
+    let faults = not_yet(alloc, program.statements.as_slice())?;
     if !faults.as_slice().is_empty() {
         return Err(Refusal::Statements(faults));
     }
-    let image = image(alloc, statements)?;
+    let image = generate(alloc, &program)?;
     let module = write_image(alloc, &image)?;
     Ok(module)
 }

@@ -3,19 +3,16 @@
 
 mod compiling;
 mod fragment;
-mod generating;
-mod laws;
 mod refusal;
 mod running;
-mod string_table;
 mod telling;
+mod whole;
 mod words;
 
 pub use compiling::compile_deck;
-pub use fragment::{literals, not_yet};
-pub use generating::generate;
-pub use laws::{all_print, printed_literals};
+pub use fragment::not_yet;
 pub use refusal::Refusal;
 pub use running::run_module;
 pub use telling::{Told, WriteFault, report};
+pub use whole::run_deck;
 pub use words::{Job, read_words};

@@ -1,7 +1,7 @@
 //! The program `sno`: compiles decks and runs modules.
 #![tactic(auto)]
 
-use driver::{Job, Told, compile_deck, read_words, report, run_module};
+use driver::{Job, Told, compile_deck, read_words, report, run_deck, run_module};
 use model::{Status, Stop, UnitFault};
 use std::alloc::AllocError;
 use std::io::{ErrorKind, Read};
@@ -61,8 +61,11 @@ fn compile_and_run(rt: &HostRuntime, steps: u64) -> Told<'static> {
         Ok(deck) => deck,
         Err(told) => return told,
     };
-    match compile_deck(rt.alloc(), &deck) {
-        Ok(module) => run(rt, &module, steps),
+    let Ok(mut units) = FileUnits::new(rt.alloc(), rt) else {
+        return Told::NoMemory;
+    };
+    match run_deck(rt.alloc(), &deck, &mut units, steps) {
+        Ok(status) => Told::Ran(flushed(status, units.flush())),
         Err(refusal) => Told::Refused(refusal),
     }
 }
