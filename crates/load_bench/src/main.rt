@@ -68,24 +68,27 @@ fn module_bytes(alloc: Global, count: u32) -> Result<Vec<u8>, AllocError> {
     Ok(bytes)
 }
 
+/// Loads a module, and gives the offset at which its run starts.
+fn load_start(alloc: Global, bytes: &[u8]) -> Result<u32, LoadFault> {
+    Ok(load(alloc, bytes)?.start())
+}
+
 fn main(rt: HostRuntime) -> Result<(), BenchError> {
     let alloc = rt.alloc();
     if env::args(&rt)?.nth(1).is_none() {
         let bytes = module_bytes(alloc, 10)?;
-        let program = load(alloc, bytes.as_slice())?;
+        let start = load_start(alloc, &bytes)?;
         let size = bytes.len();
-        let start = program.start();
         println!(rt; "{size} bytes, from offset {start}")?;
         return Ok(());
     }
     for count in [50_000, 800_000] {
         let bytes = module_bytes(alloc, count)?;
         let begun = Instant::now(&rt)?;
-        let program = load(alloc, bytes.as_slice())?;
+        let start = load_start(alloc, &bytes)?;
         let micros = begun.elapsed(&rt)?.as_micros();
         let size = bytes.len();
         let rate = (size as u128) / micros.max(1);
-        let start = program.start();
         println!(rt; "{size} bytes, from offset {start}: {rate} MB a second")?;
     }
     Ok(())

@@ -1,6 +1,6 @@
 //! Decks compiled, loaded and run on units in memory.
 
-use driver::{compile_deck, run_module};
+use driver::{compile_deck, run_deck, run_module};
 use model::{Ending, Status, Stop, UnitFault};
 use std::alloc::Global;
 use std::test::Fail;
@@ -42,6 +42,37 @@ fn prints_in_its_fourth_step(rt: HostRuntime) -> Result<(), Fail> {
     assert!(rt; prints(alloc, &HELLO, 4, Status::Running, b"HI\n"));
     assert!(rt; prints(alloc, &HELLO, 5, Status::Running, b"HI\n"));
     assert!(rt; prints(alloc, &HELLO, 6, Status::Ended(Ending::Normal), b"HI\n"));
+    Ok(())
+}
+
+/// Whether two modules of the deck have the same bytes.
+fn compiles_alike(alloc: Global, deck: &[u8]) -> bool {
+    match (compile_deck(alloc, deck), compile_deck(alloc, deck)) {
+        (Ok(first), Ok(second)) => first.as_slice() == second.as_slice(),
+        _ => false,
+    }
+}
+
+#[test]
+fn a_deck_has_one_module(rt: HostRuntime) -> Result<(), Fail> {
+    assert!(rt; compiles_alike(rt.alloc(), &HELLO));
+    Ok(())
+}
+
+/// Whether the deck, run in one call, ends normally.
+fn ends(alloc: Global, deck: &[u8], units: &mut MemUnits) -> bool {
+    matches!(
+        run_deck(alloc, deck, units, 1000),
+        Ok(Status::Ended(Ending::Normal))
+    )
+}
+
+#[test]
+fn a_deck_runs_in_one_call(rt: HostRuntime) -> Result<(), Fail> {
+    let mut units = MemUnits::new(rt.alloc());
+    units.open_output(6)?;
+    assert!(rt; ends(rt.alloc(), &HELLO, &mut units));
+    assert!(rt; units.bytes(6) == Some(b"HI\n".as_slice()));
     Ok(())
 }
 
