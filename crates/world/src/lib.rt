@@ -3,6 +3,7 @@
 
 mod arithmetic;
 mod conversions;
+mod counts;
 mod fault;
 mod operators;
 mod unit_calls;

@@ -1,0 +1,69 @@
+//! Keywords in which a run counts its statements.
+
+ghost use Rattle.std.specs.Prelude.{◌≡◌, IsTrue};
+ghost use Rattle.model.specs.Io.{Io};
+ghost use Rattle.model.specs.Keywords.{IsInteger, Keys, key_value};
+ghost use Rattle.model.specs.Keywords as keys;
+ghost use Rattle.model.specs.Meaning.{over_limit};
+ghost use Rattle.model.specs.Values as values;
+ghost use Rattle.model.specs.Values.{enter_stmt};
+ghost use Rattle.world.specs.Counts.{is_counted};
+ghost use Rattle.world.specs.Held.{world_of};
+
+use crate::world::World;
+use keywords::{KeyValue, Keywords};
+use model::KeyId;
+
+// What a keyword holds that counts or limits statements.
+fn integer(keywords: &Keywords, id: KeyId) -> i64
+    requires { IsTrue (is_counted id) }
+    ensures { IsInteger result ≡ key_value id keywords.now }
+{
+    match keywords.get(id) {
+        KeyValue::Integer(n) => n,
+        KeyValue::Text(_) => unreachable!(),
+    }
+}
+
+// One more, but never past the greatest integer.
+fn counted(n: i64) -> i64
+    ensures { result ≡ keys.counted n }
+{
+    if n < i64::MAX { n + 1 } else { n }
+}
+
+impl World {
+    /// The number of the statement that began last.
+    pub fn statement(&self) -> i64
+        ensures { self.now.keys.stno ≡ result }
+    {
+        integer(&self.keywords, KeyId::StNo)
+    }
+
+    /// Whether `&STLIMIT` statements were begun.
+    pub fn is_over_limit(&self) -> bool
+        ensures { (io : Io) → result ≡ over_limit (world_of self.now io) }
+    {
+        let limit = integer(&self.keywords, KeyId::StLimit);
+        limit >= 0 && limit <= integer(&self.keywords, KeyId::StCount)
+    }
+
+    /// The statement of this number begins.
+    pub fn enter_statement(&mut self, number: u32)
+        ensures { (io : Io) → world_of self.new io ≡ enter_stmt number (world_of self.old io) }
+    {
+        let count = counted(integer(&self.keywords, KeyId::StCount));
+        let last = integer(&self.keywords, KeyId::StNo);
+        self.keywords.put(KeyId::StCount, count);
+        self.keywords.put(KeyId::LastNo, last);
+        self.keywords.put(KeyId::StNo, i64::from(number));
+    }
+
+    /// A statement failed.
+    pub fn count_failure(&mut self)
+        ensures { (io : Io) → world_of self.new io ≡ values.count_failure (world_of self.old io) }
+    {
+        let count = counted(integer(&self.keywords, KeyId::StFCount));
+        self.keywords.put(KeyId::StFCount, count);
+    }
+}
