@@ -7,7 +7,8 @@ ghost use Rattle.model.specs.Reading.{image_of};
 ghost use Rattle.model.specs.Told.{IfTold};
 ghost use Rattle.loader.specs.Answers.{IsAnswer};
 ghost use Rattle.loader.specs.Loaded.{IsLoaded};
-ghost use Rattle.statement_machine.specs.Stopped.{IfRan, IfStopped, IsStop, ending_of};
+ghost use Rattle.statement_machine.specs.Answers.{IsStop};
+ghost use Rattle.statement_machine.specs.Stopped.{IfRan, IfStopped, ending_of};
 
 use loader::load;
 use model::{LoadFault, Status};

@@ -1,4 +1,4 @@
-pub mod Assigning
+pub mod Beginning
 pub mod Flowing
 pub mod Running
 pub mod Seeing

@@ -1,5 +1,4 @@
 pub mod Runnable
-pub mod Kinds
-pub mod Printed
 pub mod Held
 pub mod Stopped
+pub use Rattle.world.specs.Answers

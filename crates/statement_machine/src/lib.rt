@@ -1,9 +1,8 @@
 //! The machine: a run of a module, step by step.
 #![tactic(auto)]
 
+mod instructions;
 mod machine;
-mod operands;
-mod stack;
 mod state;
 mod status;
 

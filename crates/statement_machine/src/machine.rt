@@ -8,7 +8,8 @@ ghost use Rattle.model.specs.Machine as m;
 ghost use Rattle.model.specs.Machine.{begun, steps};
 ghost use Rattle.model.specs.Modules.{module_of};
 ghost use Rattle.statement_machine.specs.Held.{Holds};
-ghost use Rattle.statement_machine.specs.Stopped.{IfRan, IfStopped, IsStop, ending_of, status_at};
+ghost use Rattle.statement_machine.specs.Stopped.{IfRan, IfStopped, ending_of, status_at};
+ghost use Rattle.world.specs.Answers.{IsStop};
 ghost use Rattle.statement_machine.specs.declared.status.Halt.{Halt as RustHalt};
 
 use crate::state::State;
@@ -45,12 +46,9 @@ impl<'m> Machine<'m> {
         ensures begun { IfOk result (λ machine. (io : Io) → io.printed ≡ [] → Holds machine io (begun (module_of program.now) (first_m io.left))) }
     {
         let at = program.start();
-        let Ok(state) = State::new(alloc, at) else {
-            return Err(AllocError);
-        };
         Ok(Machine {
             program,
-            state,
+            state: State::new(alloc, at)?,
             halt: None,
         })
     }

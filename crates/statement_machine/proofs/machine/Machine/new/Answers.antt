@@ -1,5 +1,4 @@
 use Rattle.std.proofs.Common.{refl, inl}
-use Rattle.model.specs.Agreement.{first_m}
 use Rattle.model.specs.Flow.{InGoto}
 use Rattle.statement_machine.proofs.Flowing.{statement_stands}
 use Rattle.statement_machine.proofs.Running.{begun_is}
@@ -8,11 +7,11 @@ use Rattle.statement_machine.proofs.machine.Machine.new.Goals as goal
 pub invariant_of-result : goal.invariant_of-result
 invariant_of-result c =
     let im = c.args.program.now in
-    let e = c.in-Ok.ensures in
-    rw (e.0, e.1, e.2) (InGoto, (0, inl (statement_stands im.statements im.entry c.start-at.result c.start-at.ensures.offset, refl)))
+    let e = c.in_ok-new.ensures.place in
+    rw (e.0, e.1, e.2) (InGoto, (0, inl (statement_stands im.statements im.entry c.start-at.result c.start-at.ensures.offset, refl)), tt)
 
 pub returns-clause-begun : goal.returns-clause-begun
 returns-clause-begun c = λ io p.
     let im = c.args.program.now in
-    let e = c.in-Ok.ensures in
-    ((first_m io.left).vars, begun_is im c.start-at.result c.in-Ok.state io c.start-at.ensures.offset e.0 e.1 e.2 e.3 p)
+    let e = c.in_ok-new.ensures.place in
+    begun_is im c.start-at.result c.in_ok-new.field-0 io c.start-at.ensures.offset e.0 e.1 e.2 (c.in_ok-new.ensures.world io p)
