@@ -1,5 +1,6 @@
 pub mod Beginning
 pub mod Flowing
+pub mod Keys
 pub mod Running
 pub mod Seeing
 pub mod Stopping

@@ -27,8 +27,8 @@ use unit_io::Units;
 use world::{Fault, Value};
 
 impl State {
-    // What a fault comes to.
-    fn halted(&self, fault: Fault) -> Halt
+    /// What a fault comes to.
+    pub(crate) fn halted(&self, fault: Fault) -> Halt
         ensures { result ≡ halt_of self.now.world.keys.stno fault }
     {
         match fault {
@@ -40,8 +40,8 @@ impl State {
         }
     }
 
-    // Puts on a value and goes on.
-    fn put(&mut self, value: Value, next: u32) -> Result<(), Halt>
+    /// Puts on a value and goes on.
+    pub(crate) fn put(&mut self, value: Value, next: u32) -> Result<(), Halt>
         ensures left { (io : Io) → Left result self.new io (Run next (OV (value_of value) ∷ operands_of self.old.operands) (handlers_of self.old.handlers) [] (world_of self.old.world io)) }
         ensures stop { IfHalted result (λ stop. stop ≡ NoMemory) }
     {
@@ -50,8 +50,8 @@ impl State {
         Ok(())
     }
 
-    // Puts on a name and goes on.
-    fn put_name(&mut self, name: Name, next: u32) -> Result<(), Halt>
+    /// Puts on a name and goes on.
+    pub(crate) fn put_name(&mut self, name: Name, next: u32) -> Result<(), Halt>
         ensures left { (io : Io) → Left result self.new io (Run next (ON (name_of name) ∷ operands_of self.old.operands) (handlers_of self.old.handlers) [] (world_of self.old.world io)) }
         ensures stop { IfHalted result (λ stop. stop ≡ NoMemory) }
     {

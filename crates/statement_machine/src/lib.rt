@@ -1,8 +1,10 @@
 //! The machine: a run of a module, step by step.
 #![tactic(auto)]
 
+mod gotos;
 mod instructions;
 mod machine;
+mod operators;
 mod state;
 mod status;
 
