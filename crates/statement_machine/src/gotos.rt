@@ -4,7 +4,7 @@ ghost use Rattle.std.specs.Prelude.{◌≡◌, ◌≢◌, ℕ, [], Ok, Err, None
 ghost use Rattle.model.specs.Io.{Io};
 ghost use Rattle.model.specs.Modules.{statement_at};
 ghost use Rattle.model.specs.declared.image.Image.{Image};
-ghost use Rattle.model.specs.declared.instr.ReturnKind.{ReturnKind as Kind};
+ghost use Rattle.model.specs.declared.instr.ReturnKind.{ReturnKind};
 ghost use Rattle.statement_machine.specs.Held.{Left, after};
 
 use crate::state::State;
@@ -36,7 +36,7 @@ impl State {
 
     /// A return at level zero.
     pub(crate) fn no_return(&self) -> Halt
-        ensures { (im : Image) (kind : Kind) (next : ℕ) (io : Io) → Left (Err result) self.now io (after im (Instr.Return kind) next self.now io) }
+        ensures { (im : Image) (kind : ReturnKind) (next : ℕ) (io : Io) → Left (Err result) self.now io (after im (Instr.Return kind) next self.now io) }
     {
         self.halted(Fault::Error(ErrorCode::ReturnAtLevelZero))
     }
