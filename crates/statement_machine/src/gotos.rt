@@ -5,6 +5,8 @@ ghost use Rattle.model.specs.Io.{Io};
 ghost use Rattle.model.specs.Modules.{statement_at};
 ghost use Rattle.model.specs.declared.image.Image.{Image};
 ghost use Rattle.model.specs.declared.instr.ReturnKind.{ReturnKind};
+ghost use Rattle.model.specs.declared.run.Stop.TheVariants.{NoMemory};
+ghost use Rattle.statement_machine.specs.Stopped.{IfHalted};
 ghost use Rattle.statement_machine.specs.Held.{Left, after};
 
 use crate::state::State;
@@ -29,14 +31,16 @@ impl State {
 
     /// A label that isn't defined.
     pub(crate) fn no_label(&self) -> Halt
-        ensures { (im : Image) (next : ℕ) (io : Io) → Left (Err result) self.now io (after im Instr.NoLabel next self.now io) }
+        ensures left { (im : Image) (next : ℕ) (io : Io) → Left (Err result) self.now io (after im Instr.NoLabel next self.now io) }
+        ensures stop { IfHalted (Err result) (λ stop. stop ≡ NoMemory) }
     {
         self.halted(Fault::Error(ErrorCode::UndefinedLabel))
     }
 
     /// A return at level zero.
     pub(crate) fn no_return(&self) -> Halt
-        ensures { (im : Image) (kind : ReturnKind) (next : ℕ) (io : Io) → Left (Err result) self.now io (after im (Instr.Return kind) next self.now io) }
+        ensures left { (im : Image) (kind : ReturnKind) (next : ℕ) (io : Io) → Left (Err result) self.now io (after im (Instr.Return kind) next self.now io) }
+        ensures stop { IfHalted (Err result) (λ stop. stop ≡ NoMemory) }
     {
         self.halted(Fault::Error(ErrorCode::ReturnAtLevelZero))
     }
