@@ -1,0 +1,41 @@
+-- What each step of the machine keeps of the numbers of unevaluated expressions.
+use Rattle.std.specs.Prelude.{◌≡◌, ◌<◌, ℕ, List, [], ◌∷◌, length}
+use Rattle.model.specs.declared.image.Image.{Image}
+use Rattle.model.specs.Trees.{Bytes}
+use Rattle.model.specs.Pattern.{Answer, Want, Asks, AskFor}
+use Rattle.model.specs.Values.{first_world}
+use Rattle.model.specs.Steps as s
+use Rattle.model.specs.Machine.{PCode, MW, codes_of, Module, Matching, Frame, State, InMatch, begun, step, steps}
+use Rattle.machine_laws.specs.InRange.{CodeIn, AnswerIn, SearchIn, WorldIn, MatchingIn, StateIn, ModuleIn}
+
+-- ---- the search of a match
+
+-- so many steps
+abbrev pub SearchesStayIn : Type 0
+SearchesStayIn = (n : ℕ) (subject : List ℕ) (code : PCode) (m : ℕ) (st : s.State) → CodeIn n code → SearchIn n st → SearchIn n (s.steps subject code m st)
+
+-- a further answer
+abbrev pub SuppliedStayIn : Type 0
+SuppliedStayIn = (n : ℕ) (y : Answer PCode) (st : s.State) → AnswerIn n y → SearchIn n st → SearchIn n (s.with_more (y ∷ []) st)
+
+-- the expression whose value is asked for
+abbrev pub AskedAreIn : Type 0
+AskedAreIn = (n : ℕ) (st : s.State) → SearchIn n st → (k : ℕ) (want : Want) → s.event_of st ≡ Asks (AskFor k want) → k < n
+
+-- ---- the machine
+
+-- the world as a run begins
+abbrev pub FirstWorldsAreIn : Type 0
+FirstWorldsAreIn = (n : ℕ) (records : ℕ → List Bytes) → WorldIn n (first_world codes_of records)
+
+-- the machine at the entry statement
+abbrev pub BegunAreIn : Type 0
+BegunAreIn = (n : ℕ) (im : Module) (w : MW) → WorldIn n w → StateIn n (begun im w)
+
+-- so many steps
+abbrev pub StepsStayIn : Type 0
+StepsStayIn = (n : ℕ) (im : Module) → ModuleIn n im → (m : ℕ) (st : State) → StateIn n st → StateIn n (steps im m st)
+
+-- the expression whose value the match asks for in its next step
+abbrev pub NextAskedAreIn : Type 0
+NextAskedAreIn = (n : ℕ) (g : Matching) (st : s.State) (fs : List Frame) (w : MW) → StateIn n (InMatch g st fs w) → (k : ℕ) (want : Want) → s.event_of (s.step g.subject g.code st) ≡ Asks (AskFor k want) → k < n
