@@ -1,2 +1,5 @@
 pub mod Lists
 pub mod OperationsIn
+pub mod PrimitivesIn
+pub mod SearchIn
+pub mod MachineIn

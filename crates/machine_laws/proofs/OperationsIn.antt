@@ -1,5 +1,5 @@
 -- Operations keep expressions in range: conversions, names, operators.
-use Rattle.std.proofs.Common.{ℕ, zero, suc, ◌+◌, List, [], ◌∷◌, ◌++◌, length, take, drop, slice_get, ℤ, pos, negsuc, Option, Some, None, Bool, bytes_eq, nat_eq, codes, if◌then◌else◌}
+use Rattle.std.proofs.Common.{ℕ, zero, suc, ◌+◌, List, [], ◌∷◌, ◌++◌, length, take, drop, slice_get, ℤ, pos, negsuc, Option, Some, None, Bool, bytes_eq, codes, if◌then◌else◌}
 use Rattle.std.specs.List.{AllByRecursion}
 use Rattle.std.specs.Fmt.{signed_decimal}
 use Rattle.model.specs.declared.run.ErrorCode.{ErrorCode}
@@ -12,11 +12,11 @@ use Rattle.model.specs.Keywords.{KeyValue, IsInteger, IsText, key_value, allows}
 use Rattle.model.specs.Pattern as p
 use Rattle.model.specs.Pattern.{Basic, Lit, Instr, Split, Jmp, Pending, Answer, Want, WantPattern, WantCount, WantBytes, Told, Text, Number, Kind, want_of, with_answer}
 use Rattle.model.specs.PatternCode.{basic_code, exit_past, exits_past, alt_code, cat_code, arbno_code, cond_code, imm_code}
-use Rattle.model.specs.Values.{Str, Int, Pat, Nam, Exp, Obj, Key, IntegerAt, StringAt, Entry, Object, ArrayOf, TableOf, RecordOf, set_var, set_objects, keys_of, first_value, first_world}
+use Rattle.model.specs.Values.{Str, Int, Pat, Nam, Exp, Obj, Key, IntegerAt, StringAt, Entry, Object, ArrayOf, TableOf, RecordOf, set_var, keys_of, first_value, first_world}
 use Rattle.model.specs.Conversions.{Conv, Got, Bad, Op, Gives, Refuses, Faults, conv, then_conv, then_op, to_text, to_integer, to_pattern, to_name, is_null, count_of, set_of, answer_of}
 use Rattle.model.specs.Operators.{arith_of, arith_op, sign_of, sign_op, limited, two_patterns, joined, join_rest, cat_op, alt_op, cond_op, imm_op, indir_op, take_record, fetch_var, same_key, element_of, value_for, entry_of, onto, with_item, with_entry, with_elements, with_element, with_value_for, there, fetch_op, print_text, write_var, put_objects, put_object, assign_op, assign_all, splice_op, key_as_value, keyget_op, keyset_op, kind_op, told_value, Begun, match_op}
 use Rattle.model.specs.Machine.{PCode, codes_of, MVal, MW}
-use Rattle.machine_laws.specs.InRange.{InstrIn, CodeIn, ValueIn, ValuesIn, EntryIn, EntriesIn, ObjectIn, ObjectsIn, WorldIn, AnswerIn}
+use Rattle.machine_laws.specs.InRange.{InstrIn, CodeIn, ValueIn, ValuesIn, EntriesIn, ObjectIn, ObjectsIn, WorldIn, AnswerIn}
 use Rattle.machine_laws.proofs.Lists.{IfThere, choice_in, item_in, join_in}
 
 -- nothing is asked of what holds no expression

@@ -1,12 +1,12 @@
 -- Unevaluated expressions whose numbers are all below n: in pattern code, values, worlds, matches and states of the machine.
-use Rattle.std.specs.Prelude.{◌≡◌, ◌<◌, ℕ, List, Option, Some}
+use Rattle.std.specs.Prelude.{◌≡◌, ◌<◌, ℕ, List, Some}
 use Rattle.std.specs.List.{AllByRecursion}
 use Rattle.model.specs.declared.instr.Instr.TheVariants as op
 use Rattle.model.specs.Trees.{Bytes}
 use Rattle.model.specs.Pattern as p
 use Rattle.model.specs.Pattern.{Eval, EvalBasic, Answer, IsPattern, Event, Asks, AskFor}
 use Rattle.model.specs.Values.{Pat, Exp, Entry, Object, ArrayOf, TableOf, RecordOf}
-use Rattle.model.specs.Calls.{Returned, AValue, AName, Saved, Kept}
+use Rattle.model.specs.Calls.{AValue, AName, Saved, Kept}
 use Rattle.model.specs.Primitives.{Outcome, Returns, Calls}
 use Rattle.model.specs.Steps as s
 use Rattle.model.specs.Steps.{Note, Opened, Left, Thread, Choice, Retry, Again, Quit, Waiting, ForPattern, ForArgument, ForSaid, Starting, Going, Returning, Waits}

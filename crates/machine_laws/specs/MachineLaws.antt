@@ -1,12 +1,11 @@
 -- What each step of the machine keeps of the numbers of unevaluated expressions.
-use Rattle.std.specs.Prelude.{◌≡◌, ◌<◌, ℕ, List, [], ◌∷◌, length}
-use Rattle.model.specs.declared.image.Image.{Image}
+use Rattle.std.specs.Prelude.{◌≡◌, ◌<◌, ℕ, List, [], ◌∷◌}
 use Rattle.model.specs.Trees.{Bytes}
 use Rattle.model.specs.Pattern.{Answer, Want, Asks, AskFor}
 use Rattle.model.specs.Values.{first_world}
 use Rattle.model.specs.Steps as s
-use Rattle.model.specs.Machine.{PCode, MW, codes_of, Module, Matching, Frame, State, InMatch, begun, step, steps}
-use Rattle.machine_laws.specs.InRange.{CodeIn, AnswerIn, SearchIn, WorldIn, MatchingIn, StateIn, ModuleIn}
+use Rattle.model.specs.Machine.{PCode, MW, codes_of, Module, Matching, Frame, State, InMatch, begun, steps}
+use Rattle.machine_laws.specs.InRange.{CodeIn, AnswerIn, SearchIn, WorldIn, StateIn, ModuleIn}
 
 -- ---- the search of a match
 
