@@ -3,3 +3,4 @@ pub mod OperationsIn
 pub mod PrimitivesIn
 pub mod SearchIn
 pub mod MachineIn
+pub mod ImagesIn

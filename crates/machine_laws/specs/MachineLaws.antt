@@ -1,10 +1,14 @@
 -- What each step of the machine keeps of the numbers of unevaluated expressions.
-use Rattle.std.specs.Prelude.{◌≡◌, ◌<◌, ℕ, List, [], ◌∷◌}
+use Rattle.std.specs.Prelude.{◌≡◌, ◌≢◌, ◌<◌, ℕ, List, [], ◌∷◌, length, Some}
+use Rattle.model.specs.declared.image.Image.{Image}
+use Rattle.model.specs.declared.instr.Instr.TheVariants as op
 use Rattle.model.specs.Trees.{Bytes}
 use Rattle.model.specs.Pattern.{Answer, Want, Asks, AskFor}
 use Rattle.model.specs.Values.{first_world}
 use Rattle.model.specs.Steps as s
-use Rattle.model.specs.Machine.{PCode, MW, codes_of, Module, Matching, Frame, State, InMatch, begun, steps}
+use Rattle.model.specs.Modules.{fetch_from, module_of}
+use Rattle.model.specs.WellFormed.{IsWellFormed}
+use Rattle.model.specs.Machine.{At, PCode, MW, codes_of, Module, Matching, Frame, State, InMatch, begun, steps}
 use Rattle.machine_laws.specs.InRange.{CodeIn, AnswerIn, SearchIn, WorldIn, StateIn, ModuleIn}
 
 -- ---- the search of a match
@@ -38,3 +42,23 @@ StepsStayIn = (n : ℕ) (im : Module) → ModuleIn n im → (m : ℕ) (st : Stat
 -- the expression whose value the match asks for in its next step
 abbrev pub NextAskedAreIn : Type 0
 NextAskedAreIn = (n : ℕ) (g : Matching) (st : s.State) (fs : List Frame) (w : MW) → StateIn n (InMatch g st fs w) → (k : ℕ) (want : Want) → s.event_of (s.step g.subject g.code st) ≡ Asks (AskFor k want) → k < n
+
+-- where no expression has a number, a match asks for none
+abbrev pub NoneAsked : Type 0
+NoneAsked = (g : Matching) (st : s.State) (fs : List Frame) (w : MW) → StateIn 0 (InMatch g st fs w) → (k : ℕ) (want : Want) → s.event_of (s.step g.subject g.code st) ≢ Asks (AskFor k want)
+
+-- ---- images
+
+-- an image whose EXPR instructions have numbers below n; its patterns ask for nothing
+abbrev pub ImagesAreIn : Type 0
+ImagesAreIn = (n : ℕ) (im : Image) → ((at next k : ℕ) → fetch_from 0 im.code at ≡ At (op.Expr k) next → k < n) → ModuleIn n (module_of im)
+
+-- a well-formed image, with as many as it has expressions
+abbrev pub WellFormedAreIn : Type 0
+WellFormedAreIn = (im : Image) → IsWellFormed im → ModuleIn (length im.expressions) (module_of im)
+
+-- what a match asks for is there
+abbrev pub AskedAreThere : Type 0
+AskedAreThere =
+    (im : Image) (g : Matching) (st : s.State) (fs : List Frame) (w : MW) → StateIn (length im.expressions) (InMatch g st fs w) → (k : ℕ) (want : Want)
+    → s.event_of (s.step g.subject g.code st) ≡ Asks (AskFor k want) → (at : ℕ) × ((module_of im).expr k ≡ Some at)

@@ -3,4 +3,4 @@
 
 mod laws;
 
-pub use laws::{expressions_stay_in_range, searches_stay_in_range};
+pub use laws::{asked_expressions_are_there, expressions_stay_in_range, searches_stay_in_range};

@@ -1,5 +1,6 @@
 use Rattle.machine_laws.proofs.OperationsIn.{first_in}
 use Rattle.machine_laws.proofs.MachineIn.{begun_in, steps_in, asks_in}
+use Rattle.machine_laws.proofs.ImagesIn.{none_asked}
 use Rattle.machine_laws.proofs.laws.expressions_stay_in_range.Goals as goal
 
 pub returns-clause-first : goal.returns-clause-first
@@ -13,3 +14,6 @@ returns-clause-steps c = steps_in
 
 pub returns-clause-asked : goal.returns-clause-asked
 returns-clause-asked c = asks_in
+
+pub returns-clause-none : goal.returns-clause-none
+returns-clause-none c = none_asked

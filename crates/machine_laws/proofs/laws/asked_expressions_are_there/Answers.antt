@@ -1,0 +1,11 @@
+use Rattle.machine_laws.proofs.ImagesIn.{image_in, well_formed_in, asked_there}
+use Rattle.machine_laws.proofs.laws.asked_expressions_are_there.Goals as goal
+
+pub returns-clause-images : goal.returns-clause-images
+returns-clause-images c = image_in
+
+pub returns-clause-well_formed : goal.returns-clause-well_formed
+returns-clause-well_formed c = well_formed_in
+
+pub returns-clause-there : goal.returns-clause-there
+returns-clause-there c = asked_there
