@@ -10,15 +10,17 @@ use Rattle.model.specs.declared.image.PatInstr.TheVariants as part
 use Rattle.model.specs.declared.instr.Instr.{Instr}
 use Rattle.model.specs.declared.instr.Instr.TheVariants as op
 use Rattle.model.specs.Trees.{Bytes}
+use Rattle.model.specs.Values.{first_world}
 use Rattle.model.specs.Pattern as p
 use Rattle.model.specs.Pattern.{Want, Asks, AskFor}
 use Rattle.model.specs.Steps as s
 use Rattle.model.specs.Modules.{bytes, total, fetch_from, with_text, pattern_instr, both_some, pattern_code, pattern_at, module_of}
 use Rattle.model.specs.WellFormed.{labels_at, statements_at, expressions_at, patterns_at, code_at, entry_at, pattern_bytes, entry_rule, label_rule, statement_rule, expression_rule, pattern_fault, indices_fit, instr_rule, first, rule, told, scan, instr_fault, IsWellFormed}
-use Rattle.model.specs.Machine.{PCode, Fetched, Nowhere, At, Matching, Frame, MW, InMatch}
+use Rattle.model.specs.Machine.{PCode, Fetched, Nowhere, At, Matching, Frame, MW, codes_of, InMatch, begun, steps}
 use Rattle.machine_laws.specs.InRange.{InstrIn, CodeIn, StateIn, ModuleIn}
 use Rattle.machine_laws.proofs.Lists.{IfThere, choice_in}
-use Rattle.machine_laws.proofs.MachineIn.{asks_in}
+use Rattle.machine_laws.proofs.OperationsIn.{first_in}
+use Rattle.machine_laws.proofs.MachineIn.{begun_in, steps_in, asks_in}
 
 -- ---- patterns of an image ask for nothing
 
@@ -114,3 +116,10 @@ asked_there im g st fs w h k want e = (get_or im.expressions k 0, slice_get-get_
 
 pub none_asked : (g : Matching) (st : s.State) (fs : List Frame) (w : MW) → StateIn 0 (InMatch g st fs w) → (k : ℕ) (want : Want) → s.event_of (s.step g.subject g.code st) ≢ Asks (AskFor k want)
 none_asked g st fs w h k want e = omega (arith, asks_in 0 g st fs w h k want e)
+
+pub runs_ask_there : (im : Image) → IsWellFormed im → (records : ℕ → List Bytes) (m : ℕ) (g : Matching) (st : s.State) (fs : List Frame) (w : MW) → steps (module_of im) m (begun (module_of im) (first_world codes_of records)) ≡ InMatch g st fs w → (k : ℕ) (want : Want)
+    → s.event_of (s.step g.subject g.code st) ≡ Asks (AskFor k want) → (at : ℕ) × (slice_get im.expressions k ≡ Some at)
+runs_ask_there im wf records m g st fs w e k want =
+    let n : ℕ = length im.expressions in
+    let h = steps_in n (module_of im) (well_formed_in im wf) m (begun (module_of im) (first_world codes_of records)) (begun_in n (module_of im) (first_world codes_of records) (first_in n records)) in
+    asked_there im g st fs w (subst (StateIn n) e h) k want

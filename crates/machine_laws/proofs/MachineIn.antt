@@ -19,7 +19,7 @@ use Rattle.model.specs.Machine.{PCode, MVal, MW, MBack, codes_of, Fetched, Nowhe
 use Rattle.machine_laws.specs.InRange.{CodeIn, ValueIn, ValuesIn, WorldIn, ReturnedIn, OutcomeIn, AnswerIn, SearchIn, OperandIn, OperandsIn, MatchingIn, FramesIn, StateIn, ModuleIn}
 use Rattle.machine_laws.proofs.Lists.{drop_in}
 use Rattle.machine_laws.proofs.OperationsIn.{Any, IfGot, OpIn, gives, refuses, faults, arith_in, sign_in, cat_in, alt_in, cond_in, imm_in, indir_in, fetch_in, assign_in, assign_all_in, splice_in, keyget_in, keyset_in, answer_in, BegunIn, match_in, told_in}
-use Rattle.machine_laws.proofs.PrimitivesIn.{element_in_range, prim_in, kept_in, enter_in, leave_in, as_value_in, as_name_in, construct_in, select_in}
+use Rattle.machine_laws.proofs.PrimitivesIn.{element_op_in, prim_in, kept_in, enter_in, leave_in, as_value_in, as_name_in, construct_in, select_in}
 use Rattle.machine_laws.proofs.SearchIn.{search_in, supplied_in, asked_in}
 
 module _ (n : ℕ) where
@@ -188,7 +188,7 @@ module _ (n : ℕ) where
     act_in (op.KeyGet k) q pc ops hs fs w h o f i = put_in q ops hs fs (keyget_in n k w i) o f
     act_in (op.KeySet k) q pc ops hs fs w h o f i = pop_in ops w _ o i (λ v r a s. put_none_in q r hs fs (keyset_in n k v w i) s f)
     act_in op.Indir q pc ops hs fs w h o f i = pop_in ops w _ o i (λ v r a s. put_name_in q r hs fs (indir_in n v w i) s f)
-    act_in (op.Elem m) q pc ops hs fs w h o f i = pop_many_in m ops [] w _ o tt i (λ vs r b s. pop_in r w _ s i (λ v r a s. put_name_in q r hs fs (element_in_range n v vs w i) s f))
+    act_in (op.Elem m) q pc ops hs fs w h o f i = pop_many_in m ops [] w _ o tt i (λ vs r b s. pop_in r w _ s i (λ v r a s. put_name_in q r hs fs (element_op_in n v vs w i) s f))
     act_in op.Assign q pc ops hs fs w h o f i = pop_in ops w _ o i (λ v r a s. pop_name_in r w _ s i (λ x r s. put_none_in q r hs fs (assign_in n x v w a i) s f))
     act_in op.NameV q pc ops hs fs w h o f i = pop_name_in ops w _ o i (λ x r s. ((tt, s), f, i))
     act_in (op.Expr k) q pc ops hs fs w h o f i = ((h, o), f, i)

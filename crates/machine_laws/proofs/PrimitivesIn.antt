@@ -56,28 +56,28 @@ module _ (n : ℕ) where
   table_in k (v ∷ []) w i = conv_in n Any (key_name k v) w _ i (λ x. gives tt i)
   table_in k (v ∷ u ∷ vs) w i = faults i
 
-  element_in_in : (k : ℕ) (o : Option (Object MVal)) (vs : List MVal) (w : MW) → WorldIn n w → OpIn n Any (element_in k o vs w)
-  element_in_in k None vs w i = faults i
-  element_in_in k (Some (ArrayOf bs es)) vs w i = choice_in (OpIn n Any) _ (conv_in n Any (all_integers vs) w _ i (λ zs. named_in k (place_from 0 bs zs) w i)) (faults i)
-  element_in_in k (Some (TableOf es)) vs w i = table_in k vs w i
-  element_in_in k (Some (RecordOf t fs es)) vs w i = faults i
+  object_element_in : (k : ℕ) (o : Option (Object MVal)) (vs : List MVal) (w : MW) → WorldIn n w → OpIn n Any (element_in k o vs w)
+  object_element_in k None vs w i = faults i
+  object_element_in k (Some (ArrayOf bs es)) vs w i = choice_in (OpIn n Any) _ (conv_in n Any (all_integers vs) w _ i (λ zs. named_in k (place_from 0 bs zs) w i)) (faults i)
+  object_element_in k (Some (TableOf es)) vs w i = table_in k vs w i
+  object_element_in k (Some (RecordOf t fs es)) vs w i = faults i
 
-  pub element_in_range : (v : MVal) (vs : List MVal) (w : MW) → WorldIn n w → OpIn n Any (element_op v vs w)
-  element_in_range (Obj k) vs w i = element_in_in k _ vs w i
-  element_in_range v vs w i = faults i
+  pub element_op_in : (v : MVal) (vs : List MVal) (w : MW) → WorldIn n w → OpIn n Any (element_op v vs w)
+  element_op_in (Obj k) vs w i = object_element_in k _ vs w i
+  element_op_in v vs w i = faults i
 
   named_field_in : (k : ℕ) (o : Option ℕ) (w : MW) → WorldIn n w → OpIn n Any (named_field k o w)
   named_field_in k None w i = faults i
   named_field_in k (Some j) w i = gives tt i
 
-  field_in_in : (f : Bytes) (k : ℕ) (o : Option (Object MVal)) (w : MW) → WorldIn n w → OpIn n Any (field_in f k o w)
-  field_in_in f k None w i = faults i
-  field_in_in f k (Some (ArrayOf bs vs)) w i = faults i
-  field_in_in f k (Some (TableOf es)) w i = faults i
-  field_in_in f k (Some (RecordOf t fs vs)) w i = named_field_in k (place_of 0 f fs) w i
+  object_field_in : (f : Bytes) (k : ℕ) (o : Option (Object MVal)) (w : MW) → WorldIn n w → OpIn n Any (field_in f k o w)
+  object_field_in f k None w i = faults i
+  object_field_in f k (Some (ArrayOf bs vs)) w i = faults i
+  object_field_in f k (Some (TableOf es)) w i = faults i
+  object_field_in f k (Some (RecordOf t fs vs)) w i = named_field_in k (place_of 0 f fs) w i
 
   field_op_in : (f : Bytes) (v : MVal) (w : MW) → WorldIn n w → OpIn n Any (field_op f v w)
-  field_op_in f (Obj k) w i = field_in_in f k _ w i
+  field_op_in f (Obj k) w i = object_field_in f k _ w i
   field_op_in f v w i = faults i
 
   -- ---- tables as arrays
@@ -125,8 +125,8 @@ module _ (n : ℕ) where
   repeated_in s (pos k) w i = choice_in (OpIn n (ValueIn n)) _ (gives tt i) (faults i)
   repeated_in s (negsuc k) w i = refuses i
 
-  replaced_in_range : (s t u : Bytes) (w : MW) → WorldIn n w → OpIn n (ValueIn n) (replaced_in s t u w)
-  replaced_in_range s t u w i = choice_in (OpIn n (ValueIn n)) _ (refuses i) (gives tt i)
+  replace_in : (s t u : Bytes) (w : MW) → WorldIn n w → OpIn n (ValueIn n) (replaced_in s t u w)
+  replace_in s t u w i = choice_in (OpIn n (ValueIn n)) _ (refuses i) (gives tt i)
 
   remainder_in : (x y : ℤ) (w : MW) → WorldIn n w → OpIn n (ValueIn n) (remainder x y w)
   remainder_in x (pos zero) w i = faults i
@@ -183,7 +183,7 @@ module _ (n : ℕ) where
 
   item_op_in : (vs : List MVal) (w : MW) → WorldIn n w → OpIn n (OutcomeIn n) (item_op vs w)
   item_op_in [] w i = faults i
-  item_op_in (v ∷ vs) w i = then_in n Any (OutcomeIn n) _ (element_in_range v vs w i) (λ x u _ j. gives tt j)
+  item_op_in (v ∷ vs) w i = then_in n Any (OutcomeIn n) _ (element_op_in v vs w i) (λ x u _ j. gives tt j)
 
   applied_in : (f : Bytes) (vs : List MVal) (w : MW) (k : PrimId → Op MW (Outcome PCode ℕ)) → ValuesIn n vs → WorldIn n w → ((q : PrimId) → OpIn n (OutcomeIn n) (k q)) → (o : Option PrimId) → OpIn n (OutcomeIn n) (applied f vs w k o)
   applied_in f vs w k h i g None = gives h i
@@ -213,7 +213,7 @@ module _ (n : ℕ) where
   prim_in p.Size vs w h i = returned_in (text_in (arg_at vs 0) w _ i (λ s. gives tt i))
   prim_in p.Trim vs w h i = returned_in (text_in (arg_at vs 0) w _ i (λ s. gives tt i))
   prim_in p.Dupl vs w h i = returned_in (text_in (arg_at vs 0) w _ i (λ s. integer_in (arg_at vs 1) w _ i (λ z. repeated_in s z w i)))
-  prim_in p.Replace vs w h i = returned_in (text_in (arg_at vs 0) w _ i (λ s. text_in (arg_at vs 1) w _ i (λ t. text_in (arg_at vs 2) w _ i (λ u. replaced_in_range s t u w i))))
+  prim_in p.Replace vs w h i = returned_in (text_in (arg_at vs 0) w _ i (λ s. text_in (arg_at vs 1) w _ i (λ t. text_in (arg_at vs 2) w _ i (λ u. replace_in s t u w i))))
   prim_in p.Remdr vs w h i = returned_in (integer_in (arg_at vs 0) w _ i (λ x. integer_in (arg_at vs 1) w _ i (λ y. remainder_in x y w i)))
   prim_in p.DataType vs w h i = gives tt i
   prim_in p.Array vs w h i = returned_in (text_in (arg_at vs 0) w _ i (λ s. array_in (array_prototype s) (arg_at vs 1) w (arg_in vs 1 h) i))

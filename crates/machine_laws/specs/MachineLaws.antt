@@ -62,3 +62,10 @@ abbrev pub AskedAreThere : Type 0
 AskedAreThere =
     (im : Image) (g : Matching) (st : s.State) (fs : List Frame) (w : MW) → StateIn (length im.expressions) (InMatch g st fs w) → (k : ℕ) (want : Want)
     → s.event_of (s.step g.subject g.code st) ≡ Asks (AskFor k want) → (at : ℕ) × ((module_of im).expr k ≡ Some at)
+
+-- and so it is in each state of a run that is in a match
+abbrev pub RunsAskForWhatIsThere : Type 0
+RunsAskForWhatIsThere =
+    (im : Image) → IsWellFormed im → (records : ℕ → List Bytes) (m : ℕ) (g : Matching) (st : s.State) (fs : List Frame) (w : MW)
+    → steps (module_of im) m (begun (module_of im) (first_world codes_of records)) ≡ InMatch g st fs w → (k : ℕ) (want : Want)
+    → s.event_of (s.step g.subject g.code st) ≡ Asks (AskFor k want) → (at : ℕ) × ((module_of im).expr k ≡ Some at)

@@ -1,6 +1,6 @@
 //! The laws of numbers of unevaluated expressions. Each function does nothing; its contract states laws.
 
-ghost use Rattle.machine_laws.specs.MachineLaws.{SearchesStayIn, SuppliedStayIn, AskedAreIn, FirstWorldsAreIn, BegunAreIn, StepsStayIn, NextAskedAreIn, NoneAsked, ImagesAreIn, WellFormedAreIn, AskedAreThere};
+ghost use Rattle.machine_laws.specs.MachineLaws.{SearchesStayIn, SuppliedStayIn, AskedAreIn, FirstWorldsAreIn, BegunAreIn, StepsStayIn, NextAskedAreIn, NoneAsked, ImagesAreIn, WellFormedAreIn, AskedAreThere, RunsAskForWhatIsThere};
 
 /// A search whose code, choices and answers ask only for expressions below a number asks only for such.
 pub fn searches_stay_in_range()
@@ -23,4 +23,5 @@ pub fn asked_expressions_are_there()
     ensures images { ImagesAreIn }
     ensures well_formed { WellFormedAreIn }
     ensures there { AskedAreThere }
+    ensures runs { RunsAskForWhatIsThere }
 {}

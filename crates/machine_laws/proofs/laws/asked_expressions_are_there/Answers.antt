@@ -1,4 +1,4 @@
-use Rattle.machine_laws.proofs.ImagesIn.{image_in, well_formed_in, asked_there}
+use Rattle.machine_laws.proofs.ImagesIn.{image_in, well_formed_in, asked_there, runs_ask_there}
 use Rattle.machine_laws.proofs.laws.asked_expressions_are_there.Goals as goal
 
 pub returns-clause-images : goal.returns-clause-images
@@ -9,3 +9,6 @@ returns-clause-well_formed c = well_formed_in
 
 pub returns-clause-there : goal.returns-clause-there
 returns-clause-there c = asked_there
+
+pub returns-clause-runs : goal.returns-clause-runs
+returns-clause-runs c = runs_ask_there
