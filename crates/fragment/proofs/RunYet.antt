@@ -17,7 +17,7 @@ use Rattle.model.specs.Programs.{labelled_from}
 use Rattle.model.specs.Trees.{Bytes, Expr, Name, Integer, Literal, Keyword, Call, Reference, Apply, Combine, Args, Nil, More, Absent, Given, Place, Label, Computed, Goto, Next, Always, OnSuccess, OnFailure, Both, Body, Nothing, Evaluate, Match, Assign, Replace, Stmt, Plain, End}
 use Rattle.model.specs.Weights as weights
 use Rattle.expr_codegen.specs.Code.{Part, nothing, one, with_string, ◌>>◌, handled, with_key, call, value, name, arguments}
-use Rattle.codegen.specs.Layout.{object, assignment, body, to_label, place, after_success, after_failure, statement, statements, statements_of, expressions, expressions_of, joined, image_of}
+use Rattle.codegen.specs.Layout.{object, assignment, body, to_label, place, after_success, after_failure, statement, statements, statements_of, expressions, joined, image_of}
 use Rattle.codegen_laws.proofs.Standing.{all_join}
 use Rattle.loader.specs.Running.{AreRunYet, IsRunYet, has_primitive}
 use Rattle.fragment.specs.Fragment.{call_runs, construct_runs, runs_today, fault_unless, not_yet}

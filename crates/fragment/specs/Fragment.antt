@@ -1,5 +1,5 @@
 -- The part of the language that runs today.
-use Rattle.std.specs.Prelude.{ℕ, ◌+◌, List, [], ◌∷◌, Option, None, Some, Bool, true, false, ◌&&◌, if◌then◌else◌}
+use Rattle.std.specs.Prelude.{ℕ, ◌+◌, List, [], ◌∷◌, Option, None, Some, Bool, true, false, if◌then◌else◌}
 use Rattle.model.specs.declared.causes.StmtFault.{StmtFault}
 use Rattle.model.specs.declared.causes.Cause.TheVariants as cause
 use Rattle.model.specs.declared.primitives.PrimId.{PrimId}
