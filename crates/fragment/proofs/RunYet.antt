@@ -1,5 +1,5 @@
--- Where each statement runs today, each instruction of the image runs yet.
-use Rattle.std.proofs.Common.{◌≡◌, ◌∙◌, refl, ap, subst, ℕ, zero, suc, ◌+◌, List, [], ◌∷◌, ◌++◌, length, arith, Bool, true, false, ◌&&◌, Option, Some, None}
+-- Where each statement runs today, each instruction of the image runs yet, and no expression stays unevaluated.
+use Rattle.std.proofs.Common.{◌≡◌, ◌∙◌, refl, sym, ap, subst, ℕ, zero, suc, ◌+◌, List, [], ◌∷◌, ◌++◌, length, arith, Bool, true, false, ◌&&◌, Option, Some, None}
 use Rattle.model.specs.declared.causes.StmtFault.{StmtFault}
 use Rattle.model.specs.declared.instr.Instr.{Instr}
 use Rattle.model.specs.declared.instr.Instr.TheVariants as op
@@ -17,7 +17,7 @@ use Rattle.model.specs.Programs.{labelled_from}
 use Rattle.model.specs.Trees.{Bytes, Expr, Name, Integer, Literal, Keyword, Call, Reference, Apply, Combine, Args, Nil, More, Absent, Given, Place, Label, Computed, Goto, Next, Always, OnSuccess, OnFailure, Both, Body, Nothing, Evaluate, Match, Assign, Replace, Stmt, Plain, End}
 use Rattle.model.specs.Weights as weights
 use Rattle.expr_codegen.specs.Code.{Part, nothing, one, with_string, ◌>>◌, handled, with_key, call, value, name, arguments}
-use Rattle.codegen.specs.Layout.{object, assignment, body, to_label, place, after_success, after_failure, statement, statements, statements_of, expressions, joined, image_of}
+use Rattle.codegen.specs.Layout.{object, assignment, body, to_label, place, after_success, after_failure, statement, statements, statements_of, expressions, expressions_of, joined, offsets, texts_of, image_of}
 use Rattle.codegen_laws.proofs.Standing.{all_join}
 use Rattle.loader.specs.Running.{AreRunYet, IsRunYet, has_primitive}
 use Rattle.fragment.specs.Fragment.{call_runs, construct_runs, runs_today, fault_unless, not_yet}
@@ -192,14 +192,24 @@ statements_run number_of n (s ∷ ss) e =
     let rest : not_yet (suc n) ss ≡ [] = subst (λ m. not_yet m ss ≡ []) (let f : n + 1 ≡ suc n = omega arith in f) here.1 in
     both (statement_runs number_of n s here.0) (statements_run number_of (suc n) ss rest)
 
-nothing_left : (fuel : ℕ) (es : List Expr) → es ≡ [] → RunsYet (joined (expressions fuel es))
-nothing_left zero es e = none
-nothing_left (suc fuel) [] e = none
-nothing_left (suc fuel) (x ∷ es) e = absurd (cc)
+-- no expression is left for the end of the code
+none_queued : (fuel : ℕ) (es : List Expr) → es ≡ [] → expressions fuel es ≡ []
+none_queued zero es e = refl
+none_queued (suc fuel) [] e = refl
+none_queued (suc fuel) (x ∷ es) e = absurd (cc)
 
--- the law
+none_left : (ss : List Stmt) → not_yet 1 ss ≡ [] → expressions_of ss ≡ []
+none_left ss e = none_queued (weights.total weights.weight ss) (joined (statements_of ss)).later (statements_run (labelled_from 1 ss) 1 ss e).later
+
+-- ---- the laws
+
 pub run_yet : (ss : List Stmt) → not_yet 1 ss ≡ [] → AreRunYet (image_of ss).code
 run_yet ss e =
-    let h = statements_run (labelled_from 1 ss) 1 ss e in
-    let g = nothing_left (weights.total weights.weight ss) (joined (statements_of ss)).later h.later in
-    (both h g).code (image_of ss).strings 0 0
+    let first : RunsYet (joined (statements_of ss)) = statements_run (labelled_from 1 ss) 1 ss e in
+    let last : RunsYet (joined (expressions_of ss)) = subst (λ ps. RunsYet (joined ps)) (sym (none_left ss e)) none in
+    (both first last).code (texts_of ss) 0 0
+
+pub evaluated : (ss : List Stmt) → not_yet 1 ss ≡ [] → (image_of ss).expressions ≡ []
+evaluated ss e =
+    let first : Part = joined (statements_of ss) in
+    ap (λ ps. offsets ps (texts_of ss) (length first.later) (total (first.code (texts_of ss) 0 0))) (none_left ss e)

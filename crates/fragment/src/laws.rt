@@ -1,8 +1,9 @@
-//! The law of statements that run today. The function does nothing; its contract states the law.
+//! The laws of statements that run today. The function does nothing; its contract states the laws.
 
-ghost use Rattle.fragment.specs.Laws.{AreAdmitted};
+ghost use Rattle.fragment.specs.Laws.{HasOnlyKnown, IsEvaluated};
 
-/// The machine has each instruction of the image of statements that run today.
+/// The image of statements that run today has only instructions that the machine has, and no unevaluated expression.
 pub fn admitted_images()
-    ensures { AreAdmitted }
+    ensures known { HasOnlyKnown }
+    ensures evaluated { IsEvaluated }
 {}
