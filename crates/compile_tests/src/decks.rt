@@ -87,11 +87,13 @@ fn each_faulty_statement_is_told(rt: HostRuntime) {
 #[test]
 fn statements_that_do_not_run_yet(rt: HostRuntime) {
     for (deck, lines) in [
-        (&b" OUTPUT = 1;END\n"[..], &b"statement 1 P0\n"[..]),
-        (b" X = ----------------Y\nEND\n", b"statement 1 P0\n"),
+        (&b" OUTPUT = F(1);END\n"[..], &b"statement 1 P0\n"[..]),
+        (b" X = ---------------*Y\nEND\n", b"statement 1 P0\n"),
+        (b" X LEN(1) $ Y\nEND\n", b"statement 1 P0\n"),
+        (b" X = 1 :($A<1>)\nEND\n", b"statement 1 P0\n"),
         (
-            b"L\n OUTPUT = 'A'\nEND L\n",
-            b"statement 1 P0\nstatement 3 P0\n",
+            b"L A<1> = 'A'\n OUTPUT = SIZE(X)\n T = TABLE()\n X @Y\nEND L\n",
+            b"statement 1 P0\nstatement 3 P0\nstatement 4 P0\n",
         ),
     ] {
         assert!(rt; tells(rt.alloc(), deck, lines));

@@ -1,3 +1,2 @@
-pub mod RunsToday
 pub mod WholeDecks
 pub mod WholeRuns

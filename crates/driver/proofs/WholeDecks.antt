@@ -17,11 +17,11 @@ use Rattle.parser.specs.Refusals.{IsRefusal}
 use Rattle.codegen.specs.Countable.{Fits}
 use Rattle.codegen.specs.Layout.{image_of}
 use Rattle.codegen_laws.proofs.Images.{are_fit, are_countable, spelt as is_spelt, sound as is_sound, agrees as does_as_meant}
+use Rattle.fragment.specs.Fragment.{not_yet}
+use Rattle.fragment.proofs.RunYet.{run_yet}
 use Rattle.driver.specs.declared.refusal.Refusal.{Refusal}
 use Rattle.driver.specs.declared.refusal.Refusal.TheVariants as refusal
 use Rattle.driver.specs.Compiled.{IsModuleOf, IsRefusalOf, OfCards, OfStatements}
-use Rattle.driver.specs.Fragment.{not_yet}
-use Rattle.driver.proofs.RunsToday.{run_yet}
 
 -- ---- verdicts
 

@@ -13,9 +13,9 @@ use Rattle.model.specs.Trees.{Stmt}
 use Rattle.model.specs.WellFormed.{IsWellFormed}
 use Rattle.codegen.specs.Layout.{image_of}
 use Rattle.loader.specs.Loaded.{IsLoaded}
+use Rattle.fragment.specs.Fragment.{not_yet}
 use Rattle.driver.specs.declared.refusal.Refusal.{Refusal}
 use Rattle.driver.specs.declared.refusal.Refusal.TheVariants as refusal
-use Rattle.driver.specs.Fragment.{not_yet}
 
 -- ---- decks that are accepted
 

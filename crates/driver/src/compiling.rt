@@ -6,10 +6,10 @@ ghost use Rattle.model.specs.Trees as tree;
 ghost use Rattle.model.specs.TreeViews.{program_of};
 ghost use Rattle.driver.specs.Compiled.{IsAccepted, IsModuleOf, IsRefusalOf, OfCards, OfStatements};
 
-use crate::fragment::not_yet;
 use crate::refusal::Refusal;
 use card_reader::read_deck;
 use codegen::generate;
+use fragment::not_yet;
 use model::{CardFault, CardRule, DeckFault, Program};
 use module_format::write_image;
 use parser::parse_deck;

@@ -2,7 +2,6 @@
 #![tactic(auto)]
 
 mod compiling;
-mod fragment;
 mod refusal;
 mod running;
 mod telling;
@@ -10,7 +9,6 @@ mod whole;
 mod words;
 
 pub use compiling::compile_deck;
-pub use fragment::not_yet;
 pub use refusal::Refusal;
 pub use running::run_module;
 pub use telling::{Told, WriteFault, report};

@@ -12,6 +12,6 @@ mod patterns;
 mod places;
 mod tables;
 
-pub use code::runs_yet;
+pub use code::{has_primitive, runs_yet};
 pub use loading::load;
 pub use module::Module;

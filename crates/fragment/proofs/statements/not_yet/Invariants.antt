@@ -1,7 +1,7 @@
 use Rattle.std.proofs.Common.{◌≡◌, ◌++◌, ◌+◌, map, drop}
 use Rattle.model.specs.TreeViews.{stmt_of}
-use Rattle.driver.specs.Fragment.{not_yet}
-use Rattle.driver.proofs.fragment.not_yet.Given as goal
+use Rattle.fragment.specs.Fragment.{not_yet}
+use Rattle.fragment.proofs.statements.not_yet.Given as goal
 
 abbrev pub invariant-loop-statement : goal.invariant-loop-statement
 invariant-loop-statement l = record {

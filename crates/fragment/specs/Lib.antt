@@ -1,0 +1,2 @@
+pub mod Fragment
+pub mod Laws
