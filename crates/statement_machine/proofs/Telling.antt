@@ -1,7 +1,11 @@
 -- What is said of units that tell carries over from one call to the next.
-use Rattle.std.proofs.Common.{◌≡◌, Option, Some, None}
+use Rattle.std.proofs.Common.{◌≡◌, [], Option, Some, None}
 use Rattle.model.specs.Io.{Io}
 use Rattle.model.specs.Told.{IfTold}
+
+-- any records serve for what is told of none
+pub no_records : Io
+no_records = record { left = λ unit. []; printed = [] }
 
 pub told_same : (o : Option Io) (P : Io → Io → Type 0) → ((io : Io) → P io io) → IfTold o o P
 told_same None P h = tt
