@@ -1,18 +1,20 @@
-//! Failure.
+//! Failure, and where it leads.
 
-ghost use Rattle.std.specs.Prelude.{◌≡◌, []};
+ghost use Rattle.std.specs.Prelude.{◌≡◌, [], Ok};
 ghost use Rattle.model.specs.Io.{Io};
+ghost use Rattle.model.specs.Flow.{IsInTry};
 ghost use Rattle.model.specs.Machine.{fail_to};
+ghost use Rattle.model.specs.declared.image.Image.{Image};
 ghost use Rattle.model.specs.declared.run.Stop.TheVariants.{NoMemory};
 ghost use Rattle.frames.specs.View.{operands_of, handlers_of};
 ghost use Rattle.world.specs.Held.{world_of};
-ghost use Rattle.statement_machine.specs.Held.{Left};
+ghost use Rattle.statement_machine.specs.Held.{Left, after};
 ghost use Rattle.statement_machine.specs.Stopped.{IfHalted};
 
 use crate::state::State;
 use crate::status::Halt;
-use frames::{Caught, fail};
-use model::ErrorCode;
+use frames::{Caught, Handler, fail, pop_try};
+use model::{ErrorCode, Instr};
 use world::Fault;
 
 impl State {
@@ -33,5 +35,25 @@ impl State {
             }
             None => Err(self.halted(Fault::Error(ErrorCode::FailureInGoto))),
         }
+    }
+
+    /// From here on a failure leads to the target, with the operands that there are.
+    pub(crate) fn begin_try(&mut self, target: u32, next: u32) -> Result<(), Halt>
+        ensures left { (im : Image) (io : Io) → Left result self.new io (after im (Instr.Try target) next self.old io) }
+        ensures stop { IfHalted result (λ stop. stop ≡ NoMemory) }
+    {
+        let depth = self.operands.len();
+        self.handlers.push(Handler::Try { target, depth })?;
+        self.at = next;
+        Ok(())
+    }
+
+    /// The newest TRY ends.
+    pub(crate) fn end_try(&mut self, next: u32)
+        requires { IsInTry (handlers_of self.old.handlers) }
+        ensures { (im : Image) (io : Io) → Left (Ok tt) self.new io (after im Instr.Untry next self.old io) }
+    {
+        pop_try(&mut self.handlers);
+        self.at = next;
     }
 }

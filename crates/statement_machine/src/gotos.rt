@@ -44,8 +44,8 @@ impl State {
         ensures left { (next : ℕ) (io : Io) → Left result self.new io (after program.now Instr.GotoV next self.old io) }
         ensures stop { IfHalted result (λ stop. stop ≡ NoMemory) }
     {
-        let value = pop_value(&mut self.operands);
-        match value.to_label(self.alloc) {
+        let label = pop_value(&mut self.operands).to_label(self.alloc);
+        match label {
             Ok(label) => self.goto_label(program, label.as_slice()),
             Err(fault) => Err(self.halted(fault)),
         }
