@@ -15,3 +15,4 @@ mod tables;
 pub use code::{has_primitive, runs_yet};
 pub use loading::load;
 pub use module::Module;
+pub use names::return_of;

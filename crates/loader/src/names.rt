@@ -1,11 +1,11 @@
 //! What an index, a name and a number may be.
 
-ghost use Rattle.std.specs.Prelude.{◌≡◌, bytes_eq, is_none, not, option_copied};
+ghost use Rattle.std.specs.Prelude.{◌≡◌, bytes_eq, option_copied};
 ghost use Rattle.model.specs.Calls.{return_of};
 ghost use Rattle.model.specs.Programs.{end_label};
 ghost use Rattle.model.specs.WellFormed.{is_label_name, is_name, is_nonnull, is_statement, is_string, rule};
 
-use model::{Bytes, Image, ModuleRule};
+use model::{Bytes, Image, ModuleRule, ReturnKind};
 
 /// The rule, unless it is kept.
 pub(crate) fn rule(broken: ModuleRule, kept: bool) -> Option<ModuleRule>
@@ -59,10 +59,19 @@ const FRETURN: [u8; 7] = *b"FRETURN";
 
 const NRETURN: [u8; 7] = *b"NRETURN";
 
-fn is_return(name: &[u8]) -> bool
-    ensures { result ≡ not (is_none (return_of name.now)) }
+/// How a label of this name leaves a function, if it does.
+pub fn return_of(name: &[u8]) -> Option<ReturnKind>
+    ensures { result ≡ return_of name.now }
 {
-    name == RETURN.as_slice() || name == FRETURN.as_slice() || name == NRETURN.as_slice()
+    if name == RETURN.as_slice() {
+        Some(ReturnKind::Return)
+    } else if name == FRETURN.as_slice() {
+        Some(ReturnKind::FReturn)
+    } else if name == NRETURN.as_slice() {
+        Some(ReturnKind::NReturn)
+    } else {
+        None
+    }
 }
 
 /// Whether a string may be the name of a label.
@@ -72,7 +81,7 @@ pub(crate) fn is_label_name(string: Option<&Bytes>) -> bool
     match string {
         Some(bytes) => {
             let name = bytes.as_slice();
-            !name.is_empty() && !is_end(name) && !is_return(name)
+            !name.is_empty() && !is_end(name) && return_of(name).is_none()
         }
         None => false,
     }

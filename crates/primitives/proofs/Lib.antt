@@ -1,3 +1,4 @@
 pub mod KindParts
 pub mod Order
 pub mod Arguments
+pub mod Values

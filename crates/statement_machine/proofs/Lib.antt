@@ -1,5 +1,7 @@
 pub mod Beginning
+pub mod Calling
 pub mod Flowing
+pub mod Going
 pub mod Keys
 pub mod Running
 pub mod Seeing

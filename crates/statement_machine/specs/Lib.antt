@@ -1,4 +1,5 @@
 pub mod Runnable
 pub mod Held
 pub mod Stopped
+pub mod Calling
 pub use Rattle.world.specs.Answers

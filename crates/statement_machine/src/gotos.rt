@@ -1,17 +1,24 @@
 //! Instructions that go on elsewhere.
 
-ghost use Rattle.std.specs.Prelude.{◌≡◌, ◌≢◌, ℕ, [], Ok, Err, None};
+ghost use Rattle.std.specs.Prelude.{◌≡◌, ◌≢◌, ◌∷◌, ℕ, [], Ok, Err, None};
 ghost use Rattle.model.specs.Io.{Io};
-ghost use Rattle.model.specs.Modules.{statement_at};
+ghost use Rattle.model.specs.Calls.{return_of};
+ghost use Rattle.model.specs.Flow.{V};
+ghost use Rattle.model.specs.Machine.{to_return};
+ghost use Rattle.model.specs.Modules.{module_of, statement_at};
 ghost use Rattle.model.specs.declared.image.Image.{Image};
 ghost use Rattle.model.specs.declared.instr.ReturnKind.{ReturnKind};
 ghost use Rattle.model.specs.declared.run.Stop.TheVariants.{NoMemory};
 ghost use Rattle.statement_machine.specs.Stopped.{IfHalted};
+ghost use Rattle.frames.specs.Kinds.{kinds_of};
+ghost use Rattle.world.specs.Held.{world_of};
 ghost use Rattle.statement_machine.specs.Held.{Left, after};
+ghost use Rattle.statement_machine.specs.Runnable.{IsRunnable};
 
 use crate::state::State;
 use crate::status::Halt;
-use loader::Module;
+use frames::pop_value;
+use loader::{Module, return_of};
 use model::{ErrorCode, Instr};
 use world::Fault;
 
@@ -26,6 +33,41 @@ impl State {
         match program.statement(number) {
             Some(at) => self.at = at,
             None => unreachable!(),
+        }
+    }
+
+    /// To the label that a value is.
+    pub(crate) fn goto_value(&mut self, program: &Module) -> Result<(), Halt>
+        requires runnable { IsRunnable program.now }
+        requires operands { kinds_of self.old.operands ≡ V ∷ [] }
+        requires handlers { self.old.handlers ≡ [] }
+        ensures left { (next : ℕ) (io : Io) → Left result self.new io (after program.now Instr.GotoV next self.old io) }
+        ensures stop { IfHalted result (λ stop. stop ≡ NoMemory) }
+    {
+        let label = pop_value(&mut self.operands).to_label(self.alloc);
+        match label {
+            Ok(label) => self.goto_label(program, label.as_slice()),
+            Err(fault) => Err(self.halted(fault)),
+        }
+    }
+
+    // To the statement of a label.
+    fn goto_label(&mut self, program: &Module, label: &[u8]) -> Result<(), Halt>
+        requires runnable { IsRunnable program.now }
+        requires operands { self.old.operands ≡ [] }
+        requires handlers { self.old.handlers ≡ [] }
+        ensures left { (io : Io) → Left result self.new io (to_return (module_of program.now) label.now (return_of label.now) [] (world_of self.old.world io)) }
+        ensures stop { IfHalted result (λ stop. stop ≡ NoMemory) }
+    {
+        if return_of(label).is_some() {
+            return Err(self.no_return());
+        }
+        match program.label(label) {
+            Some(number) => {
+                self.goto(program, number);
+                Ok(())
+            }
+            None => Err(self.no_label()),
         }
     }
 

@@ -1,5 +1,3 @@
-use Rattle.std.proofs.Common.{refl, inl}
-use Rattle.model.specs.Flow.{InGoto}
 use Rattle.statement_machine.proofs.Flowing.{statement_stands}
 use Rattle.statement_machine.proofs.Running.{begun_is}
 use Rattle.statement_machine.proofs.machine.Machine.new.Goals as goal
@@ -8,7 +6,7 @@ pub invariant_of-result : goal.invariant_of-result
 invariant_of-result c =
     let im = c.args.program.now in
     let e = c.in_ok-new.ensures.place in
-    rw (e.0, e.1, e.2) (InGoto, (0, inl (statement_stands im.statements im.entry c.start-at.result c.start-at.ensures.offset, refl)), tt)
+    rw (e.0, e.1, e.2) (statement_stands im im.entry c.start-at.result c.start-at.ensures.offset)
 
 pub returns-clause-begun : goal.returns-clause-begun
 returns-clause-begun c = λ io p.
