@@ -1,6 +1,8 @@
 pub mod Beginning
+pub mod Fetching
 pub mod Flowing
 pub mod Keys
+pub mod Operations
 pub mod Running
 pub mod Seeing
 pub mod Stopping
