@@ -1,6 +1,7 @@
 //! The machine: a run of a module, step by step.
 #![tactic(auto)]
 
+mod failing;
 mod gotos;
 mod instructions;
 mod machine;
