@@ -1,8 +1,10 @@
 pub mod Beginning
 pub mod Calling
+pub mod Fetching
 pub mod Flowing
 pub mod Going
 pub mod Keys
+pub mod Operations
 pub mod Running
 pub mod Seeing
 pub mod Stopping

@@ -1,29 +1,24 @@
 //! What each instruction does.
 
-ghost use Rattle.std.specs.Prelude.{◌≡◌, ◌≤◌, ◌<◌, ◌∷◌, ℕ, [], Ok, length, drop, OnOk};
+ghost use Rattle.std.specs.Prelude.{◌≡◌, ◌<◌, ◌∷◌, [], Ok, length};
 ghost use Rattle.model.specs.Io.{Io};
-ghost use Rattle.model.specs.Told.{IfTold};
-ghost use Rattle.model.specs.Flow.{V, N};
 ghost use Rattle.model.specs.Machine.{Run, OV, ON};
 ghost use Rattle.model.specs.declared.image.Image.{Image};
 ghost use Rattle.model.specs.declared.run.Stop.TheVariants.{NoMemory};
 ghost use Rattle.pattern_compiler.specs.View.{name_of};
 ghost use Rattle.world.specs.Values.{value_of};
 ghost use Rattle.world.specs.Held.{world_of};
-ghost use Rattle.world.specs.Answers.{IsStop};
 ghost use Rattle.frames.specs.View.{operands_of, handlers_of};
-ghost use Rattle.frames.specs.Kinds.{AreOnTop, kinds_of};
 ghost use Rattle.frames.specs.Failing.{IsInBegin};
 ghost use Rattle.statement_machine.specs.Held.{Left, after};
 ghost use Rattle.statement_machine.specs.Stopped.{IfHalted, halt_of};
 
 use crate::state::State;
 use crate::status::Halt;
-use frames::{Handler, Operand, pop_begin, pop_name, pop_value};
+use frames::{Handler, Operand, pop_begin};
 use loader::Module;
 use model::{Ending, Instr};
 use pattern_compiler::Name;
-use unit_io::Units;
 use world::{Fault, Value};
 
 impl State {
@@ -112,24 +107,5 @@ impl State {
     {
         let name = program.string(number).clone()?;
         self.put_name(Name::Variable(name), next)
-    }
-
-    /// The value goes to the name, and to the unit that its variable writes to.
-    pub(crate) fn assign<U: Units>(&mut self, units: &mut U, next: u32) -> Result<(), Halt>
-        requires { AreOnTop (V ∷ N ∷ []) self.old.operands }
-        ensures left { (im : Image) → IfTold (U.told units.old) (U.told units.new) (λ io io'. Left result self.new io' (after im Instr.Assign next self.old io)) }
-        ensures shape { OnOk result ((self.new.at ≡ next) × (self.new.handlers ≡ self.old.handlers) × (kinds_of self.new.operands ≡ drop 2 (kinds_of self.old.operands))) }
-        ensures stop { IfHalted result (λ stop. IsStop stop (U.failures units.old) (U.failures units.new)) }
-        ensures grows { (u : ℕ) → U.failures units.old u ≤ U.failures units.new u }
-    {
-        let value = pop_value(&mut self.operands);
-        let name = pop_name(&mut self.operands);
-        match self.world.assign(self.alloc, units, &name, value) {
-            Ok(()) => {
-                self.at = next;
-                Ok(())
-            }
-            Err(fault) => Err(self.halted(fault)),
-        }
     }
 }

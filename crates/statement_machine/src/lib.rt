@@ -9,5 +9,6 @@ mod machine;
 mod operators;
 mod state;
 mod status;
+mod variables;
 
 pub use machine::{Machine, run_from_entry};

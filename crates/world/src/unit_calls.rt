@@ -114,8 +114,6 @@ impl World {
         span: &Span,
         value: &Value,
     ) -> Result<(), Fault>
-        requires start { span.now.start ≤ length span.now.subject }
-        requires end { span.now.end ≤ length span.now.subject }
         ensures assigned { IfTold (U.told units.old) (U.told units.new) (λ io io'.
             Answers (done result) (world_of self.new io') (splice_op (name_of name.now) span.now.subject span.now.start span.now.end (value_of value.now) (world_of self.old io))) }
         ensures stop { IfStopped result (λ stop. IsStop stop (U.failures units.old) (U.failures units.new)) }

@@ -36,16 +36,29 @@ pub struct Span {
     pub end: usize,
 }
 
+// What stands before a place; a place past the end stands at the end.
+#[tactic(auto, using(std::proofs::lemmas::List::take_min))]
+fn before(subject: &[u8], place: usize) -> &[u8]
+    ensures { result.now ≡ take place subject.now }
+{
+    &subject[..place.min(subject.len())]
+}
+
+// What stands from a place on.
+#[tactic(auto, using(std::proofs::lemmas::List::drop_min))]
+fn behind(subject: &[u8], place: usize) -> &[u8]
+    ensures { result.now ≡ drop place subject.now }
+{
+    &subject[place.min(subject.len())..]
+}
+
 // The subject with the text in the place of the part.
 fn spliced(alloc: Global, span: &Span, text: &[u8], limit: usize) -> Result<Text, StrFault>
-    requires start { span.now.start ≤ length span.now.subject }
-    requires end { span.now.end ≤ length span.now.subject }
     ensures ok { IfOk result (λ all. all ≡ take span.now.start span.now.subject ++ (text.now ++ drop span.now.end span.now.subject)) }
     ensures too_long { (result ≡ Err StrFault.TooLong) ↔ (limit < length (take span.now.start span.now.subject ++ (text.now ++ drop span.now.end span.now.subject))) }
 {
-    let subject = span.subject.as_slice();
-    let front = &subject[..span.start];
-    let back = &subject[span.end..];
+    let front = before(span.subject.as_slice(), span.start);
+    let back = behind(span.subject.as_slice(), span.end);
     if front.len() > limit {
         return Err(StrFault::TooLong);
     }
@@ -63,8 +76,6 @@ fn spliced(alloc: Global, span: &Span, text: &[u8], limit: usize) -> Result<Text
 impl World {
     /// The subject of a replacement with a value in the place of the part: what is to be assigned.
     pub(crate) fn replaced(&self, alloc: Global, span: &Span, value: &Value) -> Result<Value, Fault>
-        requires start { span.now.start ≤ length span.now.subject }
-        requires end { span.now.end ≤ length span.now.subject }
         ensures value { (io : Io) (name : Name) → LeadsTo (answer_map value_of result) (world_of self.now io) (λ v. assign_op name v (world_of self.now io)) (splice_op name span.now.subject span.now.start span.now.end (value_of value.now) (world_of self.now io)) }
         ensures stop { IfStopped result (λ stop. stop ≡ NoMemory) }
     {

@@ -1,0 +1,51 @@
+-- What an operation comes to: a value, a failure or an error.
+use Rattle.std.proofs.Common.{◌≡◌, ℕ, List, [], ◌∷◌, Option, Some, None, Result, Ok, Err, refl, sym, subst, ◌⊎◌, inl, inr}
+use Rattle.model.specs.Io.{Io}
+use Rattle.model.specs.Conversions.{Op, Gives, Refuses, Faults}
+use Rattle.model.specs.Machine as m
+use Rattle.model.specs.Machine.{MW, Operand, Handler, after_op, fail_to}
+use Rattle.world.specs.Answers.{Answers, AnswersOrFails}
+use Rattle.world.specs.Held.{world_of}
+use Rattle.world.specs.declared.fault.Fault.{Fault}
+use Rattle.world.specs.declared.fault.Fault.TheVariants as fault
+use Rattle.model.specs.declared.run.Stop.{Stop}
+use Rattle.statement_machine.specs.Held.{Left}
+use Rattle.statement_machine.specs.Stopped.{IfHalted, halt_of}
+use Rattle.statement_machine.specs.declared.state.State.{State}
+use Rattle.statement_machine.specs.declared.status.Halt.{Halt}
+use Rattle.statement_machine.specs.declared.status.Halt.TheVariants as halt
+use Rattle.statement_machine.proofs.Keys.{halts}
+
+-- on with what it gives
+pub gives : {A : Type 0} (o : Op MW A) (a : A) (w : MW) (r : Result (Unit {0}) Halt) (s : State) (io : Io) (hs : List Handler) (ops : List Operand) (k : A → MW → m.State)
+    → o ≡ Gives a w → Left r s io (k a w) → Left r s io (after_op o hs ops [] k)
+gives o a w r s io hs ops k e h = subst (λ x. Left r s io (after_op x hs ops [] k)) (sym e) h
+
+-- on where its failure leads
+pub refuses : {A : Type 0} (o : Op MW A) (w : MW) (r : Result (Unit {0}) Halt) (s : State) (io : Io) (hs : List Handler) (ops : List Operand) (k : A → MW → m.State)
+    → o ≡ Refuses w → Left r s io (fail_to hs ops [] w) → Left r s io (after_op o hs ops [] k)
+refuses o w r s io hs ops k e h = subst (λ x. Left r s io (after_op x hs ops [] k)) (sym e) h
+
+-- a fault ends the run as the definitions say
+pub ends : {A : Type 0} (o : Op MW A) (f : Fault) (h : Halt) (s : State) (io : Io) (hs : List Handler) (ops : List Operand) (k : A → MW → m.State)
+    → h ≡ halt_of s.world.keys.stno f → Answers (Err f) (world_of s.world io) o → Left (Err h) s io (after_op o hs ops [] k)
+ends o f h s io hs ops k e a = subst (λ x. Left (Err x) s io (after_op o hs ops [] k)) (sym e) (halts o f s io hs ops k a)
+
+-- so does one of an operation that may fail
+pub faults : {A : Type 0} (o : Op MW A) (f : Fault) (h : Halt) (s : State) (io : Io) (hs : List Handler) (ops : List Operand) (k : A → MW → m.State)
+    → h ≡ halt_of s.world.keys.stno f → AnswersOrFails (Err f) (world_of s.world io) o → Left (Err h) s io (after_op o hs ops [] k)
+faults o (fault.Error x) h s io hs ops k e a = ends o (fault.Error x) h s io hs ops k e a
+faults o (fault.Stop x) h s io hs ops k e a = ends o (fault.Stop x) h s io hs ops k e a
+
+-- ---- some operation answers so
+
+pub some_answer : {A : Type 0} (r : Result A Fault) (w : MW) → (o : Op MW A) × Answers r w o
+some_answer (Ok a) w = (Gives a w, refl)
+some_answer (Err (fault.Error e)) w = (Faults e w, refl)
+some_answer (Err (fault.Stop s)) w = (Refuses w, tt)
+
+pub some_answer_or_failure : {A : Type 0} (r : Result (Option A) Fault) (w : MW) → (o : Op MW A) × AnswersOrFails r w o
+some_answer_or_failure (Ok (Some a)) w = (Gives a w, refl)
+some_answer_or_failure (Ok None) w = (Refuses w, refl)
+some_answer_or_failure (Err (fault.Error e)) w = (Faults e w, refl)
+some_answer_or_failure (Err (fault.Stop s)) w = (Refuses w, tt)
