@@ -15,6 +15,10 @@ pub enum Job<'a> {
     CompileAndRun { steps: u64 },
     /// Compile a deck to a module.
     Compile { deck: &'a str, module: &'a str },
+    /// Say whether a module is accepted.
+    Check { module: &'a str },
+    /// Show a module's instructions.
+    Show { module: &'a str },
     /// Run a module, at most so many steps.
     Run { module: &'a str, steps: u64 },
 }
@@ -36,11 +40,43 @@ fn command<'a>(alloc: Global) -> Result<Command<'a>, AllocError> {
     let compile = bare(alloc, "compile")
         .arg(file(alloc, "DECK"))?
         .arg(file(alloc, "MODULE"))?;
-    let run = bare(alloc, "run").arg(file(alloc, "MODULE"))?;
+    let check = bare(alloc, "check").arg(file(alloc, "MODULE"))?;
+    let show = bare(alloc, "show").arg(file(alloc, "MODULE"))?;
+    let steps = Arg::new(alloc, "steps")
+        .long("steps")
+        .action(ArgAction::Set);
+    let run = bare(alloc, "run")
+        .arg(file(alloc, "MODULE"))?
+        .arg(steps)?;
     bare(alloc, "sno")
         .no_binary_name(true)
         .subcommand(compile)?
+        .subcommand(check)?
+        .subcommand(show)?
         .subcommand(run)
+}
+
+// The number that digits spell. Nothing, if there is no digit, or another byte, or the number is too large.
+fn number(digits: &str) -> Option<u64> {
+    if digits.is_empty() {
+        return None;
+    }
+    let mut number: u64 = 0;
+    for &byte in digits.as_bytes() {
+        if !byte.is_ascii_digit() {
+            return None;
+        }
+        number = number.checked_mul(10)?.checked_add(u64::from(byte - b'0'))?;
+    }
+    Some(number)
+}
+
+// How many steps a run takes at most, where the words are in order.
+fn steps(matches: &ArgMatches<'_>) -> Option<u64> {
+    match matches.get_str("steps") {
+        Some(digits) => number(digits),
+        None => Some(DEFAULT_STEPS),
+    }
 }
 
 // What the words of a subcommand ask for.
@@ -51,9 +87,11 @@ fn subcommand_job<'a>(name: &str, matches: &ArgMatches<'a>) -> Option<Job<'a>> {
             deck: matches.get_str("DECK")?,
             module,
         }),
+        "check" => Some(Job::Check { module }),
+        "show" => Some(Job::Show { module }),
         "run" => Some(Job::Run {
             module,
-            steps: DEFAULT_STEPS,
+            steps: steps(matches)?,
         }),
         _ => None,
     }

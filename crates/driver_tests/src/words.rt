@@ -1,62 +1,83 @@
 use driver::{Job, Told, read_words};
+use std::alloc::Global;
 use std::test::Fail;
 
+const DEFAULT_STEPS: u64 = 1_000_000_000;
+
+/// Whether the words ask for this.
+fn asks(alloc: Global, words: &[&str], job: Job<'_>) -> bool {
+    match read_words(alloc, words) {
+        Ok(asked) => asked == job,
+        Err(_) => false,
+    }
+}
+
+/// Whether the words are a bad command line.
+fn is_bad(alloc: Global, words: &[&str]) -> bool {
+    matches!(read_words(alloc, words), Err(Told::BadCommandLine))
+}
+
 #[test]
-fn no_words_compile_and_run(rt: HostRuntime) -> Result<(), Fail> {
-    let steps = 1_000_000_000;
-    assert!(rt;
-        matches!(read_words(rt.alloc(), &[]), Ok(Job::CompileAndRun { steps: s }) if s == steps)
-    );
+fn words_that_are_a_job(rt: HostRuntime) -> Result<(), Fail> {
+    let (module, steps) = ("a.mod", DEFAULT_STEPS);
+    let deck = "a.sno";
+    for (words, job) in [
+        (&[][..], Job::CompileAndRun { steps }),
+        (&["compile", "a.sno", "a.mod"], Job::Compile { deck, module }),
+        (&["check", "a.mod"], Job::Check { module }),
+        (&["show", "a.mod"], Job::Show { module }),
+        (&["run", "a.mod"], Job::Run { module, steps }),
+    ] {
+        assert!(rt; asks(rt.alloc(), words, job));
+    }
     Ok(())
 }
 
 #[test]
-fn subcommands_name_their_files(rt: HostRuntime) -> Result<(), Fail> {
-    let Ok(Job::Compile { deck, module }) = read_words(rt.alloc(), &["compile", "a.sno", "a.mod"])
-    else {
-        return Err(Fail::from("compile"));
-    };
-    assert!(rt; deck == "a.sno" && module == "a.mod");
-    let Ok(Job::Run { module, steps }) = read_words(rt.alloc(), &["run", "a.mod"]) else {
-        return Err(Fail::from("run"));
-    };
-    assert!(rt; module == "a.mod" && steps == 1_000_000_000);
+fn steps_are_digits(rt: HostRuntime) -> Result<(), Fail> {
+    for (words, steps) in [
+        (&["run", "a.mod", "--steps", "0"][..], 0),
+        (&["run", "a.mod", "--steps", "1000"], 1000),
+        (&["run", "a.mod", "--steps=1000"], 1000),
+        (&["run", "--steps", "1000", "a.mod"], 1000),
+        (
+            &["run", "a.mod", "--steps", "0000000000000000000000000007"],
+            7,
+        ),
+        (
+            &["run", "a.mod", "--steps", "18446744073709551615"],
+            u64::MAX,
+        ),
+    ] {
+        let module = "a.mod";
+        assert!(rt; asks(rt.alloc(), words, Job::Run { module, steps }));
+    }
     Ok(())
 }
 
 #[test]
 fn other_words_are_a_bad_command_line(rt: HostRuntime) -> Result<(), Fail> {
-    assert!(rt; matches!(read_words(rt.alloc(), &["run"]), Err(Told::BadCommandLine)));
-    assert!(rt;
-        matches!(
-            read_words(rt.alloc(), &["compile", "a.sno"]),
-            Err(Told::BadCommandLine)
-        )
-    );
-    assert!(rt;
-        matches!(
-            read_words(rt.alloc(), &["run", "a.mod", "b.mod"]),
-            Err(Told::BadCommandLine)
-        )
-    );
-    assert!(rt;
-        matches!(
-            read_words(rt.alloc(), &["--help"]),
-            Err(Told::BadCommandLine)
-        )
-    );
-    assert!(rt;
-        matches!(
-            read_words(rt.alloc(), &["--version"]),
-            Err(Told::BadCommandLine)
-        )
-    );
-    assert!(rt; matches!(read_words(rt.alloc(), &["help"]), Err(Told::BadCommandLine)));
-    assert!(rt;
-        matches!(
-            read_words(rt.alloc(), &["deck.sno"]),
-            Err(Told::BadCommandLine)
-        )
-    );
+    for words in [
+        &["run"][..],
+        &["compile", "a.sno"],
+        &["check"],
+        &["show", "a.mod", "b.mod"],
+        &["run", "a.mod", "b.mod"],
+        &["run", "a.mod", "--steps"],
+        &["run", "a.mod", "--steps", ""],
+        &["run", "a.mod", "--steps", "-1"],
+        &["run", "a.mod", "--steps", "+1"],
+        &["run", "a.mod", "--steps", "1 "],
+        &["run", "a.mod", "--steps", "18446744073709551616"],
+        &["run", "a.mod", "--steps", "1", "--steps", "1"],
+        &["check", "a.mod", "--steps", "1"],
+        &["--steps", "1"],
+        &["--help"],
+        &["--version"],
+        &["help"],
+        &["deck.sno"],
+    ] {
+        assert!(rt; is_bad(rt.alloc(), words));
+    }
     Ok(())
 }
