@@ -45,9 +45,7 @@ fn command<'a>(alloc: Global) -> Result<Command<'a>, AllocError> {
     let steps = Arg::new(alloc, "steps")
         .long("steps")
         .action(ArgAction::Set);
-    let run = bare(alloc, "run")
-        .arg(file(alloc, "MODULE"))?
-        .arg(steps)?;
+    let run = bare(alloc, "run").arg(file(alloc, "MODULE"))?.arg(steps)?;
     bare(alloc, "sno")
         .no_binary_name(true)
         .subcommand(compile)?

@@ -23,7 +23,10 @@ fn words_that_are_a_job(rt: HostRuntime) -> Result<(), Fail> {
     let deck = "a.sno";
     for (words, job) in [
         (&[][..], Job::CompileAndRun { steps }),
-        (&["compile", "a.sno", "a.mod"], Job::Compile { deck, module }),
+        (
+            &["compile", "a.sno", "a.mod"],
+            Job::Compile { deck, module },
+        ),
         (&["check", "a.mod"], Job::Check { module }),
         (&["show", "a.mod"], Job::Show { module }),
         (&["run", "a.mod"], Job::Run { module, steps }),

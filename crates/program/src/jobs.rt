@@ -1,9 +1,7 @@
 //! What is done for each row of the table of words.
 
 use crate::files::{read_file, read_input, write_file};
-use driver::{
-    Job, ShowFault, Told, check_module, compile_deck, run_deck, run_module, show,
-};
+use driver::{Job, ShowFault, Told, check_module, compile_deck, run_deck, run_module, show};
 use model::{Status, Stop, UnitFault};
 use std::fs::Files;
 use std::io::{self, BufWriter, Input, Print, Write};
