@@ -108,8 +108,8 @@ fn decks_that_match(rt: HostRuntime) {
             "A\nAB\n",
         ),
         (
-            " S = DUPL('A',5000)\n S POS(0) ARBNO(LEN(1) . X | 'Z') RPOS(0)\n OUTPUT = X SIZE(S)\nEND\n",
-            "A5000\n",
+            " S = DUPL('A',1000)\n S POS(0) ARBNO(LEN(1) . X | 'Z') RPOS(0)\n OUTPUT = X SIZE(S)\nEND\n",
+            "A1000\n",
         ),
         (
             " S = 'AB'\n S LEN(1) . C = C C\n OUTPUT = S\nEND\n",
