@@ -17,4 +17,4 @@ pub use running::run_module;
 pub use showing::{ShowFault, check_module, show};
 pub use telling::{Told, WriteFault, report};
 pub use whole::run_deck;
-pub use words::{Job, read_words};
+pub use words::{Job, UnitFile, read_words};

@@ -1,29 +1,48 @@
 //! What is done for each row of the table of words.
 
 use crate::files::{read_file, read_input, write_file};
-use driver::{Job, ShowFault, Told, check_module, compile_deck, run_deck, run_module, show};
+use driver::{
+    Job, ShowFault, Told, UnitFile, check_module, compile_deck, run_deck, run_module, show,
+};
 use model::{Status, Stop, UnitFault};
 use std::fs::Files;
 use std::io::{self, BufWriter, Input, Print, Write};
 use unit_io::FileUnits;
 
-/// The status of a run after what it kept back for standard output was written.
-fn flushed(status: Status, written: Result<(), UnitFault>) -> Status {
+/// The status of a run after what it kept back was written, but for the unit that is told.
+fn flushed(status: Status, written: Result<(), u8>) -> Status {
     match (status, written) {
         (Status::Stopped(stop), _) => Status::Stopped(stop),
-        (_, Err(cause)) => Status::Stopped(Stop::Unit { unit: 6, cause }),
+        (_, Err(unit)) => Status::Stopped(Stop::Unit {
+            unit,
+            cause: UnitFault::WriteFailed,
+        }),
         (status, Ok(())) => status,
     }
 }
 
-fn compile_and_run<R: Input + Print + AllocGlobal>(
+/// Standard input and output, and the files that are given.
+fn units_of<'a, R: Files + Input + Print + AllocGlobal>(
+    rt: &'a R,
+    files: &[UnitFile<'a>],
+) -> Result<FileUnits<'a, R>, Told<'static>> {
+    let Ok(mut units) = FileUnits::new(rt.alloc(), rt) else {
+        return Err(Told::NoMemory);
+    };
+    for given in files {
+        if units.give(given.unit, given.file).is_err() {
+            return Err(Told::NoMemory);
+        }
+    }
+    Ok(units)
+}
+
+fn compile_and_run<R: Files + Input + Print + AllocGlobal>(
     rt: &R,
     steps: u64,
 ) -> Result<Status, Told<'static>> {
     let deck = read_input(rt)?;
-    let Ok(mut units) = FileUnits::new(rt.alloc(), rt) else {
-        return Err(Told::NoMemory);
-    };
+    let mut units = units_of(rt, &[])?;
     match run_deck(rt.alloc(), &deck, &mut units, steps) {
         Ok(status) => Ok(flushed(status, units.flush())),
         Err(refusal) => Err(Told::Refused(refusal)),
@@ -80,11 +99,10 @@ fn run_file<'a, R: Files + Input + Print + AllocGlobal>(
     rt: &R,
     module: &'a str,
     steps: u64,
+    files: &[UnitFile<'_>],
 ) -> Result<Status, Told<'a>> {
     let bytes = read_file(rt, module)?;
-    let Ok(mut units) = FileUnits::new(rt.alloc(), rt) else {
-        return Err(Told::NoMemory);
-    };
+    let mut units = units_of(rt, files)?;
     match run_module(rt.alloc(), &bytes, &mut units, steps) {
         Ok(status) => Ok(flushed(status, units.flush())),
         Err(fault) => Err(Told::BadModule(fault)),
@@ -109,6 +127,10 @@ pub(crate) fn perform<'a, R: Files + Input + Print + AllocGlobal>(
         Job::Compile { deck, module } => compile(rt, deck, module).err(),
         Job::Check { module } => check(rt, module).err(),
         Job::Show { module } => show_module(rt, module).err(),
-        Job::Run { module, steps } => told_of(run_file(rt, module, steps)),
+        Job::Run {
+            module,
+            steps,
+            files,
+        } => told_of(run_file(rt, module, steps, &files)),
     }
 }
