@@ -4,6 +4,7 @@
 mod compiling;
 mod refusal;
 mod running;
+mod showing;
 mod telling;
 mod whole;
 mod words;
@@ -11,6 +12,7 @@ mod words;
 pub use compiling::compile_deck;
 pub use refusal::Refusal;
 pub use running::run_module;
+pub use showing::{ShowFault, check_module, show};
 pub use telling::{Told, WriteFault, report};
 pub use whole::run_deck;
-pub use words::{Job, read_words};
+pub use words::{Job, UnitFile, read_words};

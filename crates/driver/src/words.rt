@@ -8,15 +8,42 @@ use std::alloc::{AllocError, Global};
 /// How many steps a run takes at most, where the words don't tell.
 const DEFAULT_STEPS: u64 = 1_000_000_000;
 
-/// What the program is asked to do.
+/// The last unit.
+const MOST_UNIT: u8 = 99;
+
+/// A file that is given for a unit.
 #[derive(Clone, Copy, Debug, PartialEq, Eq)]
+pub struct UnitFile<'a> {
+    pub unit: u8,
+    pub file: &'a str,
+}
+
+/// What the program is asked to do.
+#[derive(Debug, Drop)]
 pub enum Job<'a> {
     /// Compile the deck on standard input and run its module.
-    CompileAndRun { steps: u64 },
+    CompileAndRun {
+        steps: u64,
+    },
     /// Compile a deck to a module.
-    Compile { deck: &'a str, module: &'a str },
-    /// Run a module, at most so many steps.
-    Run { module: &'a str, steps: u64 },
+    Compile {
+        deck: &'a str,
+        module: &'a str,
+    },
+    /// Say whether a module is accepted.
+    Check {
+        module: &'a str,
+    },
+    /// Show a module's instructions.
+    Show {
+        module: &'a str,
+    },
+    /// Run a module, at most so many steps. No two files are given for one unit.
+    Run {
+        module: &'a str,
+        steps: u64,
+        files: Vec<UnitFile<'a>>,
+    },
 }
 
 // A word that must be there.
@@ -36,26 +63,105 @@ fn command<'a>(alloc: Global) -> Result<Command<'a>, AllocError> {
     let compile = bare(alloc, "compile")
         .arg(file(alloc, "DECK"))?
         .arg(file(alloc, "MODULE"))?;
-    let run = bare(alloc, "run").arg(file(alloc, "MODULE"))?;
+    let check = bare(alloc, "check").arg(file(alloc, "MODULE"))?;
+    let show = bare(alloc, "show").arg(file(alloc, "MODULE"))?;
+    let steps = Arg::new(alloc, "steps")
+        .long("steps")
+        .action(ArgAction::Set);
+    let files = Arg::new(alloc, "UNIT=FILE")
+        .num_args(0..)
+        .action(ArgAction::Append);
+    let run = bare(alloc, "run")
+        .arg(file(alloc, "MODULE"))?
+        .arg(files)?
+        .arg(steps)?;
     bare(alloc, "sno")
         .no_binary_name(true)
         .subcommand(compile)?
+        .subcommand(check)?
+        .subcommand(show)?
         .subcommand(run)
 }
 
+// The number that digits spell. Nothing, if there is no digit, or another byte, or the number is too large.
+fn number(digits: &str) -> Option<u64> {
+    if digits.is_empty() {
+        return None;
+    }
+    let mut number: u64 = 0;
+    for &byte in digits.as_bytes() {
+        if !byte.is_ascii_digit() {
+            return None;
+        }
+        number = number.checked_mul(10)?.checked_add(u64::from(byte - b'0'))?;
+    }
+    Some(number)
+}
+
+// How many steps a run takes at most, where the words are in order.
+fn steps(matches: &ArgMatches<'_>) -> Option<u64> {
+    match matches.get_str("steps") {
+        Some(digits) => number(digits),
+        None => Some(DEFAULT_STEPS),
+    }
+}
+
+// The file that a word gives for a unit, where the word is in order.
+fn unit_file<'a>(word: &'a str) -> Option<UnitFile<'a>> {
+    let (unit, file) = word.split_once('=')?;
+    let unit = u8::try_from(number(unit)?).ok()?;
+    if unit > MOST_UNIT || file.is_empty() {
+        return None;
+    }
+    Some(UnitFile { unit, file })
+}
+
+// The files that words give for units, at most one for each.
+fn unit_files<'a>(alloc: Global, words: &[&'a str]) -> Result<Vec<UnitFile<'a>>, Told<'static>> {
+    let mut files: Vec<UnitFile<'a>> = Vec::new(alloc);
+    for word in words {
+        let given = unit_file(word).ok_or(Told::BadCommandLine)?;
+        if files.iter().any(|file| file.unit == given.unit) {
+            return Err(Told::BadCommandLine);
+        }
+        if files.push(given).is_err() {
+            return Err(Told::NoMemory);
+        }
+    }
+    Ok(files)
+}
+
+// What the words of `run` ask for.
+fn run_job<'a>(
+    alloc: Global,
+    module: &'a str,
+    matches: &ArgMatches<'a>,
+) -> Result<Job<'a>, Told<'static>> {
+    let steps = steps(matches).ok_or(Told::BadCommandLine)?;
+    let files = unit_files(alloc, matches.get_strs("UNIT=FILE").unwrap_or(&[]))?;
+    Ok(Job::Run {
+        module,
+        steps,
+        files,
+    })
+}
+
 // What the words of a subcommand ask for.
-fn subcommand_job<'a>(name: &str, matches: &ArgMatches<'a>) -> Option<Job<'a>> {
-    let module = matches.get_str("MODULE")?;
+fn subcommand_job<'a>(
+    alloc: Global,
+    name: &str,
+    matches: &ArgMatches<'a>,
+) -> Result<Job<'a>, Told<'static>> {
+    let module = matches.get_str("MODULE").ok_or(Told::BadCommandLine)?;
     match name {
-        "compile" => Some(Job::Compile {
-            deck: matches.get_str("DECK")?,
-            module,
-        }),
-        "run" => Some(Job::Run {
-            module,
-            steps: DEFAULT_STEPS,
-        }),
-        _ => None,
+        "compile" => {
+            let deck = matches.get_str("DECK").ok_or(Told::BadCommandLine)?;
+            Ok(Job::Compile { deck, module })
+        }
+        "check" => Ok(Job::Check { module }),
+        "show" => Ok(Job::Show { module }),
+        "run" => run_job(alloc, module, matches),
+        _ => Err(Told::BadCommandLine),
     }
 }
 
@@ -80,5 +186,5 @@ pub fn read_words<'a>(alloc: Global, words: &'a [&'a str]) -> Result<Job<'a>, To
             steps: DEFAULT_STEPS,
         });
     };
-    subcommand_job(name, inner).ok_or(Told::BadCommandLine)
+    subcommand_job(alloc, name, inner)
 }

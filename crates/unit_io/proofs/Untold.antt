@@ -1,6 +1,5 @@
 -- Units that don't tell their records meet every read and every write.
-use Rattle.std.proofs.Common.{◌≡◌, ℕ, List, [], ◌∷◌, Option, Some, None, refl, Ok, Err}
-use Rattle.std.specs.Prelude.{Result, IfOk}
+use Rattle.std.proofs.Common.{◌≡◌, ℕ, List, [], ◌∷◌, Option, Some, None, refl}
 use Rattle.model.specs.Units.{Reads, Writes}
 
 pub untold_read : (unit : ℕ) (got : Option (List ℕ)) → Reads unit got None None
@@ -9,7 +8,3 @@ untold_read unit (Some r) = (record { left = λ u. r ∷ []; printed = [] }, tt,
 
 pub untold_write : (unit : ℕ) (bytes : List ℕ) → Writes unit bytes None None
 untold_write unit bytes = (record { left = λ u. []; printed = [] }, tt)
-
-pub untold_reads : {E : Type 0} (unit : ℕ) (result : Result (Option (List ℕ)) E) → IfOk result (λ got. Reads unit got None None)
-untold_reads unit (Ok got) = untold_read unit got
-untold_reads unit (Err e) = tt

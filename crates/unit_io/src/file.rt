@@ -1,30 +1,34 @@
-//! Units on standard input and standard output.
+//! Units on standard input, standard output and files.
 
 ghost use Rattle.std.specs.Prelude.{◌≡◌, ◌≤◌, ℕ, IfOk, IfErr, replicate};
 ghost use Rattle.model.specs.Units.{IsCounted};
 ghost use Rattle.unit_io.specs.Counts.{count_of};
 
 use crate::counts::Counts;
+use crate::given::{GivenFile, read_records, write_line};
 use crate::records::Records;
 use crate::units::Units;
 use model::UnitFault;
 use std::alloc::{AllocError, Global};
+use std::fs::Files;
 use std::io;
-use std::io::{BufWriter, ErrorKind, Input, Print, Printer, Read, Write};
+use std::io::{BufWriter, Input, Print, Printer, Write};
 use strings::Text;
 
-/// Unit 5 is standard input, which is read whole at its first use; unit 6 is standard output, which is written at the
-/// latest by `flush`. No other unit is open. They don't tell their records.
+/// Unit 5 is standard input, which is read whole at its first use, and unit 6 is standard output, unless files are given
+/// for them. Other units are open where files are given for them. What is written is kept back until `flush` at the
+/// latest. They don't tell their records.
 #[derive(Drop)]
-pub struct FileUnits<'a, R: Input + Print> {
+pub struct FileUnits<'a, R: Files + Input + Print> {
     rt: &'a R,
     alloc: Global,
     input: Option<Records>,
     output: BufWriter<Printer<'a, R>>,
+    given: Vec<GivenFile<'a, R::File>>,
     counts: Counts,
 }
 
-impl<'a, R: Input + Print> FileUnits<'a, R> {
+impl<'a, R: Files + Input + Print> FileUnits<'a, R> {
     /// The units of a program that runs on `rt`.
     pub fn new(alloc: Global, rt: &'a R) -> io::Result<FileUnits<'a, R>>
         ensures { IfOk result (λ units. units.counts ≡ replicate 256 0) }
@@ -34,43 +38,100 @@ impl<'a, R: Input + Print> FileUnits<'a, R> {
             alloc,
             input: None,
             output: BufWriter::new(alloc, io::writer(rt))?,
+            given: Vec::new(alloc),
             counts: Counts::new(),
         })
     }
 
-    /// Writes what was kept back for standard output.
-    pub fn flush(&mut self) -> Result<(), UnitFault>
-        ensures counted { IfErr result (λ fault. IsCounted fault (count_of self.old.counts 6) (count_of self.new.counts 6)) }
-        ensures grows { (u : ℕ) → count_of self.old.counts u ≤ count_of self.new.counts u }
+    /// Gives a file for a unit. It is opened at its first use, and created or emptied if that is a write; the other use
+    /// is then refused.
+    pub fn give(&mut self, unit: u8, path: &'a str) -> Result<(), AllocError>
+        ensures { self.new.counts ≡ self.old.counts }
     {
-        if self.output.flush().is_err() {
-            self.counts.add(6);
-            return Err(UnitFault::WriteFailed);
-        }
+        self.given.push(GivenFile::new(unit, path))?;
         Ok(())
     }
 
-    // All of standard input.
-    fn read_input(&mut self) -> Result<Records, UnitFault>
-        ensures counted { IfErr result (λ fault. IsCounted fault (count_of self.old.counts 5) (count_of self.new.counts 5)) }
+    /// Writes what was kept back, or tells the unit that could not be written, the first of them.
+    pub fn flush(&mut self) -> Result<(), u8>
+        ensures counted { IfErr result (λ unit. IsCounted UnitFault.WriteFailed (count_of self.old.counts unit) (count_of self.new.counts unit)) }
         ensures grows { (u : ℕ) → count_of self.old.counts u ≤ count_of self.new.counts u }
     {
-        let mut bytes = Vec::new(self.alloc);
-        if let Err(error) = self.rt.reader().read_to_end(&mut bytes) {
-            if error.kind() == ErrorKind::OutOfMemory {
-                return Err(UnitFault::Memory);
+        let mut failed = None;
+        if self.output.flush().is_err() {
+            failed = Some(6);
+        }
+        for file in &mut self.given {
+            if file.flush().is_err() && failed.is_none() {
+                failed = Some(file.unit());
             }
-            self.counts.add(5);
-            return Err(UnitFault::ReadFailed);
         }
-        match Text::from_vec(bytes) {
-            Ok(text) => Ok(Records::of(text)),
-            Err(_) => Err(UnitFault::Memory),
+        match failed {
+            None => Ok(()),
+            Some(unit) => {
+                self.counts.add(unit);
+                Err(unit)
+            }
         }
+    }
+
+    // Counts a fault of a unit, unless it is want of memory.
+    fn counted(&mut self, unit: u8, fault: UnitFault) -> UnitFault
+        ensures same { result ≡ fault }
+        ensures counted { IsCounted fault (count_of self.old.counts unit) (count_of self.new.counts unit) }
+        ensures grows { (u : ℕ) → count_of self.old.counts u ≤ count_of self.new.counts u }
+    {
+        if fault != UnitFault::Memory {
+            self.counts.add(unit);
+        }
+        fault
+    }
+
+    // The first record that is left on standard input.
+    fn read_standard(&mut self) -> Result<Option<Text>, UnitFault>
+        ensures { self.new.counts ≡ self.old.counts }
+    {
+        if self.input.is_none() {
+            // What a program printed stands there before it reads; a failure is told at the next write.
+            let _ = self.output.flush();
+            self.input = Some(read_records(self.alloc, &mut self.rt.reader())?);
+        }
+        match &mut self.input {
+            Some(records) => records.take_first(),
+            None => unreachable!(),
+        }
+    }
+
+    fn read_from(&mut self, unit: u8) -> Result<Option<Text>, UnitFault>
+        ensures { self.new.counts ≡ self.old.counts }
+    {
+        for file in &mut self.given {
+            if file.unit() == unit {
+                return file.read_record(self.alloc, self.rt);
+            }
+        }
+        if unit != 5 {
+            return Err(UnitFault::NotOpen);
+        }
+        self.read_standard()
+    }
+
+    fn write_to(&mut self, unit: u8, bytes: &[u8]) -> Result<(), UnitFault>
+        ensures { self.new.counts ≡ self.old.counts }
+    {
+        for file in &mut self.given {
+            if file.unit() == unit {
+                return file.write_record(self.alloc, self.rt, bytes);
+            }
+        }
+        if unit != 6 {
+            return Err(UnitFault::NotOpen);
+        }
+        write_line(&mut self.output, bytes)
     }
 }
 
-impl<R: Input + Print> Units for FileUnits<'_, R> {
+impl<R: Files + Input + Print> Units for FileUnits<'_, R> {
     ghost use Rattle.std.specs.Prelude.{None};
     ghost use Rattle.unit_io.specs.Counts.{count_of};
 
@@ -79,30 +140,16 @@ impl<R: Input + Print> Units for FileUnits<'_, R> {
     ghost failures = { λ units. count_of units.counts };
 
     fn read_record(&mut self, unit: u8) -> Result<Option<Text>, UnitFault> {
-        if unit != 5 {
-            self.counts.add(unit);
-            return Err(UnitFault::NotOpen);
-        }
-        if self.input.is_none() {
-            // What a program printed stands there before it reads; a failure is told at the next write.
-            let _ = self.output.flush();
-            self.input = Some(self.read_input()?);
-        }
-        match &mut self.input {
-            Some(records) => records.take_first(),
-            None => unreachable!(),
+        match self.read_from(unit) {
+            Ok(got) => Ok(got),
+            Err(fault) => Err(self.counted(unit, fault)),
         }
     }
 
     fn write_record(&mut self, unit: u8, bytes: &[u8]) -> Result<(), UnitFault> {
-        if unit != 6 {
-            self.counts.add(unit);
-            return Err(UnitFault::NotOpen);
+        match self.write_to(unit, bytes) {
+            Ok(()) => Ok(()),
+            Err(fault) => Err(self.counted(unit, fault)),
         }
-        if self.output.write_all(bytes).is_err() || self.output.write_all(b"\n").is_err() {
-            self.counts.add(unit);
-            return Err(UnitFault::WriteFailed);
-        }
-        Ok(())
     }
 }

@@ -3,6 +3,7 @@
 
 mod counts;
 mod file;
+mod given;
 mod lines;
 mod mem;
 mod records;

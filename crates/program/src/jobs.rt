@@ -1,0 +1,136 @@
+//! What is done for each row of the table of words.
+
+use crate::files::{read_file, read_input, write_file};
+use driver::{
+    Job, ShowFault, Told, UnitFile, check_module, compile_deck, run_deck, run_module, show,
+};
+use model::{Status, Stop, UnitFault};
+use std::fs::Files;
+use std::io::{self, BufWriter, Input, Print, Write};
+use unit_io::FileUnits;
+
+/// The status of a run after what it kept back was written, but for the unit that is told.
+fn flushed(status: Status, written: Result<(), u8>) -> Status {
+    match (status, written) {
+        (Status::Stopped(stop), _) => Status::Stopped(stop),
+        (_, Err(unit)) => Status::Stopped(Stop::Unit {
+            unit,
+            cause: UnitFault::WriteFailed,
+        }),
+        (status, Ok(())) => status,
+    }
+}
+
+/// Standard input and output, and the files that are given.
+fn units_of<'a, R: Files + Input + Print + AllocGlobal>(
+    rt: &'a R,
+    files: &[UnitFile<'a>],
+) -> Result<FileUnits<'a, R>, Told<'static>> {
+    let Ok(mut units) = FileUnits::new(rt.alloc(), rt) else {
+        return Err(Told::NoMemory);
+    };
+    for given in files {
+        if units.give(given.unit, given.file).is_err() {
+            return Err(Told::NoMemory);
+        }
+    }
+    Ok(units)
+}
+
+fn compile_and_run<R: Files + Input + Print + AllocGlobal>(
+    rt: &R,
+    steps: u64,
+) -> Result<Status, Told<'static>> {
+    let deck = read_input(rt)?;
+    let mut units = units_of(rt, &[])?;
+    match run_deck(rt.alloc(), &deck, &mut units, steps) {
+        Ok(status) => Ok(flushed(status, units.flush())),
+        Err(refusal) => Err(Told::Refused(refusal)),
+    }
+}
+
+fn compile<'a, R: Files + AllocGlobal>(
+    rt: &R,
+    deck: &'a str,
+    module: &'a str,
+) -> Result<(), Told<'a>> {
+    let bytes = read_file(rt, deck)?;
+    match compile_deck(rt.alloc(), &bytes) {
+        Ok(spelling) => write_file(rt, module, &spelling),
+        Err(refusal) => Err(Told::Refused(refusal)),
+    }
+}
+
+fn print_ok<R: Print>(rt: &R) -> Result<(), Told<'static>> {
+    match println!(rt; "ok") {
+        Ok(()) => Ok(()),
+        Err(_) => Err(Told::CannotWrite("standard output")),
+    }
+}
+
+fn check<'a, R: Files + Print + AllocGlobal>(rt: &R, module: &'a str) -> Result<(), Told<'a>> {
+    let bytes = read_file(rt, module)?;
+    match check_module(rt.alloc(), &bytes) {
+        Ok(()) => print_ok(rt),
+        Err(fault) => Err(Told::BadModule(fault)),
+    }
+}
+
+fn show_module<'a, R: Files + Print + AllocGlobal>(
+    rt: &R,
+    module: &'a str,
+) -> Result<(), Told<'a>> {
+    let bytes = read_file(rt, module)?;
+    let Ok(mut out) = BufWriter::new(rt.alloc(), io::writer(rt)) else {
+        return Err(Told::NoMemory);
+    };
+    match show(rt.alloc(), &bytes, &mut out) {
+        Ok(()) => (),
+        Err(ShowFault::Module(fault)) => return Err(Told::BadModule(fault)),
+        Err(ShowFault::Write(_)) => return Err(Told::CannotWrite("standard output")),
+    }
+    match out.flush() {
+        Ok(()) => Ok(()),
+        Err(_) => Err(Told::CannotWrite("standard output")),
+    }
+}
+
+fn run_file<'a, R: Files + Input + Print + AllocGlobal>(
+    rt: &R,
+    module: &'a str,
+    steps: u64,
+    files: &[UnitFile<'_>],
+) -> Result<Status, Told<'a>> {
+    let bytes = read_file(rt, module)?;
+    let mut units = units_of(rt, files)?;
+    match run_module(rt.alloc(), &bytes, &mut units, steps) {
+        Ok(status) => Ok(flushed(status, units.flush())),
+        Err(fault) => Err(Told::BadModule(fault)),
+    }
+}
+
+/// What is told of a job that leads to a status, or fails.
+fn told_of<'a>(done: Result<Status, Told<'a>>) -> Option<Told<'a>> {
+    match done {
+        Ok(status) => Some(Told::Ran(status)),
+        Err(told) => Some(told),
+    }
+}
+
+/// Does what it is asked to do, and says what is to be told, if anything.
+pub(crate) fn perform<'a, R: Files + Input + Print + AllocGlobal>(
+    rt: &R,
+    job: Job<'a>,
+) -> Option<Told<'a>> {
+    match job {
+        Job::CompileAndRun { steps } => told_of(compile_and_run(rt, steps)),
+        Job::Compile { deck, module } => compile(rt, deck, module).err(),
+        Job::Check { module } => check(rt, module).err(),
+        Job::Show { module } => show_module(rt, module).err(),
+        Job::Run {
+            module,
+            steps,
+            files,
+        } => told_of(run_file(rt, module, steps, &files)),
+    }
+}

@@ -1,0 +1,76 @@
+//! What the program does: its words, its files, its lines and its exit status.
+#![tactic(auto)]
+
+mod files;
+mod jobs;
+
+use crate::jobs::perform;
+use driver::{Told, read_words, report};
+use std::alloc::AllocError;
+use std::env::{self, Env};
+use std::fs::Files;
+use std::io::{ErrorKind, Input, Print, Write};
+use std::process::ExitCode;
+
+/// The exit status where nothing can be told, since standard error takes no line.
+const NOTHING_TOLD: u8 = 6;
+
+/// The words after the program's name. One that isn't UTF-8 makes the command line a bad one.
+fn read_arguments<R: Env + AllocGlobal>(rt: &R) -> Result<Vec<String>, Told<'static>> {
+    let arguments = match env::args(rt) {
+        Ok(arguments) => arguments,
+        Err(error) if error.kind() == ErrorKind::OutOfMemory => return Err(Told::NoMemory),
+        Err(_) => return Err(Told::BadCommandLine),
+    };
+    let mut words = Vec::new(rt.alloc());
+    for argument in arguments.skip(1) {
+        if words.push(argument).is_err() {
+            return Err(Told::NoMemory);
+        }
+    }
+    Ok(words)
+}
+
+fn borrowed<'a, R: AllocGlobal>(
+    rt: &R,
+    arguments: &'a [String],
+) -> Result<Vec<&'a str>, AllocError> {
+    let mut words = Vec::new(rt.alloc());
+    for argument in arguments {
+        words.push(argument.as_str())?;
+    }
+    Ok(words)
+}
+
+fn answer<'a, R: Files + Input + Print + AllocGlobal>(
+    rt: &R,
+    words: &'a [&'a str],
+) -> Option<Told<'a>> {
+    match read_words(rt.alloc(), words) {
+        Ok(job) => perform(rt, job),
+        Err(told) => Some(told),
+    }
+}
+
+/// Tells it, and gives the exit status.
+fn tell<W: Write>(told: &Told<'_>, errors: &mut W) -> ExitCode {
+    ExitCode::from(report(told, errors).unwrap_or(NOTHING_TOLD))
+}
+
+/// Does what the program's words ask for, tells what is to be told as lines of `errors`, and gives the exit status.
+pub fn run<R: Env + Files + Input + Print + AllocGlobal, W: Write>(
+    rt: &R,
+    errors: &mut W,
+) -> ExitCode {
+    let arguments = match read_arguments(rt) {
+        Ok(arguments) => arguments,
+        Err(told) => return tell(&told, errors),
+    };
+    let Ok(words) = borrowed(rt, &arguments) else {
+        return tell(&Told::NoMemory, errors);
+    };
+    match answer(rt, &words) {
+        Some(told) => tell(&told, errors),
+        None => ExitCode::SUCCESS,
+    }
+}
