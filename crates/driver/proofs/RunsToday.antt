@@ -9,7 +9,7 @@ use Rattle.model.specs.Programs.{labelled_from}
 use Rattle.model.specs.Trees.{Bytes, Expr, Name, Integer, Literal, Keyword, Call, Reference, Apply, Combine, Goto, Next, Always, OnSuccess, OnFailure, Both, Body, Nothing, Evaluate, Match, Assign, Replace, Stmt, Plain, End}
 use Rattle.model.specs.Weights as weights
 use Rattle.expr_codegen.specs.Code.{Part, nothing, one, with_string, ◌>>◌, handled, name}
-use Rattle.codegen.specs.Layout.{object, assignment, body, statement, statements, statements_of, expressions, expressions_of, joined, image_of}
+use Rattle.codegen.specs.Layout.{object, assignment, body, statement, statements, statements_of, expressions, expressions_of, joined, image_of, offsets}
 use Rattle.codegen_laws.proofs.Standing.{all_join}
 use Rattle.loader.specs.Running.{AreRunYet, IsRunYet}
 use Rattle.driver.specs.Fragment.{is_output, is_literal, prints_literal, is_next, runs_today, fault_unless, not_yet}
@@ -120,3 +120,16 @@ run_yet ss e =
     let h = statements_run (labelled_from 1 ss) 1 ss e in
     let g = nothing_left (weights.total weights.weight ss) (joined (statements_of ss)).later h.later in
     (both (joined (statements_of ss)) (joined (expressions_of ss)) h g).code (image_of ss).strings 0 0
+
+no_parts : (fuel : ℕ) (es : List Expr) → es ≡ [] → expressions fuel es ≡ []
+no_parts zero es e = refl
+no_parts (suc fuel) [] e = refl
+no_parts (suc fuel) (x ∷ es) e = absurd (cc)
+
+-- and none is left for later
+pub evaluated : (ss : List Stmt) → not_yet 1 ss ≡ [] → (image_of ss).expressions ≡ []
+evaluated ss e =
+    let statements = joined (statements_of ss) in
+    let texts = (image_of ss).strings in
+    let none_later = (statements_run (labelled_from 1 ss) 1 ss e).later in
+    ap (λ ps. offsets ps texts (length statements.later) (total (statements.code texts 0 0))) (no_parts (weights.total weights.weight ss) statements.later none_later)

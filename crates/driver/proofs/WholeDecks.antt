@@ -21,7 +21,7 @@ use Rattle.driver.specs.declared.refusal.Refusal.{Refusal}
 use Rattle.driver.specs.declared.refusal.Refusal.TheVariants as refusal
 use Rattle.driver.specs.Compiled.{IsModuleOf, IsRefusalOf, OfCards, OfStatements}
 use Rattle.driver.specs.Fragment.{not_yet}
-use Rattle.driver.proofs.RunsToday.{run_yet}
+use Rattle.driver.proofs.RunsToday.{run_yet, evaluated}
 
 -- ---- verdicts
 
@@ -67,7 +67,7 @@ is_module deck bytes ss image a none i s = record {
   spelt = s ∙ ap spelling i;
   sound = is_sound deck ss a;
   agrees = does_as_meant deck ss a;
-  loads = record { spelt = is_spelt deck ss a; formed = is_sound deck ss a; run_yet = run_yet ss none };
+  loads = record { spelt = is_spelt deck ss a; formed = is_sound deck ss a; run_yet = run_yet ss none; evaluated = evaluated ss none };
 }
 
 -- ---- by lists, as the code has them

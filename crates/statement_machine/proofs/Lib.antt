@@ -1,6 +1,7 @@
 pub mod Beginning
 pub mod Flowing
 pub mod Keys
+pub mod Matching
 pub mod Running
 pub mod Seeing
 pub mod Stopping

@@ -1,4 +1,5 @@
 pub mod Runnable
 pub mod Held
+pub mod Runs
 pub mod Stopped
 pub use Rattle.world.specs.Answers

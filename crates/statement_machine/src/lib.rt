@@ -1,10 +1,13 @@
 //! The machine: a run of a module, step by step.
 #![tactic(auto)]
 
+mod failing;
 mod gotos;
 mod instructions;
 mod machine;
+mod matches;
 mod operators;
+mod run;
 mod state;
 mod status;
 
