@@ -1,6 +1,6 @@
 //! What a match does to the state around it.
 
-ghost use Rattle.std.specs.Prelude.{◌≡◌, ◌≤◌, ℕ, OnOk, IfOk};
+ghost use Rattle.std.specs.Prelude.{◌≡◌, ◌≤◌, ℕ, [], OnOk, IfOk};
 ghost use Rattle.frames.specs.Kinds.{kinds_of};
 ghost use Rattle.frames.specs.Matches.{matching_of};
 ghost use Rattle.frames.specs.View.{operands_of, handlers_of};

@@ -1,5 +1,5 @@
 use Rattle.std.proofs.Common.{sym, ap, ◌∙◌}
-use Rattle.statement_machine.specs.Held.{Held}
+use Rattle.statement_machine.specs.Runs.{Held}
 use Rattle.statement_machine.proofs.Seeing.{ran_on, ran_out, ran_same}
 use Rattle.statement_machine.proofs.machine.Machine.run.Goals as goal
 
