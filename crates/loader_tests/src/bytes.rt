@@ -57,7 +57,7 @@ fn one_byte_more(rt: HostRuntime) -> Result<(), Fail> {
     Ok(())
 }
 
-// DROP and NOLABEL don't run yet.
+// 0x20 and 0x21 are IMM and CURSOR, which don't run yet; 0x17 is DROP, 0x19 UNTRY, and 0x06 NOLABEL.
 #[test]
 fn one_byte_changed(rt: HostRuntime) -> Result<(), Fail> {
     let rows = [
@@ -69,8 +69,11 @@ fn one_byte_changed(rt: HostRuntime) -> Result<(), Fail> {
         (63, 0x07, "offset 73 W3"),
         (67, 0x02, "offset 63 W1"),
         (73, 0xff, "offset 73 F6"),
-        (73, 0x17, "offset 73 F6"),
-        (75, 0x06, "offset 75 F6"),
+        (73, 0x20, "offset 73 F6"),
+        (73, 0x17, "offset 74 W3"),
+        (73, 0x19, "offset 73 W3"),
+        (75, 0x21, "offset 75 F6"),
+        (75, 0x06, "offset 75 W5"),
         (75, 0x02, "offset 75 W2"),
     ];
     for (at, byte, want) in rows {

@@ -99,22 +99,6 @@ impl State {
         self.put(Value::String(text), next)
     }
 
-    /// An integer.
-    pub(crate) fn put_integer(&mut self, n: i64, next: u32) -> Result<(), Halt>
-        ensures left { (im : Image) (io : Io) → Left result self.new io (after im (Instr.Int n) next self.old io) }
-        ensures stop { IfHalted result (λ stop. stop ≡ NoMemory) }
-    {
-        self.put(Value::Integer(n), next)
-    }
-
-    /// The null string.
-    pub(crate) fn put_null(&mut self, next: u32) -> Result<(), Halt>
-        ensures left { (im : Image) (io : Io) → Left result self.new io (after im Instr.Null next self.old io) }
-        ensures stop { IfHalted result (λ stop. stop ≡ NoMemory) }
-    {
-        self.put(Value::null(), next)
-    }
-
     /// The name of a variable.
     pub(crate) fn put_variable(
         &mut self,
