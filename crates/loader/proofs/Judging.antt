@@ -14,7 +14,7 @@ use Rattle.model.specs.Spelling.{IsImage}
 use Rattle.model.specs.WellFormed.{IsTold, IsWellFormed, comes_first, flow_fault, lesser, part_fault}
 use Rattle.loader.specs.Answers.{IsAnswer, IsJudged, IsKnown, IsReadAs, no_memory, verdict}
 use Rattle.loader.specs.Loaded.{IsLoaded}
-use Rattle.loader.specs.Running.{AreRunYet, first_unknown, runs_yet}
+use Rattle.loader.specs.Running.{AreRunYet, first_told, first_unknown, not_yet, runs_yet}
 
 some_run : (o : ℕ) (i : Instr) (is : List Instr) (b : Bool) → (if b then first_unknown (o + bytes i) is else Some o) ≡ None → (b ≡ true) × (first_unknown (o + bytes i) is ≡ None)
 some_run o i is true e = (refl, e)
@@ -27,6 +27,14 @@ all_run o (i ∷ is) e = let r = some_run o i is (runs_yet i) e in (r.0, all_run
 pub none_unknown : (o : ℕ) (is : List Instr) → AreRunYet is → first_unknown o is ≡ None
 none_unknown o [] r = refl
 none_unknown o (i ∷ is) r = rw (r.0) (none_unknown (o + bytes i) is r.1)
+
+all_known : (o : Option ℕ) (es : List ℕ) → first_told o es ≡ None → (o ≡ None) × (es ≡ [])
+all_known (Some at) es e = absurd cc
+all_known None [] e = (refl, refl)
+all_known None (x ∷ es) e = absurd cc
+
+none_not_yet : (im : Image) → AreRunYet im.code → im.expressions ≡ [] → not_yet im ≡ None
+none_not_yet im run none = rw (none_unknown 0 im.code run, none) refl
 
 chosen : (b : Bool) (f g : ModuleFault) → (if b then Some g else Some f) ≡ None → ⊥
 chosen true f g e = cc
@@ -50,8 +58,10 @@ well_formed im told =
     let n = neither (part_fault im) (flow_fault im told.0) (sym told.2) in
     record { parts = n.0; flow = least_none im told.0 (no_flow im told.0 n.1) told.1 }
 
-pub loaded : (im : Image) → IsImage im → first_unknown 0 im.code ≡ None → IsTold im None → IsLoaded im
-loaded im spelt known told = record { spelt = spelt; formed = well_formed im told; run_yet = all_run 0 im.code known }
+pub loaded : (im : Image) → IsImage im → not_yet im ≡ None → IsTold im None → IsLoaded im
+loaded im spelt known told =
+    let all = all_known (first_unknown 0 im.code) im.expressions known in
+    record { spelt = spelt; formed = well_formed im told; run_yet = all_run 0 im.code all.0; evaluated = all.1 }
 
 -- ---- what is answered of one that runs
 
@@ -66,7 +76,7 @@ judged im (Some at) result formed e h = absurd cc
 read_as : (bytes : List ℕ) (read : Result Image Miss) (im : Image) (result : Result Image LoadFault) → IsLoaded im → read ≡ Ok im → IsReadAs bytes read result → result ≡ Ok im
 read_as bytes (Ok m) im result runs e h =
     let same : m ≡ im = cc in
-    judged m (first_unknown 0 m.code) result (rw same runs.formed) (rw same (none_unknown 0 im.code runs.run_yet)) h ∙ ap Ok same
+    judged m (not_yet m) result (rw same runs.formed) (rw same (none_not_yet im runs.run_yet runs.evaluated)) h ∙ ap Ok same
 read_as bytes (Err miss) im result runs e h = absurd cc
 
 pub accepted : (bytes : List ℕ) (im : Image) (result : Result Image LoadFault) → IsAnswer bytes result → image_of bytes ≡ Ok im → IsLoaded im → (result ≡ Ok im) ⊎ (result ≡ Err no_memory)
@@ -84,7 +94,7 @@ judged_so bytes im None result e none h = subst (Loads bytes) (sym h.2) (told_so
 judged_so bytes im (Some at) result e none h = absurd cc
 
 read_so : (bytes : List ℕ) (read : Result Image Miss) (result : Result Image LoadFault) → image_of bytes ≡ read → IsKnown bytes → IsReadAs bytes read result → Loads bytes result
-read_so bytes (Ok im) result e known h = judged_so bytes im (first_unknown 0 im.code) result e (none_unknown 0 im.code (known im e)) h
+read_so bytes (Ok im) result e known h = judged_so bytes im (not_yet im) result e (let k = known im e in none_not_yet im k.0 k.1) h
 read_so bytes (Err miss) result e known h = subst (Loads bytes) (sym h) (miss, e, refl)
 
 pub loads : (bytes : List ℕ) (result : Result Image LoadFault) → IsAnswer bytes result → IsKnown bytes → (result ≡ Err no_memory) ⊎ Loads bytes result

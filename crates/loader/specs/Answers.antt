@@ -1,6 +1,6 @@
 -- What is told of bytes: the image that they spell, if it is well-formed and each of its instructions runs yet, or why it
 -- is refused.
-use Rattle.std.specs.Prelude.{◌≡◌, ◌⊎◌, ℕ, ◌+◌, List, Option, Some, None, Result, Ok, Err}
+use Rattle.std.specs.Prelude.{◌≡◌, ◌⊎◌, ℕ, ◌+◌, List, [], Option, Some, None, Result, Ok, Err}
 use Rattle.model.specs.declared.format.FormatRule.TheVariants.{Memory, UnknownInstruction}
 use Rattle.model.specs.declared.format.LoadFault.{LoadFault}
 use Rattle.model.specs.declared.format.LoadFault.TheVariants.{Format, Module}
@@ -10,13 +10,13 @@ use Rattle.model.specs.declared.image.Image.{Image}
 use Rattle.model.specs.Loading.{offset_of}
 use Rattle.model.specs.Reading.{image_of}
 use Rattle.model.specs.WellFormed.{IsTold, code_at}
-use Rattle.loader.specs.Running.{AreRunYet, first_unknown}
+use Rattle.loader.specs.Running.{AreRunYet, not_yet}
 
 -- want of memory, which may be told in place of any other answer
 abbrev pub no_memory : LoadFault
 no_memory = Format (record { offset = 0; rule = Memory })
 
--- an instruction at an offset of the code that doesn't run yet
+-- what stands at an offset of the code and doesn't run yet
 abbrev pub unknown_at : Image → ℕ → LoadFault
 unknown_at im at = Format (record { offset = code_at im + at; rule = UnknownInstruction })
 
@@ -24,7 +24,7 @@ abbrev pub verdict : Image → Option ModuleFault → Result Image LoadFault
 verdict im None = Ok im
 verdict im (Some f) = Err (Module f)
 
--- an image, by the first of its instructions that doesn't run yet
+-- an image, by the first that doesn't run yet
 abbrev pub IsJudged : Image → Option ℕ → Result Image LoadFault → Type 0
 IsJudged im (Some at) result = result ≡ Err (unknown_at im at)
 IsJudged im None result = (fault : Option ModuleFault) × IsTold im fault × (result ≡ verdict im fault)
@@ -32,11 +32,11 @@ IsJudged im None result = (fault : Option ModuleFault) × IsTold im fault × (re
 -- bytes, by what they are read as
 abbrev pub IsReadAs : List ℕ → Result Image Miss → Result Image LoadFault → Type 0
 IsReadAs bytes (Err miss) result = result ≡ Err (Format (offset_of bytes miss))
-IsReadAs bytes (Ok im) result = IsJudged im (first_unknown 0 im.code) result
+IsReadAs bytes (Ok im) result = IsJudged im (not_yet im) result
 
 abbrev pub IsAnswer : List ℕ → Result Image LoadFault → Type 0
 IsAnswer bytes result = (result ≡ Err no_memory) ⊎ IsReadAs bytes (image_of bytes) result
 
--- bytes that spell no image, or one whose instructions all run yet
+-- bytes that spell no image, or one that runs yet: all its instructions, and it has no unevaluated expression
 abbrev pub IsKnown : List ℕ → Type 0
-IsKnown bytes = (im : Image) → image_of bytes ≡ Ok im → AreRunYet im.code
+IsKnown bytes = (im : Image) → image_of bytes ≡ Ok im → AreRunYet im.code × (im.expressions ≡ [])

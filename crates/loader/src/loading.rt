@@ -7,9 +7,9 @@ ghost use Rattle.model.specs.Reading.{image_of};
 ghost use Rattle.model.specs.Spelling.{IsImage};
 ghost use Rattle.loader.specs.Answers.{IsAnswer, IsJudged, IsKnown, no_memory};
 ghost use Rattle.loader.specs.Loaded.{IsLoaded};
-ghost use Rattle.loader.specs.Running.{first_unknown};
+ghost use Rattle.loader.specs.Running.{not_yet};
 
-use crate::code::{first_unknown, offsets_of};
+use crate::code::{not_yet, offsets_of};
 use crate::joining::fault_of;
 use crate::module::Module;
 use crate::places::code_offset;
@@ -20,9 +20,9 @@ use std::alloc::{AllocError, Global};
 // The module of an image, or why it is refused.
 fn judge(alloc: Global, image: Image) -> Result<Result<Module, LoadFault>, AllocError>
     requires { IsImage image }
-    ensures { IfOk result (λ answer. IsJudged image (first_unknown 0 image.code) answer) }
+    ensures { IfOk result (λ answer. IsJudged image (not_yet image) answer) }
 {
-    if let Some(at) = first_unknown(&image) {
+    if let Some(at) = not_yet(&image) {
         return Ok(Err(LoadFault::Format(FormatFault {
             offset: code_offset(&image, at),
             rule: FormatRule::UnknownInstruction,
@@ -52,7 +52,7 @@ fn answer(alloc: Global, bytes: &[u8]) -> Result<Module, LoadFault>
 }
 
 /// The module that bytes spell, or why it is refused: the first format fault; else the first instruction that doesn't run
-/// yet; else the least fault of the conditions. Where a growth was refused that is told in place of any other answer.
+/// yet, or else unevaluated expressions, which don't; else the least fault of the conditions. Where a growth was refused that is told in place of any other answer.
 pub fn load(alloc: Global, bytes: &[u8]) -> Result<Module, LoadFault>
     ensures exact { IsAnswer bytes.now result }
     ensures loaded { IfOk result (λ m. (image_of bytes.now ≡ Ok m) × IsLoaded m) }

@@ -5,6 +5,7 @@ pub mod Flowing
 pub mod Going
 pub mod Keys
 pub mod Operations
+pub mod Matching
 pub mod Running
 pub mod Seeing
 pub mod Stopping

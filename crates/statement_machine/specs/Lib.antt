@@ -1,5 +1,6 @@
 pub mod Runnable
 pub mod Held
+pub mod Runs
 pub mod Stopped
 pub mod Calling
 pub use Rattle.world.specs.Answers

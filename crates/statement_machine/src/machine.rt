@@ -7,12 +7,12 @@ ghost use Rattle.model.specs.Agreement.{first_m, mach};
 ghost use Rattle.model.specs.Machine as m;
 ghost use Rattle.model.specs.Machine.{begun, steps};
 ghost use Rattle.model.specs.Modules.{module_of};
-ghost use Rattle.statement_machine.specs.Held.{Holds};
+ghost use Rattle.statement_machine.specs.Runs.{Holds};
 ghost use Rattle.statement_machine.specs.Stopped.{IfRan, IfStopped, ending_of, status_at};
 ghost use Rattle.world.specs.Answers.{IsStop};
 ghost use Rattle.statement_machine.specs.declared.status.Halt.{Halt as RustHalt};
 
-use crate::state::State;
+use crate::run::Run;
 use crate::status::Halt;
 use loader::Module;
 use model::{Status, Stop};
@@ -24,18 +24,18 @@ use unit_io::Units;
 #[derive(Drop)]
 pub struct Machine<'m> {
     program: &'m Module,
-    state: State,
+    run: Run,
     halt: Option<Halt>,
 }
 
 impl<'m> Model for Machine<'m> {
-    ghost use Rattle.statement_machine.specs.Held.{Held, IsGoing, IsSound};
+    ghost use Rattle.statement_machine.specs.Runs.{Held, IsGoing, RunStands};
 
     ghost Value = { Held };
 
-    ghost view = { λ m. record { image = m.program.now; state = m.state; halt = m.halt } };
+    ghost view = { λ m. record { image = m.program.now; run = m.run; halt = m.halt } };
 
-    ghost invariant = { λ m. IsGoing m.halt (IsSound m.program.now m.state) };
+    ghost invariant = { λ m. IsGoing m.halt (RunStands m.program.now m.run) };
 }
 
 impl<'m> Machine<'m> {
@@ -48,7 +48,7 @@ impl<'m> Machine<'m> {
         let at = program.start();
         Ok(Machine {
             program,
-            state: State::new(alloc, at)?,
+            run: Run::new(alloc, at)?,
             halt: None,
         })
     }
@@ -65,7 +65,7 @@ impl<'m> Machine<'m> {
         if let Some(halt) = self.halt {
             return halt.status();
         }
-        match self.state.run(self.program, units, bound) {
+        match self.run.make_steps(self.program, units, bound) {
             Ok(()) => Status::Running,
             Err(halt) => {
                 self.halt = Some(halt);

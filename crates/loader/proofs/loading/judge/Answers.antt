@@ -6,4 +6,4 @@ use Rattle.loader.proofs.loading.judge.Goals as goal
 pub new-requires-clause-loaded : goal.new-requires-clause-loaded
 new-requires-clause-loaded c =
     let im = c.args.image in
-    loaded im c.requires (sym c.first_unknown.ensures ∙ c.in_default.is) (subst (IsTold im) c.in-None.is c.in_ok-fault.ensures)
+    loaded im c.requires (sym c.not_yet.ensures ∙ c.in_default.is) (subst (IsTold im) c.in-None.is c.in_ok-fault.ensures)

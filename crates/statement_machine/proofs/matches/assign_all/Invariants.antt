@@ -1,0 +1,13 @@
+use Rattle.std.proofs.Common.{◌≡◌, ◌≤◌, ℕ, drop}
+use Rattle.match_machine.specs.View.{pending_of}
+use Rattle.model.specs.Operators.{assign_all}
+use Rattle.model.specs.Told.{IfTold}
+use Rattle.world.specs.Held.{world_of}
+use Rattle.statement_machine.proofs.matches.assign_all.Given as goal
+
+abbrev pub invariant-loop-assignment : goal.invariant-loop-assignment
+invariant-loop-assignment g l = record {
+  grows : (u : ℕ) → g.U.Units.failures l.fn.units u ≤ g.U.Units.failures l.units u;
+  left : IfTold (g.U.Units.told l.fn.units) (g.U.Units.told l.units) (λ io io'.
+      assign_all (pending_of (drop l.assignment-index l.pending)) (world_of l.world io') ≡ assign_all (pending_of l.pending) (world_of l.fn.world io));
+}

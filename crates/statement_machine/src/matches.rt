@@ -1,0 +1,86 @@
+//! What a match does to the state around it.
+
+ghost use Rattle.std.specs.Prelude.{◌≡◌, ◌≤◌, ℕ, [], OnOk, IfOk};
+ghost use Rattle.frames.specs.Kinds.{kinds_of};
+ghost use Rattle.frames.specs.Matches.{matching_of};
+ghost use Rattle.frames.specs.View.{operands_of, handlers_of};
+ghost use Rattle.match_machine.specs.View.{pending_of, told_of};
+ghost use Rattle.model.specs.Io.{Io};
+ghost use Rattle.model.specs.Machine.{on_event};
+ghost use Rattle.model.specs.Modules.{module_of};
+ghost use Rattle.model.specs.Operators.{assign_all, told_value};
+ghost use Rattle.model.specs.Pattern.{Matched};
+ghost use Rattle.model.specs.Told.{IfTold};
+ghost use Rattle.model.specs.declared.image.Image.{Image};
+ghost use Rattle.model.specs.declared.run.Stop.TheVariants.{NoMemory};
+ghost use Rattle.statement_machine.specs.Held.{Left};
+ghost use Rattle.statement_machine.specs.Runs.{found_kinds};
+ghost use Rattle.statement_machine.specs.Stopped.{IfHalted};
+ghost use Rattle.world.specs.Answers.{Answers, IfStopped, IsStop, done};
+ghost use Rattle.world.specs.Held.{world_of};
+ghost use Rattle.world.specs.Values.{value_of};
+
+use crate::state::State;
+use crate::status::Halt;
+use frames::Matching;
+use match_machine::{Assignment, Told};
+use std::alloc::{AllocError, Global};
+use unit_io::Units;
+use world::{Fault, Value, World};
+
+// The assignments of a match that succeeded, in order, up to the first that ends the run.
+fn assign_all<U: Units>(
+    alloc: Global,
+    world: &mut World,
+    units: &mut U,
+    pending: &[Assignment],
+) -> Result<(), Fault>
+    ensures assigned { IfTold (U.told units.old) (U.told units.new) (λ io io'.
+        Answers (done result) (world_of world.new io') (assign_all (pending_of pending.now) (world_of world.old io))) }
+    ensures stop { IfStopped result (λ stop. IsStop stop (U.failures units.old) (U.failures units.new)) }
+    ensures grows { (u : ℕ) → U.failures units.old u ≤ U.failures units.new u }
+{
+    for assignment in pending {
+        let value = Value::String(assignment.value.clone()?);
+        world.assign(alloc, units, &assignment.name, value)?;
+    }
+    Ok(())
+}
+
+/// What is assigned within a match. A cursor that no integer holds would need a subject of more memory than there is.
+pub(crate) fn value_told(told: Told) -> Result<Value, AllocError>
+    ensures { IfOk result (λ value. value_of value ≡ told_value (told_of told)) }
+{
+    match told {
+        Told::Text(text) => Ok(Value::String(text)),
+        Told::Number(n) => match i64::try_from(n) {
+            Ok(n) => Ok(Value::Integer(n)),
+            Err(_) => Err(AllocError),
+        },
+    }
+}
+
+impl State {
+    /// A match succeeded between two places: its assignments are made in order, and the run goes on after it.
+    pub(crate) fn matched<U: Units>(
+        &mut self,
+        units: &mut U,
+        matching: Matching,
+        start: usize,
+        end: usize,
+        pending: Vec<Assignment>,
+    ) -> Result<(), Halt>
+        ensures left { (im : Image) → IfTold (U.told units.old) (U.told units.new) (λ io io'. Left result self.new io'
+            (on_event (module_of im) (Matched start end (pending_of pending.items)) (matching_of matching (operands_of self.old.operands) (handlers_of self.old.handlers)) matching.search.state [] (world_of self.old.world io))) }
+        ensures shape { OnOk result ((self.new.at ≡ matching.place) × (self.new.handlers ≡ self.old.handlers) × (kinds_of self.new.operands ≡ found_kinds matching.keep (kinds_of self.old.operands))) }
+        ensures stop { IfHalted result (λ stop. IsStop stop (U.failures units.old) (U.failures units.new)) }
+        ensures grows { (u : ℕ) → U.failures units.old u ≤ U.failures units.new u }
+    {
+        if let Err(fault) = assign_all(self.alloc, &mut self.world, units, pending.as_slice()) {
+            return Err(self.halted(fault));
+        }
+        self.at = matching.place();
+        matching.found(&mut self.operands, start, end)?;
+        Ok(())
+    }
+}
