@@ -8,7 +8,7 @@ use Rattle.statement_machine.proofs.state.State.went.Goals as goal
 pub returns-in-Ok-clause-left : goal.returns-in-Ok-clause-left
 returns-in-Ok-clause-left c io o a =
     let s = c.args.self.now in
-    gives o (record {}) (world_of s.world io) (Ok tt) _ io (handlers_of s.handlers) (operands_of s.operands) _ (subst (λ r. Answers (done r) (world_of s.world io) o) c.in-Ok.is a) refl
+    gives o (record {}) (world_of s.world io) (Ok tt) (record s { at = c.args.next }) io (handlers_of s.handlers) (operands_of s.operands) _ (subst (λ r. Answers (done r) (world_of s.world io) o) c.in-Ok.is a) refl
 
 pub returns-in-Err-clause-left : goal.returns-in-Err-clause-left
 returns-in-Err-clause-left c io o a =
