@@ -12,7 +12,7 @@ mod patterns;
 mod places;
 mod tables;
 
-pub use code::{has_primitive, runs_yet};
+pub use code::{Found, has_primitive, runs_yet};
 pub use loading::load;
 pub use module::Module;
 pub use names::return_of;
