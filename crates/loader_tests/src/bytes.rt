@@ -30,7 +30,16 @@ fn hello_is_loaded(rt: HostRuntime) -> Result<(), Fail> {
             assert_eq!(rt; m.statement(2), Some(17));
             assert_eq!(rt; m.number(17), 2);
             assert_eq!(rt; m.label(b"END".as_slice()), Some(2));
-            assert!(rt; matches!(m.instr(5, 0), Some(Found { instr: Instr::Var(0), next: 10, .. })));
+            assert!(rt;
+                matches!(
+                    m.instr(5, 0),
+                    Some(Found {
+                        instr: Instr::Var(0),
+                        next: 10,
+                        ..
+                    })
+                )
+            );
             assert!(rt; m.instr(6, 1).is_none());
         }
         Err(fault) => panic!(rt; "{fault}"),
