@@ -2,9 +2,9 @@
 //! `time` it runs long ones and prints their wall time and nanoseconds a step.
 #![tactic(auto)]
 
-use driver::{Refusal, compile_deck};
+use driver::compile_deck;
 use loader::load;
-use model::{Ending, LoadFault, Status, UnitFault};
+use model::{Ending, Status};
 use statement_machine::Machine;
 use std::alloc::{AllocError, Global};
 use std::io::Write;
@@ -16,34 +16,14 @@ use unit_io::MemUnits;
 #[derive(Debug, Drop)]
 enum BenchError {
     Memory,
-    Refused(Refusal),
-    Module(LoadFault),
-    Unit(UnitFault),
-    Ended(Status),
+    /// The deck didn't compile, or its run didn't end normally.
+    BrokenOff,
     Io(io::Error),
 }
 
 impl From<AllocError> for BenchError {
     fn from(_refused: AllocError) -> BenchError {
         BenchError::Memory
-    }
-}
-
-impl From<Refusal> for BenchError {
-    fn from(refusal: Refusal) -> BenchError {
-        BenchError::Refused(refusal)
-    }
-}
-
-impl From<LoadFault> for BenchError {
-    fn from(fault: LoadFault) -> BenchError {
-        BenchError::Module(fault)
-    }
-}
-
-impl From<UnitFault> for BenchError {
-    fn from(fault: UnitFault) -> BenchError {
-        BenchError::Unit(fault)
     }
 }
 
@@ -95,21 +75,26 @@ fn deck_of(alloc: Global, kind: Loop, turns: u32) -> Result<Vec<u8>, BenchError>
     Ok(deck)
 }
 
-/// Runs a module to its end, so many steps at a time, and counts the steps in such parts.
-fn count_steps(alloc: Global, module: &[u8], part: u64) -> Result<u64, BenchError> {
-    let program = load(alloc, module)?;
-    let mut units = MemUnits::new(alloc);
-    units.open_output(6)?;
-    let mut machine = Machine::new(alloc, &program)?;
+/// Runs a machine to its normal end, so many steps at a time, and counts the steps in such parts.
+fn run_to_end(machine: &mut Machine<'_>, units: &mut MemUnits, part: u64) -> Option<u64> {
     let mut steps = part;
     for _ in 0..u64::MAX {
-        match machine.run(&mut units, part) {
+        match machine.run(units, part) {
             Status::Running => steps = steps.saturating_add(part),
-            Status::Ended(Ending::Normal) => break,
-            status => return Err(BenchError::Ended(status)),
+            Status::Ended(Ending::Normal) => return Some(steps),
+            _ => return None,
         }
     }
-    Ok(steps)
+    None
+}
+
+/// The steps of a module, counted in parts of so many.
+fn count_steps(alloc: Global, module: &[u8], part: u64) -> Option<u64> {
+    let program = load(alloc, module).ok()?;
+    let mut units = MemUnits::new(alloc);
+    units.open_output(6).ok()?;
+    let mut machine = Machine::new(alloc, &program).ok()?;
+    run_to_end(&mut machine, &mut units, part)
 }
 
 /// Tenths of a nanosecond for each step.
@@ -128,9 +113,10 @@ fn main(rt: HostRuntime) -> Result<(), BenchError> {
     ] {
         let name = kind.name();
         let deck = deck_of(alloc, kind, if timed { turns } else { 10 })?;
-        let module = compile_deck(alloc, &deck)?;
+        let module = compile_deck(alloc, &deck).map_err(|_| BenchError::BrokenOff)?;
         let begun = Instant::now(&rt)?;
-        let steps = count_steps(alloc, &module, if timed { 1000 } else { 1 })?;
+        let part = if timed { 1000 } else { 1 };
+        let steps = count_steps(alloc, &module, part).ok_or(BenchError::BrokenOff)?;
         if timed {
             let time = begun.elapsed(&rt)?;
             let (millis, cost) = (time.as_millis(), per_step(time, steps));
