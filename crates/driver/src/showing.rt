@@ -126,12 +126,12 @@ fn show_instr<W: Write>(at: u32, instr: Instr, out: &mut W) -> io::Result<()> {
 pub fn show<W: Write>(alloc: Global, bytes: &[u8], out: &mut W) -> Result<(), ShowFault> {
     let module = load(alloc, bytes)?;
     let mut at = 0;
-    for _ in 0..u32::MAX {
-        let Some((instr, next)) = module.instr(at) else {
+    for place in 0..usize::MAX {
+        let Some(found) = module.instr(at, place) else {
             break;
         };
-        show_instr(at, instr, out)?;
-        at = next;
+        show_instr(at, found.instr, out)?;
+        at = found.next;
     }
     Ok(())
 }

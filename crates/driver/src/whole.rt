@@ -2,7 +2,8 @@
 
 ghost use Rattle.std.specs.Prelude.{◌≡◌, IfErr, IfOk, OnErr};
 ghost use Rattle.loader.specs.Answers.{no_memory};
-ghost use Rattle.statement_machine.specs.Stopped.{IfStopped, IsStop};
+ghost use Rattle.statement_machine.specs.Answers.{IsStop};
+ghost use Rattle.statement_machine.specs.Stopped.{IfStopped};
 ghost use Rattle.driver.specs.declared.refusal.Refusal.TheVariants.{Memory};
 ghost use Rattle.driver.specs.Compiled.{IsRefusalOf};
 ghost use Rattle.driver.specs.Whole.{IsRunOf};
