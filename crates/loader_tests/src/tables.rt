@@ -40,9 +40,9 @@ fn a_last_statement_that_is_not_end(rt: HostRuntime) -> Result<(), Fail> {
 }
 
 #[test]
-fn an_expression_in_an_operand(rt: HostRuntime) -> Result<(), Fail> {
+fn an_expression_does_not_run_yet(rt: HostRuntime) -> Result<(), Fail> {
     let line = told_of(rt.alloc(), 46, 50, &[0, 0, 0, 1, 0, 0, 0, 1])?;
-    assert_eq!(rt; line.as_str(), "offset 50 W2");
+    assert_eq!(rt; line.as_str(), "offset 62 F6");
     Ok(())
 }
 
