@@ -7,6 +7,7 @@ use Rattle.model.specs.Modules.{module_of, total}
 use Rattle.model.specs.Placed.{Placed}
 use Rattle.model.specs.Programs.{program}
 use Rattle.model.specs.Spelling.{IsImage}
+use Rattle.model.specs.StepBound.{EndsInTime}
 use Rattle.model.specs.Trees.{Expr, Stmt}
 use Rattle.model.specs.WellFormed.{IsWellFormed}
 use Rattle.codegen.specs.Countable.{CountableStmt}
@@ -36,6 +37,10 @@ IsSound = (text : List ℕ) (ss : List Stmt) → verdict text ≡ Accepted ss �
 -- it does what the deck means
 abbrev pub DoesAsMeant : Type 0
 DoesAsMeant = (text : List ℕ) (ss : List Stmt) → verdict text ≡ Accepted ss → Agrees ss (image_of ss)
+
+-- it ends in time
+abbrev pub IsInTime : Type 0
+IsInTime = (text : List ℕ) (ss : List Stmt) → verdict text ≡ Accepted ss → EndsInTime ss (image_of ss)
 
 -- its code has at most 15 bytes for each byte that a deck may have
 abbrev pub IsSmall : Type 0

@@ -1,6 +1,6 @@
 //! The laws of images. Each function does nothing; its contract states a law.
 
-ghost use Rattle.codegen_laws.specs.CodegenLaws.{AreCountable, AreFit, DoesAsMeant, IsPlaced, IsSmall, IsSound, IsSpelt};
+ghost use Rattle.codegen_laws.specs.CodegenLaws.{AreCountable, AreFit, DoesAsMeant, IsInTime, IsPlaced, IsSmall, IsSound, IsSpelt};
 
 /// The trees of an accepted deck keep what their code relies on: names are nonnull, keywords known, targets targets, END
 /// is last, no label is there twice, and calls and references have as few arguments as instructions can count.
@@ -14,10 +14,12 @@ pub fn placed_images()
     ensures { IsPlaced }
 {}
 
-/// The image of an accepted deck has a spelling, is well-formed, has little code and does what the deck means.
+/// The image of an accepted deck has a spelling, is well-formed, has little code, does what the deck means and ends in
+/// time.
 pub fn accepted_images()
     ensures spelt { IsSpelt }
     ensures sound { IsSound }
     ensures small { IsSmall }
     ensures agrees { DoesAsMeant }
+    ensures in_time { IsInTime }
 {}

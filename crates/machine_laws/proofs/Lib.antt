@@ -4,3 +4,5 @@ pub mod PrimitivesIn
 pub mod SearchIn
 pub mod MachineIn
 pub mod ImagesIn
+pub mod Complete
+pub mod Standing

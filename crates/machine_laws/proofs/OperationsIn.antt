@@ -11,7 +11,7 @@ use Rattle.model.specs.Target.{Name, Variable, Element, IntegerKey, StringKey}
 use Rattle.model.specs.Keywords.{KeyValue, IsInteger, IsText, key_value, allows}
 use Rattle.model.specs.Pattern as p
 use Rattle.model.specs.Pattern.{Basic, Lit, Instr, Split, Jmp, Pending, Answer, Want, WantPattern, WantCount, WantBytes, Told, Text, Number, Kind, want_of, with_answer}
-use Rattle.model.specs.PatternCode.{basic_code, exit_past, exits_past, alt_code, cat_code, arbno_code, cond_code, imm_code}
+use Rattle.model.specs.PatternCode.{basic_code, exit_past, exits_past, alt_code, cat_code, arbno_code, fence_code, cond_code, imm_code}
 use Rattle.model.specs.Values.{Str, Int, Pat, Nam, Exp, Obj, Key, IntegerAt, StringAt, Entry, Object, ArrayOf, TableOf, RecordOf, set_var, keys_of, first_value, first_world}
 use Rattle.model.specs.Conversions.{Conv, Got, Bad, Op, Gives, Refuses, Faults, conv, then_conv, then_op, to_text, to_integer, to_pattern, to_name, is_null, count_of, set_of, answer_of}
 use Rattle.model.specs.Operators.{arith_of, arith_op, sign_of, sign_op, limited, two_patterns, joined, join_rest, cat_op, alt_op, cond_op, imm_op, indir_op, take_record, fetch_var, same_key, element_of, value_for, entry_of, onto, with_item, with_entry, with_elements, with_element, with_value_for, there, fetch_op, print_text, write_var, put_objects, put_object, assign_op, assign_all, splice_op, key_as_value, keyget_op, keyset_op, kind_op, told_value, Begun, match_op}
@@ -75,6 +75,9 @@ module _ (n : ℕ) where
 
   pub arbno_code_in : (c : PCode) → CodeIn n c → CodeIn n (arbno_code c)
   arbno_code_in c h = (tt, (tt, join_in (InstrIn n) c (Jmp (negsuc (length c + 1)) ∷ []) h (tt, tt)))
+
+  pub fence_code_in : (c : PCode) → CodeIn n c → CodeIn n (fence_code c)
+  fence_code_in c h = (tt, join_in (InstrIn n) c (p.CloseFence ∷ []) h (tt, tt))
 
   pub cond_code_in : (c : PCode) (x : Name) → CodeIn n c → CodeIn n (cond_code c x)
   cond_code_in c x h = (tt, join_in (InstrIn n) c (p.Close x ∷ []) h (tt, tt))

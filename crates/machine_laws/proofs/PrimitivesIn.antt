@@ -18,7 +18,7 @@ use Rattle.model.specs.Primitives.{Outcome, same_value, holds_if, compare_op, co
 use Rattle.model.specs.Machine.{PCode, codes_of, MVal, MW, MBack}
 use Rattle.machine_laws.specs.InRange.{CodeIn, ValueIn, ValuesIn, EntriesIn, ObjectIn, WorldIn, ReturnedIn, OutcomeIn, SavedIn, KeptIn}
 use Rattle.machine_laws.proofs.Lists.{IfThere, choice_in, join_in, replicate_in}
-use Rattle.machine_laws.proofs.OperationsIn.{Any, IfGot, OpIn, gives, refuses, faults, conv_in, got_in, then_in, pattern_in, arbno_code_in, var_in, object_in, fetch_in, kind_in}
+use Rattle.machine_laws.proofs.OperationsIn.{Any, IfGot, OpIn, gives, refuses, faults, conv_in, got_in, then_in, pattern_in, arbno_code_in, fence_code_in, var_in, object_in, fetch_in, kind_in}
 
 module _ (n : ℕ) where
   -- ---- new objects
@@ -226,6 +226,7 @@ module _ (n : ℕ) where
   prim_in p.Input vs w h i = returned_in (conv_in n (ValueIn n) (to_variable (arg_at vs 0)) w _ i (λ x. unit_in 5 (arg_at vs 1) w _ i (λ u. gives {a = Str []} {w = set_reads x (Some u) w} tt i)))
   prim_in p.Output vs w h i = returned_in (conv_in n (ValueIn n) (to_variable (arg_at vs 0)) w _ i (λ x. unit_in 6 (arg_at vs 1) w _ i (λ u. gives {a = Str []} {w = set_writes x (Some u) w} tt i)))
   prim_in p.Detach vs w h i = returned_in (conv_in n (ValueIn n) (to_variable (arg_at vs 0)) w _ i (λ x. gives tt i))
+  prim_in p.Fence vs w h i = returned_in (got_in n (CodeIn n) (ValueIn n) (to_pattern codes_of (arg_at vs 0)) w _ (pattern_in n (arg_at vs 0) (arg_in vs 0 h)) i (λ c k. gives (fence_code_in n c k) i))
   prim_in p.Apply [] w h i = faults i
   prim_in p.Apply (v ∷ vs) w h i = conv_in n (OutcomeIn n) (to_variable v) w _ i (λ f. applied_in f vs w _ h.1 i (λ q. prim_in q vs w h.1 i) (prim_named f))
 

@@ -1,8 +1,8 @@
 -- Each step of a match keeps expressions in range.
-use Rattle.std.proofs.Common.{◌≡◌, ◌<◌, ℕ, zero, suc, ◌+◌, List, [], ◌∷◌, Option, Some, None, slice_get, subst}
-use Rattle.model.specs.Pattern.{Instr, Do, Split, Jmp, DoSucceed, DoAbort, DoFence, Open, Close, Say, AtCursor, Eval, EvalBasic, Pending, Answer, IsPattern, IsSaid, Want, AskFor, Asks, with_answer}
+use Rattle.std.proofs.Common.{◌≡◌, ◌<◌, ℕ, zero, suc, ◌+◌, ◌-◌, length, drop, List, [], ◌∷◌, Option, Some, None, slice_get, subst}
+use Rattle.model.specs.Pattern.{Instr, Do, Split, Jmp, DoSucceed, DoAbort, DoFence, Open, OpenFence, CloseFence, Close, Say, AtCursor, Eval, EvalBasic, Pending, Answer, IsPattern, IsSaid, Want, AskFor, Asks, with_answer}
 use Rattle.model.specs.Basic.{ends_at}
-use Rattle.model.specs.Steps.{Won, Lost, Code, Answers, Thread, Note, Opened, Left, Choice, Retry, Again, Quit, at_place, on_after, at_distance, Move, Goes, Forks, Fails, Act, Moves, Aborts, Arrives, Asking, Waiting, ForPattern, ForArgument, ForSaid, act, answered, closed, forked, onward, settled, State, Starting, Going, Returning, Waits, Over, go, back, after_move, after_act, after_return, step, steps, event_of, with_more}
+use Rattle.model.specs.Steps.{Won, Lost, Code, Answers, Thread, Note, Opened, Fenced, Left, Choice, Retry, Again, Quit, at_place, on_after, at_distance, Move, Goes, Forks, Fails, Act, Moves, Aborts, Arrives, Asking, Fences, Drops, Waiting, ForPattern, ForArgument, ForSaid, act, answered, closed, fence_closed, fenced, kept, forked, onward, settled, State, Starting, Going, Returning, Waits, Over, go, back, after_move, after_act, after_return, step, steps, event_of, with_more}
 use Rattle.machine_laws.specs.InRange.{InstrIn, CodeIn, AnswerIn, AnswersIn, NotesIn, ThreadIn, ChoiceIn, ChoicesIn, WaitingIn, SearchIn, EventIn}
 use Rattle.machine_laws.proofs.Lists.{IfThere, item_in, join_in}
 
@@ -17,6 +17,7 @@ module _ (n : ℕ) where
   settled_in : (notes : List Note) (code : Code) (p c : ℕ) (a : Pending) → CodeIn n code → NotesIn n notes → ThreadIn n (settled notes code p c a)
   settled_in [] code p c a h ns = (h, tt)
   settled_in (Opened b ∷ notes) code p c a h ns = (h, ns)
+  settled_in (Fenced k ∷ notes) code p c a h ns = (h, ns)
   settled_in (Left code' p' ∷ notes) code p c a h ns = at_instruction notes code code' p p' c a h ns.0 ns.1 (settled_in notes code' p' c a ns.0 ns.1) (slice_get code p)
 
   onward_in : (t : Thread) (p c : ℕ) → ThreadIn n t → ThreadIn n (onward t p c)
@@ -34,6 +35,8 @@ module _ (n : ℕ) where
   ActIn Aborts = Unit {0}
   ActIn (Arrives c a) = Unit {0}
   ActIn (Asking w t) = WaitingIn n w × ThreadIn n t
+  ActIn (Fences t) = ThreadIn n t
+  ActIn (Drops k t) = ThreadIn n t
 
   forked_in : (t : Thread) (es : List ℕ) → ThreadIn n t → MoveIn (forked t es)
   forked_in t [] h = tt
@@ -43,7 +46,14 @@ module _ (n : ℕ) where
   closed_in : (notes : List Note) (k : ℕ → List Note → Act) → NotesIn n notes → ((b : ℕ) (rest : List Note) → NotesIn n rest → ActIn (k b rest)) → ActIn (closed notes k)
   closed_in [] k ns h = tt
   closed_in (Opened b ∷ notes) k ns h = h b notes ns.1
+  closed_in (Fenced m ∷ notes) k ns h = tt
   closed_in (Left code p ∷ notes) k ns h = tt
+
+  fence_closed_in : (notes : List Note) (f : ℕ → List Note → Act) → NotesIn n notes → ((k : ℕ) (rest : List Note) → NotesIn n rest → ActIn (f k rest)) → ActIn (fence_closed notes f)
+  fence_closed_in [] f ns h = tt
+  fence_closed_in (Opened b ∷ notes) f ns h = tt
+  fence_closed_in (Fenced k ∷ notes) f ns h = h k notes ns.1
+  fence_closed_in (Left code p ∷ notes) f ns h = tt
 
   act_in : (s : List ℕ) (o : Option Instr) (t : Thread) → IfThere (InstrIn n) o → ThreadIn n t → ActIn (act s o t)
   act_in s None t k h = tt
@@ -54,6 +64,8 @@ module _ (n : ℕ) where
   act_in s (Some DoAbort) t k h = tt
   act_in s (Some DoFence) t k h = (onward_in t (t.place + 1) t.cursor h, tt)
   act_in s (Some Open) t k h = settled_in (Opened t.cursor ∷ t.notes) t.code (t.place + 1) t.cursor t.pending h.0 (tt, h.1)
+  act_in s (Some OpenFence) t k h = h
+  act_in s (Some CloseFence) t k h = fence_closed_in t.notes _ h.1 (λ m rest ns. settled_in rest t.code (t.place + 1) t.cursor t.pending h.0 ns)
   act_in s (Some (Close x)) t k h = closed_in t.notes _ h.1 (λ b rest ns. settled_in rest t.code (t.place + 1) t.cursor _ h.0 ns)
   act_in s (Some (Say x)) t k h = closed_in t.notes _ h.1 (λ b rest ns. (tt, settled_in rest t.code (t.place + 1) t.cursor t.pending h.0 ns))
   act_in s (Some (AtCursor x)) t k h = (tt, onward_in t (t.place + 1) t.cursor h)
@@ -86,11 +98,19 @@ module _ (n : ℕ) where
   move_in (Forks t ch) cs b left u h k a = go_in t (ch ∷ cs) b left u h.0 (h.1, k) a
   move_in Fails cs b left u h k a = back_in cs b left u k a
 
+  drop_in : (m : ℕ) (cs : List Choice) → ChoicesIn n cs → ChoicesIn n (drop m cs)
+  drop_in zero cs k = k
+  drop_in (suc m) [] k = tt
+  drop_in (suc m) (ch ∷ cs) k = drop_in m cs k.1
+
   after_in : (x : Act) (cs : List Choice) (b left : ℕ) (u : Answers) → ActIn x → ChoicesIn n cs → AnswersIn n u → SearchIn n (after_act x cs b left u)
   after_in (Moves m) cs b left u h k a = move_in m cs b left u h k a
   after_in Aborts cs b left u h k a = tt
   after_in (Arrives c p) cs b left u h k a = tt
   after_in (Asking w t) cs b left u h k a = (h.0, h.1, k, a)
+  after_in (Fences t) cs b left u h k a =
+      go_in (fenced (length cs) t) cs b left u (settled_in (Fenced (length cs) ∷ t.notes) t.code (t.place + 1) t.cursor t.pending h.0 (tt, h.1)) k a
+  after_in (Drops m t) cs b left u h k a = go_in t (kept m cs) b left u h (drop_in (length cs - m) cs k) a
 
   doing_in : (s : List ℕ) (t : Thread) (cs : List Choice) (b left : ℕ) (u : Answers) → ThreadIn n t → ChoicesIn n cs → AnswersIn n u → SearchIn n (after_act (act s (at_place t) t) cs b left u)
   doing_in s t cs b left u h k a = after_in (act s (at_place t) t) cs b left u (act_in s (at_place t) t (item_in (InstrIn n) t.code t.place h.0) h) k a

@@ -9,7 +9,7 @@ use Rattle.model.specs.Values.{Pat, Exp, Entry, Object, ArrayOf, TableOf, Record
 use Rattle.model.specs.Calls.{AValue, AName, Saved, Kept}
 use Rattle.model.specs.Primitives.{Outcome, Returns, Calls}
 use Rattle.model.specs.Steps as s
-use Rattle.model.specs.Steps.{Note, Opened, Left, Thread, Choice, Retry, Again, Quit, Waiting, ForPattern, ForArgument, ForSaid, Starting, Going, Returning, Waits}
+use Rattle.model.specs.Steps.{Note, Opened, Fenced, Left, Thread, Choice, Retry, Again, Quit, Waiting, ForPattern, ForArgument, ForSaid, Starting, Going, Returning, Waits}
 use Rattle.model.specs.Machine.{PCode, MVal, MW, MBack, At, Module, Operand, OV, ON, OR, Matching, Frame, InCall, InEval, State, Run, InMatch, Over, Stuck}
 
 module _ (n : ℕ) where
@@ -78,6 +78,7 @@ module _ (n : ℕ) where
 
   abbrev pub NoteIn : Note → Type 0
   NoteIn (Opened c) = Unit {0}
+  NoteIn (Fenced k) = Unit {0}
   NoteIn (Left code place) = CodeIn code
 
   abbrev pub NotesIn : List Note → Type 0

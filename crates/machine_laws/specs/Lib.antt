@@ -1,2 +1,3 @@
 pub mod InRange
+pub mod Standing
 pub mod MachineLaws

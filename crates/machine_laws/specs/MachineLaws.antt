@@ -1,15 +1,19 @@
--- What each step of the machine keeps of the numbers of unevaluated expressions.
+-- What each step of the machine keeps of the numbers of unevaluated expressions, and of where its states stand.
 use Rattle.std.specs.Prelude.{◌≡◌, ◌≢◌, ◌<◌, ℕ, List, [], ◌∷◌, length, Some}
 use Rattle.model.specs.declared.image.Image.{Image}
+use Rattle.model.specs.declared.instr.Instr.{Instr}
 use Rattle.model.specs.declared.instr.Instr.TheVariants as op
 use Rattle.model.specs.Trees.{Bytes}
 use Rattle.model.specs.Pattern.{Answer, Want, Asks, AskFor}
 use Rattle.model.specs.Values.{first_world}
 use Rattle.model.specs.Steps as s
+use Rattle.model.specs.Flow.{Mode, Asks as Needs, shape}
 use Rattle.model.specs.Modules.{fetch_from, module_of}
 use Rattle.model.specs.WellFormed.{IsWellFormed}
-use Rattle.model.specs.Machine.{At, PCode, MW, codes_of, Module, Matching, Frame, State, InMatch, begun, steps}
+use Rattle.model.specs.Agreement.{Inputs, first_m}
+use Rattle.model.specs.Machine.{At, PCode, MW, codes_of, Module, Operand, Handler, Matching, Frame, State, Run, InMatch, Stuck, act, begun, step, steps}
 use Rattle.machine_laws.specs.InRange.{CodeIn, AnswerIn, SearchIn, WorldIn, StateIn, ModuleIn}
+use Rattle.machine_laws.specs.Standing.{kinds, IsComplete, RunsUpon, RunStands, Stands}
 
 -- ---- the search of a match
 
@@ -69,3 +73,41 @@ RunsAskForWhatIsThere =
     (im : Image) → IsWellFormed im → (records : ℕ → List Bytes) (m : ℕ) (g : Matching) (st : s.State) (fs : List Frame) (w : MW)
     → steps (module_of im) m (begun (module_of im) (first_world codes_of records)) ≡ InMatch g st fs w → (k : ℕ) (want : Want)
     → s.event_of (s.step g.subject g.code st) ≡ Asks (AskFor k want) → (at : ℕ) × ((module_of im).expr k ≡ Some at)
+
+-- ---- no run lacks what it needs
+
+-- a well-formed image gives all that a run asks for
+abbrev pub WellFormedAreComplete : Type 0
+WellFormedAreComplete = (im : Image) → IsWellFormed im → IsComplete im
+
+-- the machine at the entry statement stands where the flow leads
+abbrev pub BegunStand : Type 0
+BegunStand = (im : Image) → IsComplete im → (w : MW) → WorldIn (length im.expressions) w → Stands im (begun (module_of im) w)
+
+-- and so it does after each step
+abbrev pub StepsStand : Type 0
+StepsStand = (im : Image) → IsComplete im → (st : State) → Stands im st → Stands im (step (module_of im) st)
+
+-- and after the instruction that is there
+abbrev pub ActsStand : Type 0
+ActsStand =
+    (im : Image) → IsComplete im → (at q : ℕ) (i : Instr) (ops : List Operand) (hs : List Handler) (fs : List Frame) (w : MW) → fetch_from 0 im.code at ≡ At i q
+    → Stands im (Run at ops hs fs w) → Stands im (act (module_of im) i q at ops hs fs w)
+
+-- where code stands an instruction begins
+abbrev pub InstructionsAreThere : Type 0
+InstructionsAreThere = (im : Image) → IsComplete im → (at : ℕ) (ops : List Operand) (hs : List Handler) (fs : List Frame) → RunStands im at ops hs fs → (i : Instr) × (q : ℕ) × (fetch_from 0 im.code at ≡ At i q)
+
+-- with the operands and handlers that it asks for, upon frames that it may run upon
+abbrev pub NeedsAreThere : Type 0
+NeedsAreThere =
+    (im : Image) → IsComplete im → (at q : ℕ) (i : Instr) (ops : List Operand) (hs : List Handler) (fs : List Frame) → fetch_from 0 im.code at ≡ At i q
+    → RunStands im at ops hs fs → (mode : Mode) × RunsUpon mode fs × Needs i (shape mode (kinds ops) hs)
+
+-- a state that stands isn't stuck
+abbrev pub StandingAreNotStuck : Type 0
+StandingAreNotStuck = (im : Image) (w : MW) → Stands im (Stuck w) → ⊥
+
+-- so no run of a well-formed image gets stuck, whatever stands on its units
+abbrev pub NeverStuck : Type 0
+NeverStuck = (im : Image) → IsWellFormed im → (inputs : Inputs) (m : ℕ) (w : MW) → steps (module_of im) m (begun (module_of im) (first_m inputs)) ≢ Stuck w

@@ -1,6 +1,7 @@
-//! The laws of numbers of unevaluated expressions. Each function does nothing; its contract states laws.
+//! The laws of numbers of unevaluated expressions, and of where the states of a run stand. Each function does nothing; its
+//! contract states laws.
 
-ghost use Rattle.machine_laws.specs.MachineLaws.{SearchesStayIn, SuppliedStayIn, AskedAreIn, FirstWorldsAreIn, BegunAreIn, StepsStayIn, NextAskedAreIn, NoneAsked, ImagesAreIn, WellFormedAreIn, AskedAreThere, RunsAskForWhatIsThere};
+ghost use Rattle.machine_laws.specs.MachineLaws.{SearchesStayIn, SuppliedStayIn, AskedAreIn, FirstWorldsAreIn, BegunAreIn, StepsStayIn, NextAskedAreIn, NoneAsked, ImagesAreIn, WellFormedAreIn, AskedAreThere, RunsAskForWhatIsThere, WellFormedAreComplete, BegunStand, StepsStand, ActsStand, InstructionsAreThere, NeedsAreThere, StandingAreNotStuck, NeverStuck};
 
 /// A search whose code, choices and answers ask only for expressions below a number asks only for such.
 pub fn searches_stay_in_range()
@@ -24,4 +25,16 @@ pub fn asked_expressions_are_there()
     ensures well_formed { WellFormedAreIn }
     ensures there { AskedAreThere }
     ensures runs { RunsAskForWhatIsThere }
+{}
+
+/// No run of a well-formed image comes to an instruction, a return or a match that lacks what it needs.
+pub fn never_stuck()
+    ensures complete { WellFormedAreComplete }
+    ensures begun { BegunStand }
+    ensures steps { StepsStand }
+    ensures acts { ActsStand }
+    ensures fetched { InstructionsAreThere }
+    ensures needs { NeedsAreThere }
+    ensures standing { StandingAreNotStuck }
+    ensures runs { NeverStuck }
 {}

@@ -3,4 +3,6 @@
 
 mod laws;
 
-pub use laws::{asked_expressions_are_there, expressions_stay_in_range, searches_stay_in_range};
+pub use laws::{
+    asked_expressions_are_there, expressions_stay_in_range, never_stuck, searches_stay_in_range,
+};

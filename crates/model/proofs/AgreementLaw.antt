@@ -30,7 +30,7 @@ module _ (prog : Program) (img : Module) (trees_at : ℕ → Option Expr) (place
   abbrev Nowhere : W → State → Type 0
   Nowhere v s = ⊥
 
-  start_is : begun img m ≡ Run placed.entry_is.0 [] [] [] m
+  pub start_is : begun img m ≡ Run placed.entry_is.0 [] [] [] m
   start_is = ap (λ k. to_stmt img (img.stmt k) [] m) placed.entry ∙ ap (λ o. to_stmt img o [] m) placed.entry_is.1
 
   run_follows : Follows prog img trees_at 1 (begun img m) Never Nowhere (run_rule prog w)
@@ -84,7 +84,7 @@ module _ (prog : Program) (img : Module) (trees_at : ℕ → Option Expr) (place
   known_fits : (n : ℕ) → Known 0 n
   known_fits n = known_of 0 n (run prog n w) refl (inr tt) (fits n)
 
-over_stays : (img : Module) (n : ℕ) (e : Ending) (m : MW) → steps img n (Over e m) ≡ Over e m
+pub over_stays : (img : Module) (n : ℕ) (e : Ending) (m : MW) → steps img n (Over e m) ≡ Over e m
 over_stays img zero e m = refl
 over_stays img (suc n) e m = over_stays img n e m
 

@@ -1,7 +1,7 @@
 -- Further answers change nothing before they are asked for.
-use Rattle.std.proofs.Common.{◌≡◌, ℕ, zero, suc, ◌<◌, List, [], ◌∷◌, ◌++◌, refl, ◌∙◌, ap, arith, Option, Some, None}
+use Rattle.std.proofs.Common.{◌≡◌, ℕ, zero, suc, ◌<◌, List, [], ◌∷◌, ◌++◌, length, refl, ◌∙◌, ap, arith, Option, Some, None}
 use Rattle.model.specs.Pattern.{Instr}
-use Rattle.model.specs.Steps.{Won, Code, Answers, Thread, Choice, Retry, Again, Quit, at_place, Move, Goes, Forks, Fails, Act, Moves, Aborts, Arrives, Asking, act, answered, onward, settled, State, Starting, Going, Returning, Waits, Over, go, back, after_move, after_act, after_return, step, steps, with_more, IsSupplied}
+use Rattle.model.specs.Steps.{Won, Code, Answers, Thread, Choice, Retry, Again, Quit, at_place, Move, Goes, Forks, Fails, Act, Moves, Aborts, Arrives, Asking, Fences, Drops, fenced, kept, act, answered, onward, settled, State, Starting, Going, Returning, Waits, Over, go, back, after_move, after_act, after_return, step, steps, with_more, IsSupplied}
 use Rattle.model.specs.PatternLaws.{AnswersComeLater}
 
 module _ (s : List ℕ) (code : Code) (v : Answers) where
@@ -27,6 +27,8 @@ module _ (s : List ℕ) (code : Code) (v : Answers) where
   act_with Aborts cs b left u = refl
   act_with (Arrives c a) cs b left u = refl
   act_with (Asking w t) cs b left u = refl
+  act_with (Fences t) cs b left u = go_with (fenced (length cs) t) cs b left u
+  act_with (Drops k t) cs b left u = go_with t (kept k cs) b left u
 
   return_with : (ch : Choice) (cs : List Choice) (b left : ℕ) (u : Answers) → after_return s ch cs b left (u ++ v) ≡ with_more v (after_return s ch cs b left u)
   return_with (Retry p e [] t) cs b left u = go_with (onward t p e) cs b left u

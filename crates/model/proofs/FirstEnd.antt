@@ -1,35 +1,44 @@
 -- The first end of a plain pattern is what its scan answers.
 use Rattle.std.proofs.Common.{◌≡◌, ℕ, zero, suc, ◌+◌, List, [], ◌∷◌, ◌++◌, refl, sym, ◌∙◌, ap, subst, arith, ◌≤◌, ◌⊎◌, inl, inr, append_assoc}
 use Rattle.std.proofs.lemmas.List.{append-nil}
-use Rattle.model.specs.Pattern.{Basic, Lit, Pat, Plain, Succeed, Abort, Fence, Cat, Alt, Arbno, Cond, Imm, At, Defer, DeferBasic, Name, Expr, Pending, Event, Running, Failed, Asks}
+use Rattle.model.specs.Pattern.{Basic, Lit, Pat, Plain, Succeed, Abort, Fence, Cat, Alt, Arbno, FenceOf, Cond, Imm, At, Defer, DeferBasic, Name, Expr, Pending, Ask, Event, Running, Failed, Asks}
 use Rattle.model.specs.Basic.{ends_at}
-use Rattle.model.specs.Ends.{Item, End, Aborted, join, replaced, put_before, plain_ends, between, ends, IsPlain, first_item, first}
-use Rattle.model.specs.Search.{Hit, Miss, Stop, Deep, Wait, on_miss, try_each, Goal, Part, Closing, Found', Script, search, started, over_starts, scan}
-use Rattle.model.proofs.SearchGrows.{Grows, grows_refl, on_miss_grows, search_more, search_grows}
+use Rattle.model.specs.Ends.{Item, End, Aborted, join, replaced, first_only, put_before, plain_ends, between, ends, IsPlain, first_item, first}
+use Rattle.model.specs.Search.{Hit, Miss, Stop, Deep, Wait, on_miss, on_hit, try_each, Goal, Part, Closing, Found', Script, search, started, over_starts, scan}
+use Rattle.model.proofs.SearchGrows.{Grows, grows_refl, on_miss_grows, on_hit_grows, search_more, search_grows}
 use Rattle.model.proofs.EndsLaws.{Begins, ends_more}
-use Rattle.model.proofs.Followed.{AlikeFound, hits, misses, stops, waits, AlikeTold, fail, match, ask, Followed, at_more, by_equal, alike_grows, on_miss_followed, on_miss_none, EventFollowed, over_starts_followed}
+use Rattle.model.proofs.Followed.{AlikeFound, misses, finals, SameEnd, hits, stops, waits, AlikeTold, fail, match, ask, Followed, at_more, by_equal, alike_grows, then_followed, on_miss_followed, on_miss_none, EventFollowed, over_starts_followed}
+
+abbrev Cont : Type 0
+Cont = ℕ → Pending → Script → Found'
+
+abbrev Same : Found' → Found' → Type 0
+Same = SameEnd (Ask Expr) Pat (Ask Expr) Pat (λ t u. t ≡ u) (λ v w. v ≡ w)
 
 abbrev Toward : Found' → (ℕ → Found') → Type 0
-Toward x f = Followed Expr Pat Expr Pat (λ t u. t ≡ u) (λ v w. v ≡ w) x f
+Toward x f = Followed (Ask Expr) Pat (Ask Expr) Pat Same (λ t u. t ≡ u) x f
 
 abbrev Up : (ℕ → Found') → Type 0
 Up f = (n m : ℕ) → n ≤ m → Grows (f n) (f m)
 
 abbrev Like : Found' → Found' → Type 0
-Like x y = AlikeFound Expr Pat Expr Pat (λ t u. t ≡ u) (λ v w. v ≡ w) x y
+Like x y = AlikeFound (Ask Expr) Pat (Ask Expr) Pat Same (λ t u. t ≡ u) x y
 
 like_self : (x : Found') → (x ≡ Deep) ⊎ Like x x
-like_self (Hit e a t) = inr (hits refl)
+like_self (Hit e a t) = inr (finals tt tt (hits refl))
 like_self (Miss t) = inr (misses refl)
-like_self Stop = inr stops
+like_self Stop = inr (finals tt tt stops)
 like_self Deep = inl refl
-like_self (Wait v) = inr (waits refl)
+like_self (Wait v) = inr (finals tt tt (waits refl))
+
+same_end : (x y : Found') → Same x y → x ≡ y
+same_end x y (hits {e = e} {a = a} h) = ap (λ t. Hit e a t) h
+same_end x y stops = refl
+same_end x y (waits h) = ap (λ v. Wait v) h
 
 same_found : (x y : Found') → Like x y → x ≡ y
-same_found x y (hits {e = e} {a = a} h) = ap (λ t. Hit e a t) h
 same_found x y (misses h) = ap (λ t. Miss t) h
-same_found x y stops = refl
-same_found x y (waits h) = ap (λ v. Wait v) h
+same_found x y (finals fx fy r) = same_end x y r
 
 self : (f : ℕ → Found') (m : ℕ) → Toward (f m) f
 self f m = from (like_self (f m))
@@ -48,17 +57,29 @@ compose x f g (inr (m, l)) h = subst (λ y. Toward y g) (sym (same_found x (f m)
 -- f at some bound is no more than g at some bound
 toward_more : (x : Found') (f g : ℕ → Found') → ((n : ℕ) → (m : ℕ) × Grows (f n) (g m)) → Toward x f → Toward x g
 toward_more x f g h (inl e) = inl e
-toward_more x f g h (inr (n, l)) = inr ((h n).0, alike_grows Expr Pat Expr Pat (λ t u. t ≡ u) (λ v w. v ≡ w) x (f n) (g (h n).0) l (h n).1)
+toward_more x f g h (inr (n, l)) = inr ((h n).0, alike_grows (Ask Expr) Pat (Ask Expr) Pat Same (λ t u. t ≡ u) x (f n) (g (h n).0) l (h n).1)
 
 more : (x : Found') (f : ℕ → Found') → Toward x (λ m. f (suc m)) → Toward x f
-more x f h = at_more Expr Pat Expr Pat (λ t u. t ≡ u) (λ v w. v ≡ w) x f h
+more x f h = at_more (Ask Expr) Pat (Ask Expr) Pat Same (λ t u. t ≡ u) x f h
 
 equal : (x : Found') (f g : ℕ → Found') → ((m : ℕ) → f m ≡ g m) → Toward x g → Toward x f
-equal x f g e h = by_equal Expr Pat Expr Pat (λ t u. t ≡ u) (λ v w. v ≡ w) x f g e h
+equal x f g e h = by_equal (Ask Expr) Pat (Ask Expr) Pat Same (λ t u. t ≡ u) x f g e h
 
 on_miss_toward : (x : Found') (k : Script → Found') (f : ℕ → Found') (l : ℕ → Script → Found') → Up f → ((u : Script) → Up (λ m. l m u)) → Toward x f → ((t : Script) → Toward (k t) (λ m. l m t)) → Toward (on_miss x k) (λ m. on_miss (f m) (l m))
 on_miss_toward x k f l rf rl h g =
-    on_miss_followed Expr Pat Expr Pat (λ t u. t ≡ u) (λ v w. v ≡ w) x k f l rf rl h (λ t u e. subst (λ z. Toward (k t) (λ m. l m z)) e (g t))
+    on_miss_followed (Ask Expr) Pat (Ask Expr) Pat Same (λ t u. t ≡ u) x k f l rf rl h (λ t u e. subst (λ z. Toward (k t) (λ m. l m z)) e (g t))
+
+on_hit_toward : (x : Found') (k : Cont) (f : ℕ → Found') (l : ℕ → Cont) → Up f → ((e : ℕ) (a : Pending) (u : Script) → Up (λ m. l m e a u)) → Toward x f → ((e : ℕ) (a : Pending) (u : Script) → Toward (k e a u) (λ m. l m e a u)) → Toward (on_hit x k) (λ m. on_hit (f m) (l m))
+on_hit_toward x k f l rf rl h g =
+    then_followed (Ask Expr) Pat (Ask Expr) Pat Same Same (λ t u. t ≡ u) x (λ z. on_hit z k) f (λ m y. on_hit y (l m)) refl rf
+    (λ y i j le. on_hit_grows y y (l i) (l j) (grows_refl y) (λ e a u. rl e a u i j le)) h (λ y w. subst (λ z. Toward (on_hit x k) (λ m. on_hit z (l m))) (same_found x y w) (on x))
+  where
+    on : (y : Found') → Toward (on_hit y k) (λ m. on_hit y (l m))
+    on (Hit e a t) = g e a t
+    on (Miss t) = inr (0, misses refl)
+    on Stop = inr (0, finals tt tt stops)
+    on Deep = inl refl
+    on (Wait v) = inr (0, finals tt tt (waits refl))
 
 on_miss_assoc : (x : Found') (k l : Script → Found') → on_miss (on_miss x k) l ≡ on_miss x (λ u. on_miss (k u) l)
 on_miss_assoc (Hit e a t) k l = refl
@@ -73,9 +94,6 @@ on_miss_cong (Miss t) k l h = h t
 on_miss_cong Stop k l h = refl
 on_miss_cong Deep k l h = refl
 on_miss_cong (Wait v) k l h = refl
-
-abbrev Cont : Type 0
-Cont = ℕ → Pending → Script → Found'
 
 -- the ends of a list, each with what follows it
 abbrev through : List Item → Cont → Script → Found'
@@ -138,7 +156,7 @@ through_toward k l r h [] t = inr (0, misses refl)
 through_toward k l r h (End e a ∷ xs) t =
     on_miss_toward (k e a t) (λ u. through xs k u) (λ m. l m e a t) (λ m u. through xs (l m) u) (r e a t)
     (λ u i j le. through_same (l i) (l j) (λ d b w. r d b w i j le) xs u) (h e a t) (λ u. through_toward k l r h xs u)
-through_toward k l r h (Aborted ∷ xs) t = inr (0, stops)
+through_toward k l r h (Aborted ∷ xs) t = inr (0, finals tt tt stops)
 through_toward k l r h (Rattle.model.specs.Ends.Deep ∷ xs) t = inl refl
 
 module _ (s : List ℕ) where
@@ -172,6 +190,13 @@ module _ (s : List ℕ) where
       ∙ through_cong (ends s n p c) (λ e b u. search s m rest e (a ++ (b ++ (x, between s c e) ∷ [])) u) (then_rest (suc m) (Closing x c ∷ rest) a)
       (λ e b u. ap (λ y. search s m rest e y u) (sym (append_assoc a b ((x, between s c e) ∷ [])))) t
 
+  -- the first item alone: an end, and what follows it
+  first_same : (m : ℕ) (a : Pending) (rest : List Goal) (xs : List Item) (t : Script) → through (first_only xs) (then_rest m rest a) t ≡ on_hit (through xs (then_rest 1 [] a) t) (λ e b u. search s m rest e b u)
+  first_same m a rest [] t = refl
+  first_same m a rest (End e b ∷ xs) t = on_miss_none (search s m rest e (a ++ b) t)
+  first_same m a rest (Aborted ∷ xs) t = refl
+  first_same m a rest (Rattle.model.specs.Ends.Deep ∷ xs) t = refl
+
   -- from the ends to the search
   abbrev Into : ℕ → Type 0
   Into n = (p : Pat) → IsPlain p → (m : ℕ) (rest : List Goal) (c : ℕ) (a : Pending) (t : Script) → Toward (through (ends s n p c) (then_rest m rest a) t) (λ k. search s k (Part p ∷ rest) c a t)
@@ -185,12 +210,12 @@ module _ (s : List ℕ) where
       (on_miss_toward (search s m rest c (a ++ []) t) (λ u. through (ends s n Succeed c) (then_rest m rest a) u) (λ j. search s j rest c a t) (λ j u. search s j (Part Succeed ∷ rest) c a u)
       (up_search rest c a t) (λ u. up_search (Part Succeed ∷ rest) c a u)
       (at_one (search s m rest c (a ++ []) t) (λ j. search s j rest c a t) m (no_more m rest c a t)) (λ u. into n Succeed tt m rest c a u))
-  into (suc n) Abort pl m rest c a t = inr (1, stops)
+  into (suc n) Abort pl m rest c a t = inr (1, finals tt tt stops)
   into (suc n) Fence pl m rest c a t =
       more (through (ends s (suc n) Fence c) (then_rest m rest a) t) (λ j. search s j (Part Fence ∷ rest) c a t)
       (on_miss_toward (search s m rest c (a ++ []) t) (λ u. Stop) (λ j. search s j rest c a t) (λ j u. Stop)
       (up_search rest c a t) (λ u i j le. refl)
-      (at_one (search s m rest c (a ++ []) t) (λ j. search s j rest c a t) m (no_more m rest c a t)) (λ u. inr (0, stops)))
+      (at_one (search s m rest c (a ++ []) t) (λ j. search s j rest c a t) m (no_more m rest c a t)) (λ u. inr (0, finals tt tt stops)))
   into (suc n) (Cat p q) pl m rest c a t =
       subst (λ y. Toward y (λ j. search s j (Part (Cat p q) ∷ rest) c a t)) (sym (cat_same n m p q rest c a t))
       (more (through (ends s n p c) (λ e b u. through (ends s n q e) (then_rest m rest (a ++ b)) u) t) (λ j. search s j (Part (Cat p q) ∷ rest) c a t)
@@ -205,6 +230,11 @@ module _ (s : List ℕ) where
   into (suc n) (Arbno p) pl m rest c a t =
       more (through (ends s (suc n) (Arbno p) c) (then_rest m rest a) t) (λ j. search s j (Part (Arbno p) ∷ rest) c a t)
       (into n (Alt (Plain (Lit [])) (Cat p (Arbno p))) (tt, (pl, pl)) m rest c a t)
+  into (suc n) (FenceOf p) pl m rest c a t =
+      more (through (first_only (ends s n p c)) (then_rest m rest a) t) (λ j. search s j (Part (FenceOf p) ∷ rest) c a t)
+      (subst (λ y. Toward y (λ j. on_hit (search s j (Part p ∷ []) c a t) (λ e b u. search s j rest e b u))) (sym (first_same m a rest (ends s n p c) t))
+      (on_hit_toward (through (ends s n p c) (then_rest 1 [] a) t) (λ e b u. search s m rest e b u) (λ j. search s j (Part p ∷ []) c a t) (λ j e b u. search s j rest e b u)
+      (up_search (Part p ∷ []) c a t) (λ e b u. up_search rest e b u) (into n p pl 1 [] c a t) (λ e b u. self (λ j. search s j rest e b u) m)))
   into (suc n) (Cond p x) pl m rest c a t =
       subst (λ y. Toward y (λ j. search s j (Part (Cond p x) ∷ rest) c a t)) (sym (cond_same n m p x rest c a t))
       (more (through (ends s n p c) (then_rest (suc m) (Closing x c ∷ rest) a) t) (λ j. search s j (Part (Cond p x) ∷ rest) c a t)
@@ -221,6 +251,16 @@ module _ (s : List ℕ) where
   abbrev Out : ℕ → Type 0
   Out m = (p : Pat) → IsPlain p → (rest : List Goal) (c : ℕ) (a : Pending) (t : Script) → Toward (search s m (Part p ∷ rest) c a t) (λ n. through (ends s n p c) (then_rest m rest a) t)
 
+  -- nothing further takes one level
+  one_level : (m : ℕ) (p : Pat) (c : ℕ) (a : Pending) (t : Script) → Toward (search s m (Part p ∷ []) c a t) (λ n. through (ends s n p c) (then_rest m [] a) t) → Toward (search s m (Part p ∷ []) c a t) (λ n. through (ends s n p c) (then_rest 1 [] a) t)
+  one_level m p c a t h =
+      toward_more (search s m (Part p ∷ []) c a t) (λ n. through (ends s n p c) (then_rest m [] a) t) (λ n. through (ends s n p c) (then_rest 1 [] a) t)
+      (λ n. (n, through_same (then_rest m [] a) (then_rest 1 [] a) (λ e b u. at_level m e (a ++ b) u) (ends s n p c) t)) h
+    where
+      at_level : (m e : ℕ) (b : Pending) (u : Script) → Grows (search s m [] e b u) (search s 1 [] e b u)
+      at_level zero e b u = tt
+      at_level (suc k) e b u = refl
+
   part_out : (m : ℕ) → Out m → (p : Pat) → IsPlain p → (rest : List Goal) (c : ℕ) (a : Pending) (t : Script) → Toward (search s (suc m) (Part p ∷ rest) c a t) (λ n. through (ends s n p c) (then_rest m rest a) t)
   part_out m f (Plain k) pl rest c a t =
       at_one (search s (suc m) (Part (Plain k) ∷ rest) c a t) (λ n. through (ends s n (Plain k) c) (then_rest m rest a) t) 1 (sym (basic_same m k rest c a t))
@@ -229,7 +269,7 @@ module _ (s : List ℕ) where
       (on_miss_toward (search s m rest c a t) (λ u. search s m (Part Succeed ∷ rest) c a u) (λ n. search s m rest c (a ++ []) t) (λ n u. through (ends s n Succeed c) (then_rest m rest a) u)
       (λ i j le. grows_refl (search s m rest c (a ++ []) t)) (λ u. up_ends Succeed c (then_rest m rest a) u)
       (at_one (search s m rest c a t) (λ n. search s m rest c (a ++ []) t) 0 (sym (no_more m rest c a t))) (λ u. f Succeed tt rest c a u))
-  part_out m f Abort pl rest c a t = inr (1, stops)
+  part_out m f Abort pl rest c a t = inr (1, finals tt tt stops)
   part_out m f Fence pl rest c a t =
       at_one (search s (suc m) (Part Fence ∷ rest) c a t) (λ n. through (ends s n Fence c) (then_rest m rest a) t) 1 (ap (λ y. on_miss y (λ u. Stop)) (sym (no_more m rest c a t)))
   part_out m f (Cat p q) pl rest c a t =
@@ -250,6 +290,13 @@ module _ (s : List ℕ) where
   part_out m f (Arbno p) pl rest c a t =
       more (search s (suc m) (Part (Arbno p) ∷ rest) c a t) (λ n. through (ends s n (Arbno p) c) (then_rest m rest a) t)
       (f (Alt (Plain (Lit [])) (Cat p (Arbno p))) (tt, (pl, pl)) rest c a t)
+  part_out m f (FenceOf p) pl rest c a t =
+      let x : Found' = search s m (Part p ∷ []) c a t in
+      let y : Found' = on_hit x (λ e b u. search s m rest e b u) in
+      more y (λ n. through (ends s n (FenceOf p) c) (then_rest m rest a) t)
+      (equal y (λ n. through (ends s (suc n) (FenceOf p) c) (then_rest m rest a) t) (λ n. on_hit (through (ends s n p c) (then_rest 1 [] a) t) (λ e b u. search s m rest e b u)) (λ n. first_same m a rest (ends s n p c) t)
+      (on_hit_toward x (λ e b u. search s m rest e b u) (λ n. through (ends s n p c) (then_rest 1 [] a) t) (λ n e b u. search s m rest e b u)
+      (up_ends p c (then_rest 1 [] a) t) (λ e b u i j le. grows_refl (search s m rest e b u)) (one_level m p c a t (f p pl [] c a t)) (λ e b u. self (λ n. search s m rest e b u) 0)))
   part_out m f (Cond p x) pl rest c a t =
       let y : Found' = search s m (Part p ∷ Closing x c ∷ rest) c a t in
       more y (λ n. through (ends s n (Cond p x) c) (then_rest m rest a) t)

@@ -3,7 +3,7 @@ use Rattle.std.proofs.Common.{◌≡◌, [], ◌∷◌, Some, codes, decimal, re
 use Rattle.model.specs.declared.run.ErrorCode.TheVariants as error
 use Rattle.model.specs.declared.trees.Unary.TheVariants as u
 use Rattle.model.specs.declared.trees.Binary.TheVariants as b
-use Rattle.model.specs.Trees.{Name, Literal, Keyword, Call, Apply, Combine, Label, Match, Assign, Replace, Next, Always, OnSuccess, OnFailure}
+use Rattle.model.specs.Trees.{Name, Literal, Keyword, Call, Apply, Combine, Label, Evaluate, Match, Assign, Replace, Next, Always, OnSuccess, OnFailure}
 use Rattle.model.specs.Names.{prim_named, key_named, named}
 use Rattle.model.specs.Meaning.{meaning}
 use Rattle.model.specs.Agreement.{mean}
@@ -33,6 +33,31 @@ nothing_first = refl
 fence : mean 60 (deck (does (Match (Literal (codes "ABC")) (Combine b.Concatenate (Name (codes "FENCE")) (Literal (codes "B")))) (OnFailure (Label (codes "X"))) ∷ does (sets OUTPUT (Literal (codes "YES"))) (Always (Label (codes "END"))) ∷ at (codes "X") (sets OUTPUT (Literal (codes "NO"))) Next ∷ [])) no_inputs ≡ ends_normally (codes "NO" ∷ [])
 unfolding meaning prim_named key_named named
 fence = refl
+
+-- ` 'ABC' FENCE('A' | 'AB') 'C' :F(X)`: its first end only
+first_end_only : mean 60 (deck (does (Match (Literal (codes "ABC")) (Combine b.Concatenate (Call (codes "FENCE") (args ((Combine b.Alternate (Literal (codes "A")) (Literal (codes "AB"))) ∷ []))) (Literal (codes "C")))) (OnFailure (Label (codes "X"))) ∷ does (sets OUTPUT (Literal (codes "YES"))) (Always (Label (codes "END"))) ∷ at (codes "X") (sets OUTPUT (Literal (codes "NO"))) Next ∷ [])) no_inputs ≡ ends_normally (codes "NO" ∷ [])
+unfolding meaning prim_named key_named named
+first_end_only = refl
+
+-- ` 'ABC' ('A' | 'AB') 'C' :F(X)`
+each_end : mean 60 (deck (does (Match (Literal (codes "ABC")) (Combine b.Concatenate (Combine b.Alternate (Literal (codes "A")) (Literal (codes "AB"))) (Literal (codes "C")))) (OnFailure (Label (codes "X"))) ∷ does (sets OUTPUT (Literal (codes "YES"))) (Always (Label (codes "END"))) ∷ at (codes "X") (sets OUTPUT (Literal (codes "NO"))) Next ∷ [])) no_inputs ≡ ends_normally (codes "YES" ∷ [])
+unfolding meaning prim_named key_named named
+each_end = refl
+
+-- ` 'ABAC' FENCE('A') 'C' :F(X)`: on at the next start
+fence_of_next_start : mean 60 (deck (does (Match (Literal (codes "ABAC")) (Combine b.Concatenate (Call (codes "FENCE") (args ((Literal (codes "A")) ∷ []))) (Literal (codes "C")))) (OnFailure (Label (codes "X"))) ∷ does (sets OUTPUT (Literal (codes "YES"))) (Always (Label (codes "END"))) ∷ at (codes "X") (sets OUTPUT (Literal (codes "NO"))) Next ∷ [])) no_inputs ≡ ends_normally (codes "YES" ∷ [])
+unfolding meaning prim_named key_named named
+fence_of_next_start = refl
+
+-- ` 'ABAC' FENCE 'A' 'C' :F(X)`
+fence_next_start : mean 60 (deck (does (Match (Literal (codes "ABAC")) (Combine b.Concatenate (Combine b.Concatenate (Name (codes "FENCE")) (Literal (codes "A"))) (Literal (codes "C")))) (OnFailure (Label (codes "X"))) ∷ does (sets OUTPUT (Literal (codes "YES"))) (Always (Label (codes "END"))) ∷ at (codes "X") (sets OUTPUT (Literal (codes "NO"))) Next ∷ [])) no_inputs ≡ ends_normally (codes "NO" ∷ [])
+unfolding meaning prim_named key_named named
+fence_next_start = refl
+
+-- ` 'AB' (FENCE('A') 'X' | 'AB') :F(X)`: on with what was before it
+before_fence_of : mean 60 (deck (does (Match (Literal (codes "AB")) (Combine b.Alternate (Combine b.Concatenate (Call (codes "FENCE") (args ((Literal (codes "A")) ∷ []))) (Literal (codes "X"))) (Literal (codes "AB")))) (OnFailure (Label (codes "X"))) ∷ does (sets OUTPUT (Literal (codes "YES"))) (Always (Label (codes "END"))) ∷ at (codes "X") (sets OUTPUT (Literal (codes "NO"))) Next ∷ [])) no_inputs ≡ ends_normally (codes "YES" ∷ [])
+unfolding meaning prim_named key_named named
+before_fence_of = refl
 
 -- ` 'ABC' (LEN(1) $ OUTPUT | LEN(2) $ OUTPUT) FAIL`
 immediate : mean 80 (deck (does (Match (Literal (codes "ABC")) (Combine b.Concatenate (Combine b.Alternate (Combine b.Immediate (Call (codes "LEN") (args ((num 1) ∷ []))) OUTPUT) (Combine b.Immediate (Call (codes "LEN") (args ((num 2) ∷ []))) OUTPUT)) (Name (codes "FAIL")))) Next ∷ [])) no_inputs ≡ ends_normally (codes "A" ∷ codes "AB" ∷ codes "B" ∷ codes "BC" ∷ codes "C" ∷ [])
@@ -83,6 +108,11 @@ cursor = refl
 deferred_argument : mean 60 (deck (set (Name (codes "N")) (num 2) ∷ does (Match (Literal (codes "ABC")) (Combine b.Conditional (Call (codes "LEN") (args ((Apply u.Unevaluated (Name (codes "N"))) ∷ []))) OUTPUT)) Next ∷ [])) no_inputs ≡ ends_normally (codes "AB" ∷ [])
 unfolding meaning prim_named key_named named
 deferred_argument = refl
+
+-- ` DEFINE('FENCE(P)')`: the name of a primitive
+fence_is_primitive : mean 60 (deck (does (Evaluate (Call (codes "DEFINE") (args ((Literal (codes "FENCE(P)")) ∷ [])))) Next ∷ [])) no_inputs ≡ ends_with error.BadPrototype 1 []
+unfolding meaning prim_named key_named named
+fence_is_primitive = refl
 
 -- LEN(-1)
 negative_length : mean 60 (deck (does (Match (Literal (codes "ABC")) (Call (codes "LEN") (args ((Apply u.Minus (num 1)) ∷ [])))) Next ∷ [])) no_inputs ≡ ends_with error.BadPatternArgument 1 []

@@ -27,14 +27,14 @@ module _ (prog : Program) (img : Module) (trees_at : ℕ → Option Expr) (place
   abbrev R : W → MW → Type 0
   R = WR trees_at
 
-  next_suc : (n i : ℕ) → suc (n + i) ≡ n + suc i
+  pub next_suc : (n i : ℕ) → suc (n + i) ≡ n + suc i
   next_suc n i = omega arith
 
-  alike_end : {t : Script} {u : S.Answers} {y : Answer Pt.Pat} {z : Answer PCode} → Alike trees_at t u → AlikeAnswer trees_at y z → Alike trees_at (t ++ y ∷ []) (u ++ z ∷ [])
+  pub alike_end : {t : Script} {u : S.Answers} {y : Answer Pt.Pat} {z : Answer PCode} → Alike trees_at t u → AlikeAnswer trees_at y z → Alike trees_at (t ++ y ∷ []) (u ++ z ∷ [])
   alike_end St.none h = St.more h St.none
   alike_end (St.more k r) h = St.more k (alike_end r h)
 
-  alike_over : (s : Bytes) (code : PCode) (x : Event) (y : Pt.Event ℕ) → AlikeEvent trees_at x y → IsOver s code y
+  pub alike_over : (s : Bytes) (code : PCode) (x : Event) (y : Pt.Event ℕ) → AlikeEvent trees_at x y → IsOver s code y
   alike_over s code x y St.fail = tt
   alike_over s code x y St.match = tt
   alike_over s code x y (St.ask h) = tt

@@ -84,6 +84,7 @@ prim_back p.Apply = refl
 prim_back p.Input = refl
 prim_back p.Output = refl
 prim_back p.Detach = refl
+prim_back p.Fence = refl
 
 prim_has_name : (text : List ℕ) (x : PrimId) → prim_named text ≡ Some x → text ≡ prim_name x
 unfolding prim_named

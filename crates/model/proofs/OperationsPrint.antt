@@ -335,6 +335,7 @@ module _ {P E : Type 0} where
   prim_on mk p.Input vs w = returned_on (by_conv w (to_variable (arg_at vs 0)) _ (λ x. unit_on 5 (arg_at vs 1) w (λ u. Gives (Str []) (set_reads x (Some u) w)) (λ u. gon (same_printed w _ refl))))
   prim_on mk p.Output vs w = returned_on (by_conv w (to_variable (arg_at vs 0)) _ (λ x. unit_on 6 (arg_at vs 1) w (λ u. Gives (Str []) (set_writes x (Some u) w)) (λ u. gon (same_printed w _ refl))))
   prim_on mk p.Detach vs w = returned_on (by_conv w (to_variable (arg_at vs 0)) _ (λ x. gon (same_printed w _ refl)))
+  prim_on mk p.Fence vs w = returned_on (by_conv w (to_pattern mk (arg_at vs 0)) _ (λ q. kept w))
   prim_on mk p.Apply [] w = faulted w
   prim_on mk p.Apply (v ∷ vs) w = by_conv w (to_variable v) _ (λ f. applied_on f vs w _ (λ q. prim_on mk q vs w) (prim_named f))
 

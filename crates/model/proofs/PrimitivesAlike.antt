@@ -367,6 +367,7 @@ module _ (at : ℕ → Option Expr) where
   prim_same p.Output hs wr =
       returned_same (conv_same at (VR at) _ _ _ _ (variable_same at (arg_same hs 0)) wr (λ x. unit_same 6 _ _ (arg_same hs 1) wr (λ u. gives (rstr []) (writes_same x (Some u) wr))))
   prim_same p.Detach hs wr = returned_same (conv_same at (VR at) _ _ _ _ (variable_same at (arg_same hs 0)) wr (λ x. gives (rstr []) (writes_same x None (reads_same x None wr))))
+  prim_same p.Fence hs wr = returned_same (conv_stands at (λ p c. Stands at p c) (VR at) _ _ (pattern_same at (arg_same hs 0)) wr (λ p c x. gives (rpat (c, x, refl)) wr))
   prim_same p.Apply rnil wr = faults error.NotAName wr
   prim_same p.Apply (rcons h hs) wr = conv_same at (OutcomeR at) _ _ _ _ (variable_same at h) wr (λ f. applied_same f _ _ hs wr (λ q. prim_same q hs wr) (prim_named f))
 

@@ -43,7 +43,7 @@ key_code_again keyIds.FncLevel = refl
 key_code_again keyIds.RtnType = refl
 
 prims_are : AreCodes prim_code 0 prims
-prims_are = (refl, (refl, (refl, (refl, (refl, (refl, (refl, (refl, (refl, (refl, (refl, (refl, (refl, (refl, (refl, (refl, (refl, (refl, (refl, (refl, (refl, (refl, (refl, (refl, (refl, (refl, (refl, (refl, (refl, (refl, (refl, (refl, (refl, (refl, (refl, (refl, (refl, tt)))))))))))))))))))))))))))))))))))))
+prims_are = (refl, (refl, (refl, (refl, (refl, (refl, (refl, (refl, (refl, (refl, (refl, (refl, (refl, (refl, (refl, (refl, (refl, (refl, (refl, (refl, (refl, (refl, (refl, (refl, (refl, (refl, (refl, (refl, (refl, (refl, (refl, (refl, (refl, (refl, (refl, (refl, (refl, (refl, tt))))))))))))))))))))))))))))))))))))))
 
 prim_code_again : (x : PrimId) → slice_get prims (prim_code x) ≡ Some x
 prim_code_again primIds.Len = refl
@@ -83,6 +83,7 @@ prim_code_again primIds.Apply = refl
 prim_code_again primIds.Input = refl
 prim_code_again primIds.Output = refl
 prim_code_again primIds.Detach = refl
+prim_code_again primIds.Fence = refl
 
 return_kinds_are : AreCodes return_code 0 return_kinds
 return_kinds_are = (refl, (refl, (refl, tt)))

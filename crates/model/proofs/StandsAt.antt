@@ -3,9 +3,9 @@ use Rattle.std.proofs.Common.{◌≡◌, ℕ, ℤ, zero, suc, ◌+◌, List, [],
 use Rattle.std.specs.Prelude.{slice_get, pos, negsuc}
 use Rattle.std.proofs.Math.Seq.{get_or-append_seam}
 use Rattle.std.proofs.lemmas.Option.{slice_get-get_or, slice_get_past}
-use Rattle.model.specs.Pattern.{Lit, Pat, Plain, Succeed, Abort, Fence, Cat, Alt, Arbno, Cond, Imm, At, Defer, DeferBasic, Name, Expr, Instr, Do, Split, Jmp, DoSucceed, DoAbort, DoFence, Open, Close, Say, AtCursor, Eval, EvalBasic}
+use Rattle.model.specs.Pattern.{Lit, Pat, Plain, Succeed, Abort, Fence, Cat, Alt, Arbno, FenceOf, Cond, Imm, At, Defer, DeferBasic, Name, Expr, Instr, Do, Split, Jmp, DoSucceed, DoAbort, DoFence, Open, OpenFence, CloseFence, Close, Say, AtCursor, Eval, EvalBasic}
 use Rattle.model.specs.Search.{Goal, Part, Closing, Saying}
-use Rattle.model.specs.Steps.{Code, Note, Opened, Left, at_distance, past_jump, on_after}
+use Rattle.model.specs.Steps.{Code, Note, Opened, Fenced, Left, at_distance, past_jump, on_after}
 use Rattle.model.specs.Stands.{Stands}
 use Rattle.model.specs.PatternCode.{led_past, exit_past, exits_past, alt_code, arbno_code}
 use Rattle.model.proofs.Exits.{led_here, led_not, Within, exits_none, exits_length, exits_before, exits_last, exits_twice, within_append, within_exits}
@@ -30,6 +30,8 @@ StandsAt xs code (Alt q r) p x =
     (d : ℤ) × (slice_get code p ≡ Some (Split d)) × StandsAt xs code q (p + 1) x × StandsAt xs code r (at_distance code p d) x
 StandsAt xs code (Arbno q) p x =
     (d : ℤ) × (slice_get code p ≡ Some (Split d)) × Leads code (p + 1) x × StandsAt xs code q (at_distance code p d) p
+StandsAt xs code (FenceOf q) p x =
+    (slice_get code p ≡ Some OpenFence) × (y : ℕ) × StandsAt xs code q (p + 1) y × (slice_get code y ≡ Some CloseFence) × Leads code (y + 1) x
 StandsAt xs code (Cond q n) p x =
     (slice_get code p ≡ Some Open) × (y : ℕ) × StandsAt xs code q (p + 1) y × (slice_get code y ≡ Some (Close n)) × Leads code (y + 1) x
 StandsAt xs code (Imm q n) p x =
@@ -40,35 +42,42 @@ StandsAt xs code (Defer e) p x =
 StandsAt xs code (DeferBasic j e) p x =
     (k : ℕ) × (xs k ≡ Some e) × (slice_get code p ≡ Some (EvalBasic j k)) × Leads code (p + 1) x
 
--- at p, with these notes, these goals are still to match
-pub data RestAt (xs : ℕ → Option Expr) : Code → ℕ → List Note → List Goal → Type 0 where
-  ended : {code : Code} {p : ℕ} → slice_get code p ≡ None → RestAt xs code p [] []
-  left : {code code' : Code} {p p' : ℕ} {notes : List Note} {rest : List Goal} → slice_get code p ≡ None → RestAt xs code' p' notes rest → RestAt xs code p (Left code' p' ∷ notes) rest
-  jump : {code : Code} {p : ℕ} {notes : List Note} {rest : List Goal} {d : ℤ} → slice_get code p ≡ Some (Jmp d) → RestAt xs code (at_distance code p d) notes rest → RestAt xs code p notes rest
-  part : {code : Code} {p x : ℕ} {notes : List Note} {rest : List Goal} {q : Pat} → StandsAt xs code q p x → RestAt xs code x notes rest → RestAt xs code p notes (Part q ∷ rest)
-  closing : {code : Code} {p b : ℕ} {notes : List Note} {rest : List Goal} {n : Name} → slice_get code p ≡ Some (Close n) → RestAt xs code (p + 1) notes rest → RestAt xs code p (Opened b ∷ notes) (Closing n b ∷ rest)
-  saying : {code : Code} {p b : ℕ} {notes : List Note} {rest : List Goal} {n : Name} → slice_get code p ≡ Some (Say n) → RestAt xs code (p + 1) notes rest → RestAt xs code p (Opened b ∷ notes) (Saying n b ∷ rest)
+-- where the goals end: with the whole code, or at an FCLOSE of the code, with the number that its FOPEN noted
+-- and the notes before it
+pub data Ending : Type 0 where
+  Whole : Ending
+  InFence : ℕ → Code → ℕ → List Note → Ending
 
-pub jumps_rest : (xs : ℕ → Option Expr) (code : Code) (notes : List Note) (rest : List Goal) (k p x : ℕ) → Jumps code k p x → RestAt xs code x notes rest → RestAt xs code p notes rest
-jumps_rest xs code notes rest zero p x h r = subst (λ y. RestAt xs code y notes rest) (sym h) r
+-- at p, with these notes, these goals are still to match
+pub data RestAt (xs : ℕ → Option Expr) : Ending → Code → ℕ → List Note → List Goal → Type 0 where
+  ended : {code : Code} {p : ℕ} → slice_get code p ≡ None → RestAt xs Whole code p [] []
+  fence_ended : {code : Code} {p k : ℕ} {notes : List Note} → slice_get code p ≡ Some CloseFence → RestAt xs (InFence k code p notes) code p (Fenced k ∷ notes) []
+  left : {en : Ending} {code code' : Code} {p p' : ℕ} {notes : List Note} {rest : List Goal} → slice_get code p ≡ None → RestAt xs en code' p' notes rest → RestAt xs en code p (Left code' p' ∷ notes) rest
+  jump : {en : Ending} {code : Code} {p : ℕ} {notes : List Note} {rest : List Goal} {d : ℤ} → slice_get code p ≡ Some (Jmp d) → RestAt xs en code (at_distance code p d) notes rest → RestAt xs en code p notes rest
+  part : {en : Ending} {code : Code} {p x : ℕ} {notes : List Note} {rest : List Goal} {q : Pat} → StandsAt xs code q p x → RestAt xs en code x notes rest → RestAt xs en code p notes (Part q ∷ rest)
+  closing : {en : Ending} {code : Code} {p b : ℕ} {notes : List Note} {rest : List Goal} {n : Name} → slice_get code p ≡ Some (Close n) → RestAt xs en code (p + 1) notes rest → RestAt xs en code p (Opened b ∷ notes) (Closing n b ∷ rest)
+  saying : {en : Ending} {code : Code} {p b : ℕ} {notes : List Note} {rest : List Goal} {n : Name} → slice_get code p ≡ Some (Say n) → RestAt xs en code (p + 1) notes rest → RestAt xs en code p (Opened b ∷ notes) (Saying n b ∷ rest)
+
+pub jumps_rest : (xs : ℕ → Option Expr) {en : Ending} (code : Code) (notes : List Note) (rest : List Goal) (k p x : ℕ) → Jumps code k p x → RestAt xs en code x notes rest → RestAt xs en code p notes rest
+jumps_rest xs {en = en} code notes rest zero p x h r = subst (λ y. RestAt xs en code y notes rest) (sym h) r
 jumps_rest xs code notes rest (suc k) p x h r = jump h.1 (jumps_rest xs code notes rest k (at_distance code p h.0) x h.2 r)
 
 -- the instructions stand in the code at this place
-abbrev HasAt : Code → ℕ → Code → Type 0
+abbrev pub HasAt : Code → ℕ → Code → Type 0
 HasAt code p [] = Unit {0}
 HasAt code p (i ∷ is) = (slice_get code p ≡ Some i) × HasAt code (p + 1) is
 
-has_front : (code : Code) (p : ℕ) (a b : Code) → HasAt code p (a ++ b) → HasAt code p a
+pub has_front : (code : Code) (p : ℕ) (a b : Code) → HasAt code p (a ++ b) → HasAt code p a
 has_front code p [] b h = tt
 has_front code p (i ∷ a) b h = (h.0, has_front code (p + 1) a b h.1)
 
-has_back : (code : Code) (p : ℕ) (a b : Code) → HasAt code p (a ++ b) → HasAt code (p + length a) b
+pub has_back : (code : Code) (p : ℕ) (a b : Code) → HasAt code p (a ++ b) → HasAt code (p + length a) b
 has_back code p [] b h = let e : p ≡ p + 0 = omega arith in subst (λ n. HasAt code n b) e h
 has_back code p (i ∷ a) b h =
     let e : p + 1 + length a ≡ p + length (i ∷ a) = omega arith in
     subst (λ n. HasAt code n b) e (has_back code (p + 1) a b h.1)
 
-has_all : (is pre : Code) → HasAt (pre ++ is) (length pre) is
+pub has_all : (is pre : Code) → HasAt (pre ++ is) (length pre) is
 has_all [] pre = tt
 has_all (i ∷ is) pre =
     let within : length pre < length (pre ++ i ∷ is) = omega (arith, length-append pre (i ∷ is)) in
@@ -95,6 +104,7 @@ empty_stands xs code (Cat q r) cq p x (ca, cb, sa, sb, e) z g =
     (x, empty_stands xs code q ca p x sa (omega (arith, n, z)) g, empty_stands xs code r cb x x sb (omega (arith, n, z)) (0, refl))
 empty_stands xs code (Alt q r) cq p x (ca, cb, sa, sb, e) z g = absurd (omega (arith, ap length e, z))
 empty_stands xs code (Arbno q) cq p x (ca, sa, e) z g = absurd (omega (arith, ap length e, z))
+empty_stands xs code (FenceOf q) cq p x (ca, sa, e) z g = absurd (omega (arith, ap length e, z))
 empty_stands xs code (Cond q n) cq p x (ca, sa, e) z g = absurd (omega (arith, ap length e, z))
 empty_stands xs code (Imm q n) cq p x (ca, sa, e) z g = absurd (omega (arith, ap length e, z))
 empty_stands xs code (At n) cq p x st z g = absurd (omega (arith, ap length st, z))
@@ -102,7 +112,7 @@ empty_stands xs code (Defer e) cq p x (k, ek, st) z g = absurd (omega (arith, ap
 empty_stands xs code (DeferBasic j e) cq p x (k, ek, st) z g = absurd (omega (arith, ap length st, z))
 
 -- no distance of it leads past its end
-stands_within : (xs : ℕ → Option Expr) (q : Pat) (cq : Code) → Stands xs q cq → Within 0 cq
+pub stands_within : (xs : ℕ → Option Expr) (q : Pat) (cq : Code) → Stands xs q cq → Within 0 cq
 stands_within xs (Plain (Lit [])) cq st = subst (Within 0) (sym st) tt
 stands_within xs (Plain (Lit (b ∷ w))) cq st = subst (Within 0) (sym st) (tt, tt)
 stands_within xs (Plain k) cq st = subst (Within 0) (sym st) (tt, tt)
@@ -122,6 +132,8 @@ stands_within xs (Arbno q) cq (ca, sa, e) =
     let j : Code = Jmp (negsuc (length ca + 1)) ∷ [] in
     let n = length-append ca j in
     subst (Within 0) (sym e) (omega (arith, n), (omega (arith, n), within_append 0 0 ca j (stands_within xs q ca sa) (omega arith) (tt, tt)))
+stands_within xs (FenceOf q) cq (ca, sa, e) =
+    subst (Within 0) (sym e) (tt, within_append 0 0 ca (CloseFence ∷ []) (stands_within xs q ca sa) (omega arith) (tt, tt))
 stands_within xs (Cond q x) cq (ca, sa, e) =
     subst (Within 0) (sym e) (tt, within_append 0 0 ca (Close x ∷ []) (stands_within xs q ca sa) (omega arith) (tt, tt))
 stands_within xs (Imm q x) cq (ca, sa, e) =
@@ -145,7 +157,7 @@ plainly : (xs : ℕ → Option Expr) (code : Code) (q : Pat) (cq : Code) (p x : 
 plainly xs code q cq p x f h le g =
     f 0 p x (subst (HasAt code p) (sym (exits_none cq)) h) (omega (arith, le)) g (subst (λ y. Leads code y x) (omega arith) g)
 
-none_or_some : (n : ℕ) → (n ≡ 0) ⊎ (0 < n)
+pub none_or_some : (n : ℕ) → (n ≡ 0) ⊎ (0 < n)
 none_or_some zero = inl refl
 none_or_some (suc n) = inr (omega arith)
 
@@ -178,10 +190,10 @@ cat_at xs code q r ca cb cq wa sb fa fb e k p x h le g f = go (none_or_some (len
         )
 
 -- the JMP behind p's code, and q's code
-abbrev behind : Code → Code
+abbrev pub behind : Code → Code
 behind cb = Jmp (pos (length cb + 1)) ∷ cb
 
-alt_length : (ca cb : Code) → length (alt_code ca cb) ≡ length ca + 2 + length cb
+pub alt_length : (ca cb : Code) → length (alt_code ca cb) ≡ length ca + 2 + length cb
 alt_length ca cb = omega (arith, length-append (exits_past (length cb + 1) ca) (behind cb), exits_length (length cb + 1) ca)
 
 alt_at : (xs : ℕ → Option Expr) (code : Code) (q r : Pat) (ca cb cq : Code) → Within 0 ca → Stands xs r cb → Lasts xs code q ca → Lasts xs code r cb → cq ≡ alt_code ca cb → Lasts xs code (Alt q r) cq
@@ -265,6 +277,8 @@ stands_at xs code (Cat q r) cq (ca, cb, sa, sb, e) =
 stands_at xs code (Alt q r) cq (ca, cb, sa, sb, e) =
     alt_at xs code q r ca cb cq (stands_within xs q ca sa) sb (stands_at xs code q ca sa) (stands_at xs code r cb sb) e
 stands_at xs code (Arbno q) cq (ca, sa, e) = arbno_at xs code q ca cq (stands_within xs q ca sa) (stands_at xs code q ca sa) e
+stands_at xs code (FenceOf q) cq (ca, sa, e) = λ k p x h le g f.
+    between_at xs code q OpenFence CloseFence ca cq k p x refl refl (stands_within xs q ca sa) (stands_at xs code q ca sa) e h le g
 stands_at xs code (Cond q n) cq (ca, sa, e) = λ k p x h le g f.
     between_at xs code q Open (Close n) ca cq k p x refl refl (stands_within xs q ca sa) (stands_at xs code q ca sa) e h le g
 stands_at xs code (Imm q n) cq (ca, sa, e) = λ k p x h le g f.
@@ -336,29 +350,31 @@ part_skip xs code (Cat q r) p x d e (y, h, k) = go (λ z. part_skip xs code r p 
     go f (inr (s, all)) = next s all (f (subst (λ z. StandsAt xs code r z x) (sym s) k))
 part_skip xs code (Alt q r) p x d e (c, g, h, k) = no_jump code p d (Some (Split c)) e g (λ z. z)
 part_skip xs code (Arbno q) p x d e (c, g, l, h) = no_jump code p d (Some (Split c)) e g (λ z. z)
+part_skip xs code (FenceOf q) p x d e (g, y, h, k, l) = no_jump code p d (Some OpenFence) e g (λ z. z)
 part_skip xs code (Cond q n) p x d e (g, y, h, k, l) = no_jump code p d (Some Open) e g (λ z. z)
 part_skip xs code (Imm q n) p x d e (g, y, h, k, l) = no_jump code p d (Some Open) e g (λ z. z)
 part_skip xs code (At n) p x d e (g, h) = no_jump code p d (Some (AtCursor n)) e g (λ z. z)
 part_skip xs code (Defer y) p x d e (k, ek, g, h) = no_jump code p d (Some (Eval k)) e g (λ z. z)
 part_skip xs code (DeferBasic j y) p x d e (k, ek, g, h) = no_jump code p d (Some (EvalBasic j k)) e g (λ z. z)
 
-rest_skip : (xs : ℕ → Option Expr) (code : Code) (p : ℕ) (notes : List Note) (rest : List Goal) (d : ℤ) → slice_get code p ≡ Some (Jmp d) → RestAt xs code p notes rest → RestAt xs code (at_distance code p d) notes rest
+rest_skip : (xs : ℕ → Option Expr) {en : Ending} (code : Code) (p : ℕ) (notes : List Note) (rest : List Goal) (d : ℤ) → slice_get code p ≡ Some (Jmp d) → RestAt xs en code p notes rest → RestAt xs en code (at_distance code p d) notes rest
 unfolding IsJump
 rest_skip xs code p notes rest d e (ended g) = no_jump code p d None e g (λ z. z)
+rest_skip xs code p notes rest d e (fence_ended g) = no_jump code p d (Some CloseFence) e g (λ z. z)
 rest_skip xs code p notes rest d e (left g r) = no_jump code p d None e g (λ z. z)
-rest_skip xs code p notes rest d e (jump {d = c} g r) = subst (λ z. RestAt xs code (at_distance code p z) notes rest) (same_jump code p d c e g) r
-rest_skip xs code p notes goals d e (part {x = x} {rest = rest} {q = q} st r) = go (λ s. rest_skip xs code x notes rest d (subst (λ z. slice_get code z ≡ Some (Jmp d)) s e) r) (part_skip xs code q p x d e st)
+rest_skip xs {en = en} code p notes rest d e (jump {d = c} g r) = subst (λ z. RestAt xs en code (at_distance code p z) notes rest) (same_jump code p d c e g) r
+rest_skip xs {en = en} code p notes goals d e (part {x = x} {rest = rest} {q = q} st r) = go (λ s. rest_skip xs code x notes rest d (subst (λ z. slice_get code z ≡ Some (Jmp d)) s e) r) (part_skip xs code q p x d e st)
   where
-    go : (p ≡ x → RestAt xs code (at_distance code x d) notes rest) → StandsAt xs code q (at_distance code p d) x ⊎ ((p ≡ x) × ((y : ℕ) → StandsAt xs code q y y)) → RestAt xs code (at_distance code p d) notes (Part q ∷ rest)
+    go : (p ≡ x → RestAt xs en code (at_distance code x d) notes rest) → StandsAt xs code q (at_distance code p d) x ⊎ ((p ≡ x) × ((y : ℕ) → StandsAt xs code q y y)) → RestAt xs en code (at_distance code p d) notes (Part q ∷ rest)
     go f (inl m) = part m r
-    go f (inr (s, all)) = part (all (at_distance code p d)) (subst (λ z. RestAt xs code (at_distance code z d) notes rest) (sym s) (f s))
+    go f (inr (s, all)) = part (all (at_distance code p d)) (subst (λ z. RestAt xs en code (at_distance code z d) notes rest) (sym s) (f s))
 rest_skip xs code p notes goals d e (closing {n = n} g r) = no_jump code p d (Some (Close n)) e g (λ z. z)
 rest_skip xs code p notes goals d e (saying {n = n} g r) = no_jump code p d (Some (Say n)) e g (λ z. z)
 
-pub rest_after : (xs : ℕ → Option Expr) (code : Code) (p : ℕ) (notes : List Note) (rest : List Goal) → RestAt xs code p notes rest → RestAt xs code (on_after code p) notes rest
-rest_after xs code p notes rest r = go (slice_get code p) refl
+pub rest_after : (xs : ℕ → Option Expr) {en : Ending} (code : Code) (p : ℕ) (notes : List Note) (rest : List Goal) → RestAt xs en code p notes rest → RestAt xs en code (on_after code p) notes rest
+rest_after xs {en = en} code p notes rest r = go (slice_get code p) refl
   where
-    go : (o : Option Instr) → slice_get code p ≡ o → RestAt xs code (past_jump code p o) notes rest
+    go : (o : Option Instr) → slice_get code p ≡ o → RestAt xs en code (past_jump code p o) notes rest
     go (Some (Jmp d)) e = rest_skip xs code p notes rest d e r
     go None e = r
     go (Some _) e = r

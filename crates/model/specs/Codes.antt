@@ -74,6 +74,7 @@ prim_code primIds.Apply = 33
 prim_code primIds.Input = 34
 prim_code primIds.Output = 35
 prim_code primIds.Detach = 36
+prim_code primIds.Fence = 37
 
 abbrev pub return_code : ReturnKind → ℕ
 return_code returnKinds.Return = 0

@@ -57,6 +57,7 @@ pub mod FaultRows
 pub mod TreeRows
 pub mod Lexed
 pub mod RulesUsed
+pub mod StepBound
 pub mod Flow
 pub mod WellFormed
 pub mod ValueLaws

@@ -85,10 +85,11 @@ prim_name p.Apply = codes "APPLY"
 prim_name p.Input = codes "INPUT"
 prim_name p.Output = codes "OUTPUT"
 prim_name p.Detach = codes "DETACH"
+prim_name p.Fence = codes "FENCE"
 
 -- each primitive, in the order of the codes
 abbrev pub prims : List PrimId
-prims = p.Len ∷ p.Pos ∷ p.RPos ∷ p.Tab ∷ p.RTab ∷ p.Any ∷ p.NotAny ∷ p.Span ∷ p.Break ∷ p.Arbno ∷ p.Eq ∷ p.Ne ∷ p.Lt ∷ p.Le ∷ p.Gt ∷ p.Ge ∷ p.Lgt ∷ p.Ident ∷ p.Differ ∷ p.Integer ∷ p.Size ∷ p.Trim ∷ p.Dupl ∷ p.Replace ∷ p.Remdr ∷ p.DataType ∷ p.Array ∷ p.Table ∷ p.Item ∷ p.Copy ∷ p.Convert ∷ p.Data ∷ p.Define ∷ p.Apply ∷ p.Input ∷ p.Output ∷ p.Detach ∷ []
+prims = p.Len ∷ p.Pos ∷ p.RPos ∷ p.Tab ∷ p.RTab ∷ p.Any ∷ p.NotAny ∷ p.Span ∷ p.Break ∷ p.Arbno ∷ p.Eq ∷ p.Ne ∷ p.Lt ∷ p.Le ∷ p.Gt ∷ p.Ge ∷ p.Lgt ∷ p.Ident ∷ p.Differ ∷ p.Integer ∷ p.Size ∷ p.Trim ∷ p.Dupl ∷ p.Replace ∷ p.Remdr ∷ p.DataType ∷ p.Array ∷ p.Table ∷ p.Item ∷ p.Copy ∷ p.Convert ∷ p.Data ∷ p.Define ∷ p.Apply ∷ p.Input ∷ p.Output ∷ p.Detach ∷ p.Fence ∷ []
 
 unfoldable pub prim_named : List ℕ → Option PrimId
 prim_named = named prim_name prims

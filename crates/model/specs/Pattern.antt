@@ -24,7 +24,7 @@ pub data Pat : Type 0 where
   Plain : Basic → Pat
   Succeed Abort Fence : Pat
   Cat Alt : Pat → Pat → Pat
-  Arbno : Pat → Pat
+  Arbno FenceOf : Pat → Pat
   Cond Imm : Pat → Name → Pat
   At : Name → Pat
   Defer : Expr → Pat
@@ -34,7 +34,7 @@ pub data Pat : Type 0 where
 pub data Instr : Type 0 where
   Do : Basic → Instr
   Split Jmp : ℤ → Instr
-  DoSucceed DoAbort DoFence Open : Instr
+  DoSucceed DoAbort DoFence Open OpenFence CloseFence : Instr
   Close Say AtCursor : Name → Instr
   Eval : ℕ → Instr
   EvalBasic : Kind → ℕ → Instr

@@ -1,11 +1,11 @@
 -- Worked cases of matches: what the scan of a pattern and the steps of its code answer.
 use Rattle.std.specs.Prelude.{◌≡◌, ℕ, List, [], ◌∷◌, map, length, codes}
 use Rattle.model.specs.Target.{Name, Variable}
-use Rattle.model.specs.Pattern.{KLen, Lit, Len, Pos, RPos, Tab, RTab, AnyOf, NotAnyOf, Span, Break, Rem, Arb, Bal, Fail, Pat, Plain, Succeed, Abort, Fence, Cat, Alt, Arbno, Cond, Imm, At, Defer, DeferBasic, Expr, DoSucceed, DoAbort, DoFence, Pending, IsPattern, IsCount, IsFailed, IsSaid, Event, Running, Failed, Asks, Matched, AskFor, SayThat, Text, Number, WantPattern, WantCount}
+use Rattle.model.specs.Pattern.{KLen, Lit, Len, Pos, RPos, Tab, RTab, AnyOf, NotAnyOf, Span, Break, Rem, Arb, Bal, Fail, Pat, Plain, Succeed, Abort, Fence, Cat, Alt, Arbno, FenceOf, Cond, Imm, At, Defer, DeferBasic, Expr, DoSucceed, DoAbort, DoFence, Pending, IsPattern, IsCount, IsFailed, IsSaid, Event, Running, Failed, Asks, Matched, AskFor, SayThat, Text, Number, WantPattern, WantCount}
 use Rattle.model.specs.Trees as trees
 use Rattle.model.specs.Search.{Script, scan}
 use Rattle.model.specs.Steps.{Code, Answers, match_steps, event_of}
-use Rattle.model.specs.PatternCode.{basic_code, cat_code, alt_code, arbno_code, cond_code, imm_code, cursor_code, defer_code, defer_basic_code}
+use Rattle.model.specs.PatternCode.{basic_code, cat_code, alt_code, arbno_code, fence_code, cond_code, imm_code, cursor_code, defer_code, defer_basic_code}
 
 -- the code of a pattern, with every expression as number 0
 abbrev pub code_of : Pat → Code
@@ -16,6 +16,7 @@ code_of Fence = DoFence ∷ []
 code_of (Cat p q) = cat_code (code_of p) (code_of q)
 code_of (Alt p q) = alt_code (code_of p) (code_of q)
 code_of (Arbno p) = arbno_code (code_of p)
+code_of (FenceOf p) = fence_code (code_of p)
 code_of (Cond p x) = cond_code (code_of p) x
 code_of (Imm p x) = imm_code (code_of p) x
 code_of (At x) = cursor_code x
@@ -105,6 +106,21 @@ cases =
     ∷ case (codes "AB") (Cat (Plain (Len 1)) (Plain Rem)) (Match 0 2 [])
     ∷ case (codes "AB") (Alt (Plain Fail) Abort) NoMatch
     ∷ case (codes "AB") (Cat Succeed (text (codes "A"))) (Match 0 1 [])
+    -- `FENCE('A' | 'AB') 'C'`: the first end only
+    ∷ case (codes "ABC") (Cat (FenceOf (Alt (text (codes "A")) (text (codes "AB")))) (text (codes "C"))) NoMatch
+    -- `FENCE('A') 'C'`: on at the next start
+    ∷ case (codes "ABAC") (Cat (FenceOf (text (codes "A"))) (text (codes "C"))) (Match 2 4 [])
+    -- `FENCE('A') 'X' | 'AB'`: on with what was before it
+    ∷ case (codes "AB") (Alt (Cat (FenceOf (text (codes "A"))) (text (codes "X"))) (text (codes "AB"))) (Match 0 2 [])
+    -- `POS(0) ARBNO(FENCE('A' | 'AB')) 'C'`, and with the longer one first: the choice of another turn stays
+    ∷ case (codes "ABAC") (at_first (Cat (Arbno (FenceOf (Alt (text (codes "A")) (text (codes "AB"))))) (text (codes "C")))) NoMatch
+    ∷ case (codes "ABAC") (at_first (Cat (Arbno (FenceOf (Alt (text (codes "AB")) (text (codes "A"))))) (text (codes "C")))) (Match 0 4 [])
+    -- `FENCE('A' ABORT) | 'A'`, `FENCE(FAIL) | 'A'` and `FENCE('') 'B'`: a stop ends the match, a failure does not
+    ∷ case (codes "AB") (Alt (FenceOf (Cat (text (codes "A")) Abort)) (text (codes "A"))) NoMatch
+    ∷ case (codes "AB") (Alt (FenceOf (Plain Fail)) (text (codes "A"))) (Match 0 1 [])
+    ∷ case (codes "AB") (Cat (FenceOf (text [])) (text (codes "B"))) (Match 1 2 [])
+    -- `FENCE(FENCE(ARB . X) 'B') RPOS(0)`: one in another
+    ∷ case (codes "ABB") (Cat (FenceOf (Cat (FenceOf (Cond (Plain Arb) x)) (text (codes "B")))) (Plain (RPos 0))) (Match 2 3 ((x, []) ∷ []))
     ∷ case (codes "AB") (Cat Succeed (Plain Fail)) NotYet
     ∷ []
 
@@ -117,6 +133,10 @@ e = trees.Name (codes "E")
 -- `'A' *E | 'B'`
 abbrev pub nested : Pat
 nested = Alt (Cat (text (codes "A")) (Defer e)) (text (codes "B"))
+
+-- `FENCE('A' | 'AA')`
+abbrev pub one_or_two : Pat
+one_or_two = FenceOf (Alt (text (codes "A")) (text (codes "AA")))
 
 -- a subject, a pattern, the answers for the scan and those for the code, and what is asked or told then
 pub record Asked : Type 0 where
@@ -150,6 +170,11 @@ questions =
     ∷ asked (codes "AB") (DeferBasic KLen e) (IsCount 3 ∷ []) (IsCount 3 ∷ []) (Asks (AskFor e WantCount)) (Asks (AskFor 0 WantCount))
     ∷ asked (codes "AB") (DeferBasic KLen e) (IsCount 3 ∷ IsCount 1 ∷ []) (IsCount 3 ∷ IsCount 1 ∷ []) (Matched 1 2 []) (Matched 1 2 [])
     ∷ asked (codes "AB") (DeferBasic KLen e) (IsFailed ∷ IsFailed ∷ IsFailed ∷ []) (IsFailed ∷ IsFailed ∷ IsFailed ∷ []) Failed Failed
+    -- `FENCE(*E | 'AA') 'B'`: what is asked inside a fence, and the answers that are left behind it
+    ∷ asked (codes "AAB") (Cat (FenceOf (Alt (Defer e) (text (codes "AA")))) (text (codes "B"))) (IsPattern (text (codes "A")) ∷ []) (IsPattern (basic_code (Lit (codes "A"))) ∷ []) (Asks (AskFor e WantPattern)) (Asks (AskFor 0 WantPattern))
+    ∷ asked (codes "AAB") (Cat (FenceOf (Alt (Defer e) (text (codes "AA")))) (text (codes "B"))) (IsPattern (text (codes "A")) ∷ IsPattern (text (codes "A")) ∷ []) (IsPattern (basic_code (Lit (codes "A"))) ∷ IsPattern (basic_code (Lit (codes "A"))) ∷ []) (Matched 1 3 []) (Matched 1 3 [])
+    -- `*E 'B'` with `FENCE('A' | 'AA')` for E: a fence in a pattern that is entered
+    ∷ asked (codes "AAB") (Cat (Defer e) (text (codes "B"))) (IsPattern one_or_two ∷ IsPattern one_or_two ∷ []) (IsPattern (code_of one_or_two) ∷ IsPattern (code_of one_or_two) ∷ []) (Matched 1 3 []) (Matched 1 3 [])
     -- a pattern that enters itself
     ∷ asked (codes "AAB") nested (IsPattern nested ∷ []) (IsPattern (code_of nested) ∷ []) (Asks (AskFor e WantPattern)) (Asks (AskFor 0 WantPattern))
     ∷ asked (codes "AAB") nested (IsPattern nested ∷ IsPattern nested ∷ []) (IsPattern (code_of nested) ∷ IsPattern (code_of nested) ∷ []) (Matched 0 3 []) (Matched 0 3 [])

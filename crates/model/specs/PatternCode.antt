@@ -1,6 +1,6 @@
 -- The code of each kind of pattern, made of the codes of its parts.
 use Rattle.std.specs.Prelude.{ℕ, ◌+◌, pos, negsuc, [], ◌∷◌, ◌++◌, length, ◌==◌, if◌then◌else◌}
-use Rattle.model.specs.Pattern.{Name, Kind, Basic, Lit, Instr, Do, Split, Jmp, Open, Close, Say, AtCursor, Eval, EvalBasic}
+use Rattle.model.specs.Pattern.{Name, Kind, Basic, Lit, Instr, Do, Split, Jmp, Open, OpenFence, CloseFence, Close, Say, AtCursor, Eval, EvalBasic}
 use Rattle.model.specs.Steps.{Code}
 
 -- the null literal has no instruction
@@ -32,6 +32,10 @@ cat_code p q = p ++ q
 -- nothing first, then p and ARBNO(p)
 abbrev pub arbno_code : Code → Code
 arbno_code p = Split (pos 2) ∷ Jmp (pos (length p + 2)) ∷ (p ++ Jmp (negsuc (length p + 1)) ∷ [])
+
+-- `FENCE(p)`
+abbrev pub fence_code : Code → Code
+fence_code p = OpenFence ∷ (p ++ CloseFence ∷ [])
 
 -- `p . X`
 abbrev pub cond_code : Code → Name → Code

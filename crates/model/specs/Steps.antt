@@ -1,6 +1,6 @@
 -- The steps of pattern code on a subject, under the answers given so far.
-use Rattle.std.specs.Prelude.{◌<◌, ◌≤◌, ℕ, ℤ, pos, negsuc, zero, suc, ◌+◌, ◌-◌, List, [], ◌∷◌, ◌++◌, Option, Some, None, slice_get, length, min}
-use Rattle.model.specs.Pattern.{Instr, Do, Split, Jmp, DoSucceed, DoAbort, DoFence, Open, Close, Say, AtCursor, Eval, EvalBasic, Name, Kind, Pending, Answer, IsPattern, IsSaid, Ask, AskFor, SayThat, Told, Text, Number, WantPattern, Event, Running, Failed, Asks, Matched, want_of, with_answer}
+use Rattle.std.specs.Prelude.{◌<◌, ◌≤◌, ℕ, ℤ, pos, negsuc, zero, suc, ◌+◌, ◌-◌, List, [], ◌∷◌, ◌++◌, Option, Some, None, slice_get, length, min, drop}
+use Rattle.model.specs.Pattern.{Instr, Do, Split, Jmp, DoSucceed, DoAbort, DoFence, Open, OpenFence, CloseFence, Close, Say, AtCursor, Eval, EvalBasic, Name, Kind, Pending, Answer, IsPattern, IsSaid, Ask, AskFor, SayThat, Told, Text, Number, WantPattern, Event, Running, Failed, Asks, Matched, want_of, with_answer}
 use Rattle.model.specs.Basic.{ends_at}
 use Rattle.model.specs.Ends.{between}
 
@@ -10,9 +10,9 @@ Code = List Instr
 abbrev pub Answers : Type 0
 Answers = List (Answer Code)
 
--- a cursor that OPEN noted, or where the code that EVAL left goes on
+-- a cursor that OPEN noted, the number of choices that FOPEN noted, or where the code that EVAL left goes on
 pub data Note : Type 0 where
-  Opened : ℕ → Note
+  Opened Fenced : ℕ → Note
   Left : Code → ℕ → Note
 
 -- where one attempt stands
@@ -43,6 +43,8 @@ abbrev pub settled : List Note → Code → ℕ → ℕ → Pending → Thread
 settled [] code p c a = record { code = code; place = p; cursor = c; notes = []; pending = a }
 settled (Opened b ∷ notes) code p c a =
     record { code = code; place = p; cursor = c; notes = Opened b ∷ notes; pending = a }
+settled (Fenced k ∷ notes) code p c a =
+    record { code = code; place = p; cursor = c; notes = Fenced k ∷ notes; pending = a }
 settled (Left code' p' ∷ notes) code p c a =
     elim (slice_get code p) [
       | None ↦ settled notes code' p' c a
@@ -73,6 +75,9 @@ pub data Act : Type 0 where
   Aborts : Act
   Arrives : ℕ → Pending → Act
   Asking : Waiting → Thread → Act
+  -- FOPEN, and on after FCLOSE with the choices that its FOPEN noted
+  Fences : Thread → Act
+  Drops : ℕ → Thread → Act
 
 abbrev pub ask_of : Waiting → Ask ℕ
 ask_of (ForPattern x) = AskFor x WantPattern
@@ -90,6 +95,15 @@ abbrev pub closed : List Note → (ℕ → List Note → Act) → Act
 closed (Opened b ∷ notes) k = k b notes
 closed _ k = Moves Fails
 
+-- after FOPEN's note is taken off
+abbrev pub fence_closed : List Note → (ℕ → List Note → Act) → Act
+fence_closed (Fenced k ∷ notes) f = f k notes
+fence_closed _ f = Moves Fails
+
+-- on after FOPEN, which notes that there are k choices
+abbrev pub fenced : ℕ → Thread → Thread
+fenced k t = settled (Fenced k ∷ t.notes) t.code (t.place + 1) t.cursor t.pending
+
 -- one instruction, or the end of the code
 abbrev pub act : List ℕ → Option Instr → Thread → Act
 act s None t = Arrives t.cursor t.pending
@@ -105,6 +119,9 @@ act s (Some (Close x)) t =
     closed t.notes (λ b notes. Moves (Goes (settled notes t.code (t.place + 1) t.cursor (t.pending ++ (x, between s b t.cursor) ∷ []))))
 act s (Some (Say x)) t =
     closed t.notes (λ b notes. Asking (ForSaid x (Text (between s b t.cursor))) (settled notes t.code (t.place + 1) t.cursor t.pending))
+act s (Some OpenFence) t = Fences t
+act s (Some CloseFence) t =
+    fence_closed t.notes (λ k notes. Drops k (settled notes t.code (t.place + 1) t.cursor t.pending))
 act s (Some (AtCursor x)) t = Asking (ForSaid x (Number t.cursor)) (onward t (t.place + 1) t.cursor)
 act s (Some (Eval x)) t = Asking (ForPattern x) t
 act s (Some (EvalBasic k x)) t = Asking (ForArgument k x) t
@@ -154,11 +171,17 @@ after_move (Goes t) cs b left u = go t cs b left u
 after_move (Forks t ch) cs b left u = go t (ch ∷ cs) b left u
 after_move Fails cs b left u = back cs b left u
 
+-- the choices without those made since there were k
+abbrev pub kept : ℕ → List Choice → List Choice
+kept k cs = drop (length cs - k) cs
+
 abbrev pub after_act : Act → List Choice → ℕ → ℕ → Answers → State
 after_act (Moves m) cs b left u = after_move m cs b left u
 after_act Aborts cs b left u = Over Lost
 after_act (Arrives c a) cs b left u = Over (Won b c a)
 after_act (Asking w t) cs b left u = Waits w t cs b left u
+after_act (Fences t) cs b left u = go (fenced (length cs) t) cs b left u
+after_act (Drops k t) cs b left u = go t (kept k cs) b left u
 
 -- back to a choice
 abbrev pub after_return : List ℕ → Choice → List Choice → ℕ → ℕ → Answers → State

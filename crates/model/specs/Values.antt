@@ -25,6 +25,7 @@ pub record Makes (P E : Type 0) : Type 0 where
   pub alt : P → P → P
   pub cat : P → P → P
   pub arbno : P → P
+  pub fence_of : P → P
   pub cond : P → Name → P
   pub imm : P → Name → P
   pub cursor : Name → P
@@ -36,7 +37,7 @@ Pattern = p.Pat
 
 -- as trees
 abbrev pub trees : Makes Pattern Expr
-trees = record { basic = p.Plain; succeed = p.Succeed; abort = p.Abort; fence = p.Fence; alt = p.Alt; cat = p.Cat; arbno = p.Arbno; cond = p.Cond; imm = p.Imm; cursor = p.At; defer = p.Defer; defer_kind = p.DeferBasic }
+trees = record { basic = p.Plain; succeed = p.Succeed; abort = p.Abort; fence = p.Fence; alt = p.Alt; cat = p.Cat; arbno = p.Arbno; fence_of = p.FenceOf; cond = p.Cond; imm = p.Imm; cursor = p.At; defer = p.Defer; defer_kind = p.DeferBasic }
 
 -- ---- objects
 

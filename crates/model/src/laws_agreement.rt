@@ -1,11 +1,18 @@
 //! The laws of the meaning and of the machine. Each function does nothing; its contract states a law, and who calls it may use the law.
 
 ghost use Rattle.model.specs.Agreement.{AgreesWherePlaced, EndingStays, PrintedGrows};
+ghost use Rattle.model.specs.StepBound.{RunStepsBounded};
 ghost use Rattle.model.specs.MatchLaws.{MatchRuns, MatchComes};
 
 /// A module does what its program does, wherever the code of each statement stands.
 pub fn agreement()
     ensures { AgreesWherePlaced }
+{}
+
+/// Where a deck's meaning ends having used r rules, a module that does what the deck does has ended so after any 8 * (r + 1)
+/// steps or more.
+pub fn run_steps_are_bounded()
+    ensures { RunStepsBounded }
 {}
 
 /// While it runs, a match of the machine is the steps of its code.

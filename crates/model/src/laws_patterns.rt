@@ -2,6 +2,7 @@
 
 ghost use Rattle.model.specs.PatternLaws.{EndsGrow, SearchStays, ScanStays, EndsPermitted, StepsOfScan, ScanOfSteps, ScanOfFirst, FirstOfScan, AnswersComeLater, StepsAreSound, LiteralsScanned, LiteralScansRight, LiteralsRun, LiteralRunsRight};
 ghost use Rattle.model.specs.MatchStates.{StatesAnswerAsScan, StatesAnswerFirstEnd, StatesAnswerLiterals, StatesCome, StepsLeadOn, AnswersLeadOn};
+ghost use Rattle.model.specs.StepBound.{PatternStepsBounded, PatternStepsOnBounded};
 ghost use Rattle.model.specs.PatternCases.{ScansMeetCases, StepsMeetCases, ScansMeetQuestions, StepsMeetQuestions, NestedEnds};
 
 /// What is answered at a bound stays at each greater one.
@@ -20,6 +21,13 @@ pub fn ends_are_permitted()
 pub fn code_means_its_pattern()
     ensures steps { StepsOfScan }
     ensures scans { ScanOfSteps }
+{}
+
+/// Code that stands for a pattern comes to each event of its scan within four pattern steps, since the match's start, for
+/// each rule that the scan uses under the answers given so far.
+pub fn pattern_steps_are_bounded()
+    ensures from_start { PatternStepsBounded }
+    ensures from_there { PatternStepsOnBounded }
 {}
 
 /// The first end of a plain pattern is what its scan answers.

@@ -28,7 +28,7 @@ pub use format::{FormatFault, FormatRule, LoadFault, Miss, ModuleFault, ModuleRu
 pub use image::{Image, Label, PatInstr};
 pub use instr::{ArithOp, Instr, ReturnKind, SignOp};
 pub use keys::KeyId;
-pub use laws_agreement::{agreement, matches_step, meaning_stays};
+pub use laws_agreement::{agreement, matches_step, meaning_stays, run_steps_are_bounded};
 pub use laws_bytes::{read_is_spelt, spelling_rows, spelt_is_read};
 pub use laws_cards::worked_decks;
 pub use laws_decks::{accepted_decks_fit, decks_fit, end_is_last, trees_fit};
@@ -36,7 +36,7 @@ pub use laws_names::{key_names, prim_names};
 pub use laws_patterns::{
     answers_come_later, answers_stay, code_means_its_pattern, ends_are_permitted,
     first_end_is_found, literals_are_matched, literals_are_scanned, match_states_answer,
-    match_states_lead_on, pattern_cases, steps_stay_within,
+    match_states_lead_on, pattern_cases, pattern_steps_are_bounded, steps_stay_within,
 };
 pub use laws_tokens::{each_text_has_one_cut, worked_texts};
 pub use laws_trees::{each_expression_is_one, each_statement_is_one, worked_faults, worked_trees};

@@ -43,11 +43,12 @@ pub enum PrimId {
     Input,
     Output,
     Detach,
+    Fence,
 }
 
 impl PrimId {
     /// Every primitive, in the order of the codes.
-    pub const ALL: [PrimId; 37] = [
+    pub const ALL: [PrimId; 38] = [
         PrimId::Len,
         PrimId::Pos,
         PrimId::RPos,
@@ -85,6 +86,7 @@ impl PrimId {
         PrimId::Input,
         PrimId::Output,
         PrimId::Detach,
+        PrimId::Fence,
     ];
 
     /// The name by which a deck calls it.
@@ -129,6 +131,7 @@ impl PrimId {
             PrimId::Input => "INPUT",
             PrimId::Output => "OUTPUT",
             PrimId::Detach => "DETACH",
+            PrimId::Fence => "FENCE",
         }
     }
 
@@ -164,7 +167,8 @@ impl PrimId {
             | PrimId::DataType
             | PrimId::Copy
             | PrimId::Data
-            | PrimId::Detach => 1,
+            | PrimId::Detach
+            | PrimId::Fence => 1,
             PrimId::Eq
             | PrimId::Ne
             | PrimId::Lt

@@ -1,0 +1,5 @@
+use Rattle.model.proofs.RunSteps.{run_steps_law}
+use Rattle.model.proofs.laws_agreement.run_steps_are_bounded.Goals as goal
+
+pub returns : goal.returns
+returns c = run_steps_law
