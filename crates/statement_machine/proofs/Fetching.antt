@@ -28,7 +28,8 @@ use Rattle.statement_machine.specs.declared.state.State.{State}
 use Rattle.statement_machine.specs.declared.status.Halt.{Halt}
 use Rattle.statement_machine.specs.declared.status.Halt.TheVariants as halt
 use Rattle.statement_machine.specs.Stopped.{IfHalted}
-use Rattle.statement_machine.proofs.Flowing.{StandsIn, seen, fetch_stands, fetch_above_stands, assign_stands, splice_stands}
+use Rattle.machine_laws.specs.Standing.{StateStands}
+use Rattle.statement_machine.proofs.Flowing.{seen, fetch_stands, fetch_above_stands, assign_stands, splice_stands}
 use Rattle.statement_machine.proofs.Operations.{some_answer, some_answer_or_failure}
 use Rattle.statement_machine.proofs.Telling.{no_records}
 use Rattle.world.proofs.Telling.{told_on}
@@ -59,7 +60,7 @@ module _ (im : Image) (q : ℕ) (s new : State) (mid : Held) (r : Result (Unit {
   pub fetch_sound : (answer : Result (Option MVal) Fault) → Meets im op.Fetch q s → s.operands ≡ operand.Name n ∷ rest → GoesWith q answer mid (operands_of rest) hs r new → OnOk r (IsSound im new)
   fetch_sound answer h e g =
       let o = some_answer_or_failure answer (world_of mid no_records) in
-      let stands : StandsIn im (pop_name (operands_of s.operands) w0 (λ n rest. after_op o.0 hs rest [] (λ v w. Run q (OV v ∷ rest) hs [] w))) = fetch_stands im h.0 s.at q (operands_of s.operands) hs h.1 (λ n. o.0) w0 h.2 in
+      let stands : StateStands im (pop_name (operands_of s.operands) w0 (λ n rest. after_op o.0 hs rest [] (λ v w. Run q (OV v ∷ rest) hs [] w))) = fetch_stands im h.0 s.at q (operands_of s.operands) hs h.1 (λ n. o.0) w0 h.2 in
       seen im r new no_records _ (g no_records o.0 o.1) (rw e at stands)
 
   pub fetched_above : (answer : Result (Option MVal) Fault) (a b : Option Io) → s.operands ≡ operand.Name n ∷ rest
@@ -74,7 +75,7 @@ module _ (im : Image) (q : ℕ) (s new : State) (mid : Held) (r : Result (Unit {
   pub fetch_above_sound : (answer : Result (Option MVal) Fault) → Meets im op.FetchK q s → s.operands ≡ operand.Name n ∷ rest → GoesWith q answer mid (operands_of s.operands) hs r new → OnOk r (IsSound im new)
   fetch_above_sound answer h e g =
       let o = some_answer_or_failure answer (world_of mid no_records) in
-      let stands : StandsIn im (pop_name (operands_of s.operands) w0 (λ n rest. after_op o.0 hs (operands_of s.operands) [] (λ v w. Run q (OV v ∷ operands_of s.operands) hs [] w))) = fetch_above_stands im h.0 s.at q (operands_of s.operands) hs h.1 (λ n. o.0) w0 h.2 in
+      let stands : StateStands im (pop_name (operands_of s.operands) w0 (λ n rest. after_op o.0 hs (operands_of s.operands) [] (λ v w. Run q (OV v ∷ operands_of s.operands) hs [] w))) = fetch_above_stands im h.0 s.at q (operands_of s.operands) hs h.1 (λ n. o.0) w0 h.2 in
       let left : Left r new no_records (after_op o.0 hs (operands_of s.operands) [] (λ v w. Run q (OV v ∷ operands_of s.operands) hs [] w)) = g no_records o.0 o.1 in
       seen im r new no_records _ (rw e at left) (rw e at stands)
 
@@ -89,7 +90,7 @@ module _ (im : Image) (q : ℕ) (s new : State) (mid : Held) (r : Result (Unit {
   pub assign_sound : (v : Value) (answer : Result (record {}) Fault) → Meets im op.Assign q s → s.operands ≡ operand.Value v ∷ operand.Name n ∷ rest → Goes q answer mid (operands_of rest) hs r new → OnOk r (IsSound im new)
   assign_sound v answer h e g =
       let o = some_answer answer (world_of mid no_records) in
-      let stands : StandsIn im (pop (operands_of s.operands) w0 (λ v r1. pop_name r1 w0 (λ n rest. after_op o.0 hs rest [] (λ u w. Run q rest hs [] w)))) = assign_stands im h.0 s.at q (operands_of s.operands) hs h.1 (λ n v. o.0) w0 h.2 in
+      let stands : StateStands im (pop (operands_of s.operands) w0 (λ v r1. pop_name r1 w0 (λ n rest. after_op o.0 hs rest [] (λ u w. Run q rest hs [] w)))) = assign_stands im h.0 s.at q (operands_of s.operands) hs h.1 (λ n v. o.0) w0 h.2 in
       seen im r new no_records _ (g no_records o.0 o.1) (rw e at stands)
 
   pub spliced : (v : Value) (d : Span) (answer : Result (record {}) Fault) (a b : Option Io) → s.operands ≡ operand.Value v ∷ operand.Span d ∷ operand.Name n ∷ rest
@@ -101,7 +102,7 @@ module _ (im : Image) (q : ℕ) (s new : State) (mid : Held) (r : Result (Unit {
   pub splice_sound : (v : Value) (d : Span) (answer : Result (record {}) Fault) → Meets im op.Splice q s → s.operands ≡ operand.Value v ∷ operand.Span d ∷ operand.Name n ∷ rest → Goes q answer mid (operands_of rest) hs r new → OnOk r (IsSound im new)
   splice_sound v d answer h e g =
       let o = some_answer answer (world_of mid no_records) in
-      let stands : StandsIn im (pop (operands_of s.operands) w0 (λ v r1. pop_span r1 w0 (λ t b d r2. pop_name r2 w0 (λ n rest. after_op o.0 hs rest [] (λ u w. Run q rest hs [] w))))) = splice_stands im h.0 s.at q (operands_of s.operands) hs h.1 (λ n t b d v. o.0) w0 h.2 in
+      let stands : StateStands im (pop (operands_of s.operands) w0 (λ v r1. pop_span r1 w0 (λ t b d r2. pop_name r2 w0 (λ n rest. after_op o.0 hs rest [] (λ u w. Run q rest hs [] w))))) = splice_stands im h.0 s.at q (operands_of s.operands) hs h.1 (λ n t b d v. o.0) w0 h.2 in
       seen im r new no_records _ (g no_records o.0 o.1) (rw e at stands)
 
 -- ---- why it stopped

@@ -1,5 +1,4 @@
 use Rattle.std.proofs.Common.{◌∙◌, [], Ok, Err, ap, subst, sym}
-use Rattle.model.specs.Calls.{return_of}
 use Rattle.model.specs.Machine.{to_known, to_return}
 use Rattle.model.specs.Modules.{module_of}
 use Rattle.world.specs.Held.{world_of}
@@ -16,7 +15,7 @@ returns-then-is_some-clause-left c io =
 
 pub goto-requires-clause-there : goal.goto-requires-clause-there
 goto-requires-clause-there c =
-    let t = c.requires.runnable.labels c.args.label.now c.in-Some.number (sym c.in-Some.ensures) in
+    let t = c.requires.runnable.complete.labels c.args.label.now c.in-Some.number (sym c.in-Some.ensures) in
     is_there _ t.0 t.1
 
 pub returns-in-Some-clause-left : goal.returns-in-Some-clause-left
