@@ -1,2 +1,4 @@
 pub mod Counts
+pub mod Failing
 pub mod Held
+pub mod Streams

@@ -5,25 +5,26 @@ ghost use Rattle.model.specs.Units.{IsCounted};
 ghost use Rattle.unit_io.specs.Counts.{count_of};
 
 use crate::counts::Counts;
-use crate::given::{GivenFile, read_records, write_line};
-use crate::records::Records;
+use crate::given::GivenFile;
+use crate::line_reader::LineReader;
+use crate::line_writer::LineWriter;
 use crate::units::Units;
 use model::UnitFault;
 use std::alloc::{AllocError, Global};
 use std::fs::Files;
 use std::io;
-use std::io::{BufWriter, Input, Print, Printer, Write};
+use std::io::{BufWriter, Input, Print, Printer};
 use strings::Text;
 
-/// Unit 5 is standard input, which is read whole at its first use, and unit 6 is standard output, unless files are given
-/// for them. Other units are open where files are given for them. What is written is kept back until `flush` at the
-/// latest. They don't tell their records.
+/// Unit 5 is standard input, and unit 6 is standard output, unless files are given for them. Other units are open where
+/// files are given for them. Input is read in pieces, as its records are asked for. What is written is kept back until
+/// `flush` at the latest, and for standard output until standard input is read. They don't tell their records.
 #[derive(Drop)]
 pub struct FileUnits<'a, R: Files + Input + Print> {
     rt: &'a R,
     alloc: Global,
-    input: Option<Records>,
-    output: BufWriter<Printer<'a, R>>,
+    input: LineReader<R::Reader>,
+    output: LineWriter<BufWriter<Printer<'a, R>>>,
     given: Vec<GivenFile<'a, R::File>>,
     counts: Counts,
 }
@@ -36,8 +37,8 @@ impl<'a, R: Files + Input + Print> FileUnits<'a, R> {
         Ok(FileUnits {
             rt,
             alloc,
-            input: None,
-            output: BufWriter::new(alloc, io::writer(rt))?,
+            input: LineReader::new(alloc, rt.reader()),
+            output: LineWriter::new(BufWriter::new(alloc, io::writer(rt))?),
             given: Vec::new(alloc),
             counts: Counts::new(),
         })
@@ -91,15 +92,11 @@ impl<'a, R: Files + Input + Print> FileUnits<'a, R> {
     fn read_standard(&mut self) -> Result<Option<Text>, UnitFault>
         ensures { self.new.counts ≡ self.old.counts }
     {
-        if self.input.is_none() {
+        if !self.input.is_ready() {
             // What a program printed stands there before it reads; a failure is told at the next write.
             let _ = self.output.flush();
-            self.input = Some(read_records(self.alloc, &mut self.rt.reader())?);
         }
-        match &mut self.input {
-            Some(records) => records.take_first(),
-            None => unreachable!(),
-        }
+        self.input.next_record()
     }
 
     fn read_from(&mut self, unit: u8) -> Result<Option<Text>, UnitFault>
@@ -127,7 +124,7 @@ impl<'a, R: Files + Input + Print> FileUnits<'a, R> {
         if unit != 6 {
             return Err(UnitFault::NotOpen);
         }
-        write_line(&mut self.output, bytes)
+        self.output.write_record(bytes)
     }
 }
 

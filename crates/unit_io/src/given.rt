@@ -1,6 +1,9 @@
 //! Files that are given for units.
 
-use crate::records::Records;
+ghost use Rattle.std.specs.Prelude.{◌≡◌, ◌⊎◌};
+
+use crate::line_reader::LineReader;
+use crate::line_writer::LineWriter;
 use model::UnitFault;
 use std::alloc::Global;
 use std::fs::{File, Files};
@@ -9,51 +12,37 @@ use strings::Text;
 
 /// What a file was opened for at its first use.
 #[derive(Drop)]
-enum Side<F: Write + Drop> {
+enum Side<F: Read + Write + Drop> {
     Unused,
-    Input(Records),
-    Output(BufWriter<F>),
+    Input(LineReader<F>),
+    Output(LineWriter<BufWriter<F>>),
 }
 
 /// A file that is given for a unit.
 #[derive(Drop)]
-pub(crate) struct GivenFile<'a, F: Write + Drop> {
+pub(crate) struct GivenFile<'a, F: Read + Write + Drop> {
     unit: u8,
     path: &'a str,
     side: Side<F>,
 }
 
 // The fault for an error, which may be want of memory.
-fn fault_of(error: &io::Error, fault: UnitFault) -> UnitFault {
+pub(crate) fn fault_of(error: &io::Error, fault: UnitFault) -> UnitFault
+    ensures { (result ≡ fault) ⊎ (result ≡ UnitFault.Memory) }
+{
     match error.kind() {
         ErrorKind::OutOfMemory => UnitFault::Memory,
         _ => fault,
     }
 }
 
-/// All that is left to be read.
-pub(crate) fn read_records(alloc: Global, reader: &mut impl Read) -> Result<Records, UnitFault> {
-    let mut bytes = Vec::new(alloc);
-    if let Err(error) = reader.read_to_end(&mut bytes) {
-        return Err(fault_of(&error, UnitFault::ReadFailed));
-    }
-    match Text::from_vec(bytes) {
-        Ok(text) => Ok(Records::of(text)),
-        Err(_) => Err(UnitFault::Memory),
-    }
-}
-
-/// Writes a record, and a line feed after it.
-pub(crate) fn write_line(writer: &mut impl Write, bytes: &[u8]) -> Result<(), UnitFault> {
-    if writer.write_all(bytes).is_err() || writer.write_all(b"\n").is_err() {
-        return Err(UnitFault::WriteFailed);
-    }
-    Ok(())
-}
-
-fn open_input<R: Files>(alloc: Global, rt: &R, path: &str) -> Result<Records, UnitFault> {
+fn open_input<R: Files>(
+    alloc: Global,
+    rt: &R,
+    path: &str,
+) -> Result<LineReader<R::File>, UnitFault> {
     match File::open(rt, path) {
-        Ok(mut file) => read_records(alloc, &mut file),
+        Ok(file) => Ok(LineReader::new(alloc, file)),
         Err(error) => Err(fault_of(&error, UnitFault::ReadFailed)),
     }
 }
@@ -62,18 +51,18 @@ fn open_output<R: Files>(
     alloc: Global,
     rt: &R,
     path: &str,
-) -> Result<BufWriter<R::File>, UnitFault> {
+) -> Result<LineWriter<BufWriter<R::File>>, UnitFault> {
     let file = match File::create(rt, path) {
         Ok(file) => file,
         Err(error) => return Err(fault_of(&error, UnitFault::WriteFailed)),
     };
     match BufWriter::new(alloc, file) {
-        Ok(writer) => Ok(writer),
+        Ok(writer) => Ok(LineWriter::new(writer)),
         Err(_) => Err(UnitFault::Memory),
     }
 }
 
-impl<'a, F: Write + Drop> GivenFile<'a, F> {
+impl<'a, F: Read + Write + Drop> GivenFile<'a, F> {
     /// A file that is not used yet.
     pub(crate) fn new(unit: u8, path: &'a str) -> GivenFile<'a, F> {
         GivenFile {
@@ -88,7 +77,7 @@ impl<'a, F: Write + Drop> GivenFile<'a, F> {
         self.unit
     }
 
-    /// Takes the first record that is left; the file is read whole at its first use.
+    /// Takes the first record that is left; the file is opened at its first use.
     pub(crate) fn read_record<R: Files<File = F>>(
         &mut self,
         alloc: Global,
@@ -98,7 +87,7 @@ impl<'a, F: Write + Drop> GivenFile<'a, F> {
             self.side = Side::Input(open_input(alloc, rt, self.path)?);
         }
         match &mut self.side {
-            Side::Input(records) => records.take_first(),
+            Side::Input(reader) => reader.next_record(),
             _ => Err(UnitFault::NotOpen),
         }
     }
@@ -114,7 +103,7 @@ impl<'a, F: Write + Drop> GivenFile<'a, F> {
             self.side = Side::Output(open_output(alloc, rt, self.path)?);
         }
         match &mut self.side {
-            Side::Output(writer) => write_line(writer, bytes),
+            Side::Output(writer) => writer.write_record(bytes),
             _ => Err(UnitFault::NotOpen),
         }
     }
@@ -124,9 +113,6 @@ impl<'a, F: Write + Drop> GivenFile<'a, F> {
         let Side::Output(writer) = &mut self.side else {
             return Ok(());
         };
-        match writer.flush() {
-            Ok(()) => Ok(()),
-            Err(_) => Err(UnitFault::WriteFailed),
-        }
+        writer.flush()
     }
 }

@@ -5,3 +5,5 @@
 mod keyword_values;
 #[cfg(test)]
 mod records;
+#[cfg(test)]
+mod streams;

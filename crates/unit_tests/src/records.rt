@@ -7,7 +7,7 @@ use strings::Text;
 use unit_io::{FileUnits, MemUnits, Units};
 
 // Whether a unit gave this record; with none wanted, whether it is at its end.
-fn gives(found: Result<Option<Text>, UnitFault>, want: Option<&str>) -> bool {
+pub(crate) fn gives(found: Result<Option<Text>, UnitFault>, want: Option<&str>) -> bool {
     match (found, want) {
         (Ok(Some(record)), Some(line)) => record.as_slice() == line.as_bytes(),
         (Ok(None), None) => true,
