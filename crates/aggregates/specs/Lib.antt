@@ -1,0 +1,4 @@
+pub mod Bounds
+pub mod Keys
+pub mod Objects
+pub mod Made

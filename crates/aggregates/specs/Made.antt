@@ -1,0 +1,50 @@
+-- Objects as they are held, and as the definitions see them; and those that calls make.
+use Rattle.std.specs.Prelude.{ℕ, List, [], ◌∷◌, ◌++◌, length, map, replicate, Option, Some, None, Bool, if◌then◌else◌, option_map}
+use Rattle.model.specs.Values.{Key, Bounds, Object, ArrayOf, TableOf, RecordOf}
+use Rattle.model.specs.Prototypes.{elements_in, are_bounds}
+use Rattle.aggregates.specs.Keys.{table_rows}
+use Rattle.aggregates.specs.declared.object.Object as held
+use Rattle.aggregates.specs.declared.object.Object.TheVariants as o
+use Rattle.aggregates.specs.declared.object.Kind.{Kind}
+use Rattle.aggregates.specs.declared.object.Kind.TheVariants as kind
+
+module _ {V : Type 0} where
+  abbrev pub object_of : held.Object V → Object V
+  object_of (o.Array a) = ArrayOf a.0 a.1
+  object_of (o.Table t) = TableOf t
+  object_of (o.Record r) = RecordOf r.type_name r.fields.items r.values.items
+
+  abbrev pub objects_of : List (held.Object V) → List (Object V)
+  objects_of xs = map object_of xs
+
+  abbrev pub kind_of : Object V → Kind
+  kind_of (ArrayOf bs vs) = kind.Array
+  kind_of (TableOf es) = kind.Table
+  kind_of (RecordOf t fs vs) = kind.Record
+
+  -- ---- what calls make, if they make it
+
+  abbrev pub filled : List Bounds → V → Option (Object V)
+  filled bs v = if are_bounds bs then Some (ArrayOf bs (replicate (elements_in bs) v)) else None
+
+  abbrev pub copied : Option (Object V) → Option (Object V)
+  copied (Some (ArrayOf bs vs)) = Some (ArrayOf bs vs)
+  copied _ = None
+
+  abbrev pub as_array : Option (List Bounds × List V) → Option (Object V)
+  as_array None = None
+  as_array (Some a) = Some (ArrayOf a.0 a.1)
+
+  abbrev pub rows_array : (V → Bool) → (Key → V) → Option (Object V) → Option (Object V)
+  rows_array null value (Some (TableOf es)) = as_array (table_rows null value es)
+  rows_array null value _ = None
+
+  -- its number
+  abbrev pub number : Option (Object V) → List (Object V) → Option ℕ
+  number None os = None
+  number (Some o) os = Some (length os)
+
+  -- the objects, with this one at the end
+  abbrev pub with_object : Option (Object V) → List (Object V) → List (Object V)
+  with_object None os = os
+  with_object (Some o) os = os ++ o ∷ []

@@ -1,0 +1,30 @@
+-- What an object holds at a place, and what it is with another value there.
+use Rattle.std.specs.Prelude.{ℕ, List, Option, Some, None, Bool, true, false}
+use Rattle.model.specs.Values.{Key, Object, ArrayOf, TableOf, RecordOf}
+use Rattle.model.specs.Operators.{element_of, with_element, with_value_for, with_item}
+use Rattle.aggregates.specs.Keys.{key_of, value_at}
+use Rattle.aggregates.specs.declared.place.Place.{Place}
+use Rattle.aggregates.specs.declared.place.Place.TheVariants as place
+
+-- what is there now, if it was stored
+abbrev pub if_stored : {A : Type 0} → Bool → A → Option A
+if_stored false a = None
+if_stored true a = Some a
+
+module _ {V : Type 0} where
+  abbrev pub value_in : Key → Option (Object V) → Option V
+  value_in k (Some (TableOf es)) = value_at k es
+  value_in k _ = None
+
+  abbrev pub held_at : Place → Option (Object V) → Option V
+  held_at (place.Element i) o = element_of o i
+  held_at (place.Key k) o = value_in (key_of k) o
+
+  abbrev pub stored_at : Place → V → Option (Object V) → Option (Object V)
+  stored_at (place.Element i) v o = with_element i v o
+  stored_at (place.Key k) v o = with_value_for (key_of k) v o
+
+  -- the objects with another one in the place of object k
+  abbrev pub put_at : ℕ → Option (Object V) → List (Object V) → Option (List (Object V))
+  put_at k None os = None
+  put_at k (Some o) os = with_item k o os

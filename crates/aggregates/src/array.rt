@@ -1,0 +1,78 @@
+//! An array: its dimensions, and its elements side by side.
+
+ghost use Rattle.std.specs.Prelude.{◌≡◌, ◌<◌, ◌^◌, IfOk, Some, replicate, slice_get, length, false};
+ghost use Rattle.std.specs.Option.{option_copied};
+ghost use Rattle.model.specs.Prototypes.{elements_in};
+ghost use Rattle.model.specs.Operators.{with_item};
+ghost use Rattle.aggregates.specs.Objects.{if_stored};
+
+use crate::bounds::Bounds;
+use crate::element::Element;
+use crate::items::{copied, put, repeated};
+use std::alloc::{AllocError, Global};
+use std::marker::Model;
+
+/// An array. Contracts see its dimensions, and its elements, those of the last dimension side by side.
+#[derive(Drop)]
+pub(crate) struct Array<V> {
+    bounds: Vec<Bounds>,
+    elements: Vec<V>,
+}
+
+impl<V> Model for Array<V> {
+    ghost use Rattle.std.specs.Prelude.{◌≡◌, ◌<◌, List, length};
+    ghost use Rattle.model.specs.Values as values;
+    ghost use Rattle.model.specs.Prototypes.{elements_in};
+
+    ghost Value = { List values.Bounds × List V };
+
+    ghost view = { λ a. (a.bounds.items, a.elements.items) };
+
+    ghost invariant = { λ a. (length a.elements.items ≡ elements_in a.bounds.items) × (0 < elements_in a.bounds.items) };
+}
+
+impl<V: Element> Array<V> {
+    /// The array of these elements.
+    pub(crate) fn of(bounds: Vec<Bounds>, elements: Vec<V>) -> Array<V>
+        requires all { length elements.items ≡ elements_in bounds.items }
+        requires some { 0 < elements_in bounds.items }
+        ensures { result ≡ (bounds.items, elements.items) }
+    {
+        Array { bounds, elements }
+    }
+
+    /// The array with this value everywhere.
+    pub(crate) fn filled(alloc: Global, bounds: Vec<Bounds>, value: &V) -> Result<Array<V>, AllocError>
+        requires { elements_in bounds.items < 2 ^ 63 }
+        ensures { IfOk result (λ array. array ≡ (bounds.items, replicate (elements_in bounds.items) value.now)) }
+    {
+        let count = crate::bounds::elements_in(&bounds);
+        let elements = repeated(alloc, value, count)?;
+        Ok(Array { bounds, elements })
+    }
+
+    /// The same array again.
+    pub(crate) fn copy(&self, alloc: Global) -> Result<Array<V>, AllocError>
+        ensures { IfOk result (λ array. array ≡ self.now) }
+    {
+        let bounds = copied(alloc, &self.bounds)?;
+        let elements = copied(alloc, &self.elements)?;
+        Ok(Array { bounds, elements })
+    }
+
+    /// The element at a place.
+    pub(crate) fn get(&self, place: usize) -> Option<&V>
+        ensures { option_copied result ≡ slice_get self.now.1 place }
+    {
+        self.elements.get(place)
+    }
+
+    /// Another element at a place, if there is one.
+    pub(crate) fn set(&mut self, place: usize, value: V) -> bool
+        ensures bounds { self.new.0 ≡ self.old.0 }
+        ensures stored { if_stored result self.new.1 ≡ with_item place value self.old.1 }
+        ensures nowhere { result ≡ false → self.new ≡ self.old }
+    {
+        put(&mut self.elements, place, value)
+    }
+}

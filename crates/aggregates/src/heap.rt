@@ -1,0 +1,167 @@
+//! The objects of a run.
+
+ghost use Rattle.std.specs.Prelude.{◌≡◌, ◌++◌, ◌∷◌, [], length, slice_get, Some, false, IfOk, OnOk, OnErr, option_map, if◌then◌else◌, None};
+ghost use Rattle.std.specs.Option.{option_copied};
+ghost use Rattle.model.specs.Values.{ArrayOf, TableOf, RecordOf};
+ghost use Rattle.model.specs.Prototypes.{elements_in};
+ghost use Rattle.aggregates.specs.Objects.{held_at, stored_at, put_at, if_stored};
+ghost use Rattle.aggregates.specs.Made.{kind_of, filled, copied, rows_array, number, with_object, object_of};
+
+use crate::array::Array;
+use crate::bounds::{Bounds, are_bounds};
+use crate::element::Element;
+use crate::object::{Kind, Object, Record};
+use crate::place::Place;
+use crate::table::Table;
+use std::alloc::{AllocError, Global};
+use std::marker::Model;
+use strings::Text;
+
+/// The objects of a run. Contracts see the list of them in the order of making; an object's number is its place there.
+#[derive(Drop)]
+pub struct Heap<V> {
+    objects: Vec<Object<V>>,
+}
+
+impl<V> Model for Heap<V> {
+    ghost use Rattle.std.specs.Prelude.{List};
+    ghost use Rattle.model.specs.Values as values;
+
+    ghost Value = { List (values.Object V) };
+
+    ghost use Rattle.aggregates.specs.Made.{objects_of};
+
+    ghost view = { λ h. objects_of h.objects.items };
+}
+
+impl<V: Element> Heap<V> {
+    /// The heap without objects. Takes no memory.
+    pub fn new(alloc: Global) -> Heap<V>
+        ensures { result ≡ [] }
+    {
+        Heap {
+            objects: Vec::new(alloc),
+        }
+    }
+
+    /// Which kind of object has this number, if there is one.
+    pub fn kind(&self, object: usize) -> Option<Kind>
+        ensures { result ≡ option_map kind_of (slice_get self.now object) }
+    {
+        match self.object(object) {
+            Some(it) => Some(it.kind()),
+            None => None,
+        }
+    }
+
+    /// What an object holds at a place. Outside an array's bounds, and for a key that was never assigned, it is `None`.
+    /// Takes no memory.
+    pub fn get(&self, object: usize, place: &Place) -> Option<&V>
+        ensures { option_copied result ≡ held_at place.now (slice_get self.now object) }
+    {
+        match self.object(object) {
+            Some(it) => it.get(place),
+            None => None,
+        }
+    }
+
+    /// Stores a value at a place of an object, if it has that place. Only a table takes memory.
+    pub fn set(&mut self, object: usize, place: Place, value: V) -> Result<bool, AllocError>
+        ensures stored { IfOk result (λ stored. if_stored stored self.new ≡ put_at object (stored_at place value (slice_get self.old object)) self.old) }
+        ensures nowhere { IfOk result (λ stored. stored ≡ false → self.new ≡ self.old) }
+        ensures refused { OnErr result (self.new ≡ self.old) }
+    {
+        if object >= self.objects.len() {
+            return Ok(false);
+        }
+        let stored = self.objects[object].set(place, value)?;
+        Ok(stored)
+    }
+
+    /// A new array with this value everywhere; its number. Bounds that no array may have are refused by `None`.
+    pub fn new_array(&mut self, alloc: Global, bounds: Vec<Bounds>, value: &V) -> Result<Option<usize>, AllocError>
+        ensures number { IfOk result (λ made. made ≡ number (filled bounds.items value.now) self.old) }
+        ensures made { OnOk result (self.new ≡ with_object (filled bounds.items value.now) self.old) }
+        ensures refused { OnErr result (self.new ≡ self.old) }
+    {
+        if !are_bounds(&bounds) {
+            return Ok(None);
+        }
+        let array = Array::filled(alloc, bounds, value)?;
+        Ok(Some(self.add(Object::Array(array))?))
+    }
+
+    /// A new table without entries; its number.
+    pub fn new_table(&mut self, alloc: Global) -> Result<usize, AllocError>
+        ensures number { IfOk result (λ made. made ≡ length self.old) }
+        ensures made { OnOk result (self.new ≡ self.old ++ TableOf [] ∷ []) }
+        ensures refused { OnErr result (self.new ≡ self.old) }
+    {
+        self.add(Object::Table(Table::new(alloc)))
+    }
+
+    /// A new record of this type, with these fields and their values; its number.
+    pub fn new_record(&mut self, type_name: Text, fields: Vec<Text>, values: Vec<V>) -> Result<usize, AllocError>
+        ensures number { IfOk result (λ made. made ≡ length self.old) }
+        ensures made { OnOk result (self.new ≡ self.old ++ RecordOf type_name fields.items values.items ∷ []) }
+        ensures refused { OnErr result (self.new ≡ self.old) }
+    {
+        self.add(Object::Record(Record {
+            type_name,
+            fields,
+            values,
+        }))
+    }
+
+    /// A new array like this one; its number. What isn't an array is refused by `None`.
+    pub fn copy_array(&mut self, alloc: Global, object: usize) -> Result<Option<usize>, AllocError>
+        ensures number { IfOk result (λ made. made ≡ number (copied (slice_get self.old object)) self.old) }
+        ensures made { OnOk result (self.new ≡ with_object (copied (slice_get self.old object)) self.old) }
+        ensures refused { OnErr result (self.new ≡ self.old) }
+    {
+        let Some(Object::Array(array)) = self.object(object) else {
+            return Ok(None);
+        };
+        let copy = array.copy(alloc)?;
+        Ok(Some(self.add(Object::Array(copy))?))
+    }
+
+    /// A new array of a table's keys and values, a row for each value that isn't null; its number.
+    /// What isn't a table, or has no such value, is refused by `None`.
+    pub fn table_to_array(&mut self, alloc: Global, object: usize) -> Result<Option<usize>, AllocError>
+        ensures number { IfOk result (λ made. made ≡ number (rows_array V.null_test V.key_value (slice_get self.old object)) self.old) }
+        ensures made { OnOk result (self.new ≡ with_object (rows_array V.null_test V.key_value (slice_get self.old object)) self.old) }
+        ensures refused { OnErr result (self.new ≡ self.old) }
+    {
+        let Some(Object::Table(table)) = self.object(object) else {
+            return Ok(None);
+        };
+        let Some(array) = table.to_array(alloc)? else {
+            return Ok(None);
+        };
+        Ok(Some(self.add(Object::Array(array))?))
+    }
+
+    // The object of this number.
+    #[tactic(auto, using(crate::proofs::Objects::objects_at, crate::proofs::Objects::objects_past))]
+    fn object(&self, number: usize) -> Option<&Object<V>>
+        ensures { option_map object_of (option_copied result) ≡ slice_get self.now number }
+    {
+        if number >= self.objects.len() {
+            return None;
+        }
+        Some(&self.objects[number])
+    }
+
+    // One more object; its number.
+    #[tactic(auto, using(crate::proofs::Objects::objects_push, crate::proofs::Objects::objects_length))]
+    fn add(&mut self, object: Object<V>) -> Result<usize, AllocError>
+        ensures number { IfOk result (λ made. made ≡ length self.old) }
+        ensures made { OnOk result (self.new ≡ self.old ++ object_of object ∷ []) }
+        ensures refused { OnErr result (self.new ≡ self.old) }
+    {
+        let number = self.objects.len();
+        self.objects.push(object)?;
+        Ok(number)
+    }
+}

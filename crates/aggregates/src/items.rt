@@ -1,0 +1,46 @@
+//! Vectors: their copies, and another item in one.
+
+ghost use Rattle.std.specs.Prelude.{◌≡◌, IfOk, replicate, length, false};
+ghost use Rattle.model.specs.Operators.{with_item};
+ghost use Rattle.aggregates.specs.Objects.{if_stored};
+
+use std::alloc::{AllocError, Global};
+
+/// The same items again.
+pub(crate) fn copied<T: Clone + Drop>(alloc: Global, items: &[T]) -> Result<Vec<T>, AllocError>
+    requires { (item copy : T) → T.is_clone item copy → copy ≡ item }
+    ensures { IfOk result (λ copy. copy.items ≡ items.now) }
+{
+    let mut copy = Vec::with_capacity(alloc, items.len())?;
+    for item in items {
+        copy.push(item.clone()?)?;
+    }
+    Ok(copy)
+}
+
+/// An item, so many times.
+#[tactic(auto, using(crate::proofs::Lists::replicate_more))]
+pub(crate) fn repeated<T: Clone + Drop>(alloc: Global, item: &T, n: usize) -> Result<Vec<T>, AllocError>
+    requires { (item copy : T) → T.is_clone item copy → copy ≡ item }
+    ensures { IfOk result (λ items. items.items ≡ replicate n item.now) }
+{
+    let mut items = Vec::with_capacity(alloc, n)?;
+    for _turn in 0..n {
+        items.push(item.clone()?)?;
+    }
+    Ok(items)
+}
+
+/// Another item at an index, if there is one.
+#[tactic(auto, using(crate::proofs::Lists::with_item_past, crate::proofs::Lists::with_item_set))]
+pub(crate) fn put<T: Drop>(items: &mut Vec<T>, index: usize, item: T) -> bool
+    ensures stored { if_stored result items.new.items ≡ with_item index item items.old.items }
+    ensures nowhere { result ≡ false → items.new.items ≡ items.old.items }
+    ensures len { length items.new.items ≡ length items.old.items }
+{
+    if index >= items.len() {
+        return false;
+    }
+    items[index] = item;
+    true
+}

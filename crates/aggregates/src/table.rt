@@ -1,0 +1,118 @@
+//! A table: values for keys, in the order in which the keys were first assigned.
+
+ghost use Rattle.std.specs.Prelude.{◌≡◌, ◌<◌, ◌^◌, [], IfOk, OnOk, OnErr};
+ghost use Rattle.std.specs.Option.{option_copied};
+ghost use Rattle.model.specs.Operators.{with_entry};
+ghost use Rattle.model.specs.Aggregates.{row_count, rows, pairs};
+ghost use Rattle.aggregates.specs.Keys.{key_of, value_at, table_rows};
+
+use crate::array::Array;
+use crate::bounds::Bounds;
+use crate::element::Element;
+use crate::place::Key;
+use indexmap::IndexMap;
+use std::alloc::{AllocError, Global};
+use std::marker::Model;
+
+/// A table. Contracts see its entries in their order.
+#[derive(Drop)]
+pub(crate) struct Table<V> {
+    values: IndexMap<Key, V>,
+}
+
+impl<V> Model for Table<V> {
+    ghost use Rattle.std.specs.Prelude.{List};
+    ghost use Rattle.model.specs.Values.{Entry};
+
+    ghost Value = { List (Entry V) };
+
+    ghost use Rattle.aggregates.specs.Keys.{entries_of};
+
+    ghost view = { λ t. entries_of t.values.entries };
+}
+
+impl<V: Element> Table<V> {
+    /// The table without entries. Takes no memory.
+    pub(crate) fn new(alloc: Global) -> Table<V>
+        ensures { result ≡ [] }
+    {
+        Table {
+            values: IndexMap::new(alloc),
+        }
+    }
+
+    /// The value for a key, if one was ever assigned. Takes no memory.
+    pub(crate) fn get(&self, key: &Key) -> Option<&V>
+        ensures { option_copied result ≡ value_at (key_of key.now) self.now }
+    {
+        self.values.get(key)
+    }
+
+    /// Another value for a key. A key that was assigned before keeps its place.
+    pub(crate) fn set(&mut self, key: Key, value: V) -> Result<(), AllocError>
+        ensures ok { OnOk result (self.new ≡ with_entry (key_of key) value self.old) }
+        ensures err { OnErr result (self.new ≡ self.old) }
+    {
+        let _old = self.values.insert(key, value)?;
+        Ok(())
+    }
+
+    /// How many entries have a value that isn't null.
+    pub(crate) fn row_count(&self) -> usize
+        ensures count { result ≡ row_count V.null_test self.now }
+        ensures small { result < 2 ^ 63 }
+    {
+        let mut count = 0;
+        for i in 0..self.values.len() {
+            let Some((_key, value)) = self.values.get_index(i) else {
+                unreachable!();
+            };
+            if !value.is_null() {
+                count += 1;
+            }
+        }
+        count
+    }
+
+    /// Key and value of each entry whose value isn't null.
+    pub(crate) fn rows(&self, alloc: Global) -> Result<Vec<V>, AllocError>
+        ensures { IfOk result (λ all. all.items ≡ rows V.null_test V.key_value self.now) }
+    {
+        let mut all = Vec::new(alloc);
+        for i in 0..self.values.len() {
+            let Some((key, value)) = self.values.get_index(i) else {
+                unreachable!();
+            };
+            if !value.is_null() {
+                all.push(V::from_key(key)?)?;
+                all.push(value.clone()?)?;
+            }
+        }
+        Ok(all)
+    }
+
+    /// The array of its rows, if it has any.
+    pub(crate) fn to_array(&self, alloc: Global) -> Result<Option<Array<V>>, AllocError>
+        ensures { IfOk result (λ made. made ≡ table_rows V.null_test V.key_value self.now) }
+    {
+        let count = self.row_count();
+        if count == 0 {
+            return Ok(None);
+        }
+        let bounds = pairs(alloc, count)?;
+        let rows = self.rows(alloc)?;
+        Ok(Some(Array::of(bounds, rows)))
+    }
+}
+
+// The dimensions of rows of two.
+fn pairs(alloc: Global, count: usize) -> Result<Vec<Bounds>, AllocError>
+    requires some { 0 < count }
+    requires fits { count < 2 ^ 63 }
+    ensures { IfOk result (λ bounds. bounds.items ≡ pairs count) }
+{
+    let mut bounds = Vec::with_capacity(alloc, 2)?;
+    bounds.push(Bounds::first(count as i64))?;
+    bounds.push(Bounds::first(2))?;
+    Ok(bounds)
+}
