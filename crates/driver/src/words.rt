@@ -59,28 +59,45 @@ fn bare<'a>(alloc: Global, name: &'a str) -> Command<'a> {
         .disable_help_subcommand(true)
 }
 
-fn command<'a>(alloc: Global) -> Result<Command<'a>, AllocError> {
-    let compile = bare(alloc, "compile")
+// A command that takes a module.
+fn of_module<'a>(alloc: Global, name: &'a str) -> Result<Command<'a>, AllocError> {
+    bare(alloc, name).arg(file(alloc, "MODULE"))
+}
+
+fn compile_words<'a>(alloc: Global) -> Result<Command<'a>, AllocError> {
+    bare(alloc, "compile")
         .arg(file(alloc, "DECK"))?
-        .arg(file(alloc, "MODULE"))?;
-    let check = bare(alloc, "check").arg(file(alloc, "MODULE"))?;
-    let show = bare(alloc, "show").arg(file(alloc, "MODULE"))?;
-    let steps = Arg::new(alloc, "steps")
-        .long("steps")
-        .action(ArgAction::Set);
+        .arg(file(alloc, "MODULE"))
+}
+
+fn run_words<'a>(alloc: Global) -> Result<Command<'a>, AllocError> {
+    let run = of_module(alloc, "run")?;
     let files = Arg::new(alloc, "UNIT=FILE")
         .num_args(0..)
         .action(ArgAction::Append);
-    let run = bare(alloc, "run")
-        .arg(file(alloc, "MODULE"))?
-        .arg(files)?
-        .arg(steps)?;
-    bare(alloc, "sno")
-        .no_binary_name(true)
-        .subcommand(compile)?
-        .subcommand(check)?
-        .subcommand(show)?
-        .subcommand(run)
+    let run = run.arg(files)?;
+    run.arg(
+        Arg::new(alloc, "steps")
+            .long("steps")
+            .action(ArgAction::Set),
+    )
+}
+
+// A command with one below it. Here alone a command is held where memory may be refused: a proof follows the fall of
+// each value that is held at a `?`, field by field.
+fn with<'a>(
+    top: Command<'a>,
+    below: Result<Command<'a>, AllocError>,
+) -> Result<Command<'a>, AllocError> {
+    top.subcommand(below?)
+}
+
+fn command<'a>(alloc: Global) -> Result<Command<'a>, AllocError> {
+    let top = bare(alloc, "sno").no_binary_name(true);
+    let top = with(top, compile_words(alloc))?;
+    let top = with(top, of_module(alloc, "check"))?;
+    let top = with(top, of_module(alloc, "show"))?;
+    with(top, run_words(alloc))
 }
 
 // The number that digits spell. Nothing, if there is no digit, or another byte, or the number is too large.

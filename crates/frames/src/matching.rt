@@ -20,13 +20,22 @@ use strings::Text;
 use world::Span;
 
 /// A match under way, which the operands and the handlers of its statement wait for where they are.
-#[derive(Drop)]
 pub struct Matching {
     matcher: Matcher,
     /// Where a match that succeeds goes on.
     place: u32,
     /// The subject, if the match leaves what it matched for a replacement.
     replaced: Option<Text>,
+}
+
+impl Drop for Matching {
+    fn drop(self) {
+        let Matching {
+            matcher: _,
+            place: _,
+            replaced: _,
+        } = self;
+    }
 }
 
 impl Model for Matching {
@@ -110,7 +119,11 @@ impl Matching {
         ensures ok { OnOk result (operands_of operands.new ≡ found_as self.keep self.search.subject start end (operands_of operands.old)) }
         ensures err { OnErr result (operands.new ≡ operands.old) }
     {
-        let Matching { replaced, .. } = self;
+        let Matching {
+            matcher: _,
+            place: _,
+            replaced,
+        } = self;
         match replaced {
             Some(subject) => operands.push(Operand::Span(Span {
                 subject,

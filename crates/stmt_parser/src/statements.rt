@@ -39,7 +39,10 @@ fn all(alloc: Global, tokens: &[Token<'_>]) -> Result<Stmt, Stop>
     let found = statement(alloc, &mut cursor, tokens.len())?;
     match cursor.take() {
         None => Ok(found),
-        Some(_) => Err(Stop::NoTree),
+        Some(_) => {
+            drop(found);
+            Err(Stop::NoTree)
+        }
     }
 }
 
@@ -64,9 +67,16 @@ fn after_label(
     ensures { Reads stmt_of (spec.after_label depth (label_of label) cursor.old) result cursor.new }
 {
     let body = body(alloc, cursor, depth)?;
-    let goto = goto(alloc, cursor, depth)?;
-    cursor.skip();
-    Ok(Stmt::Plain { label, body, goto })
+    match goto(alloc, cursor, depth) {
+        Ok(goto) => {
+            cursor.skip();
+            Ok(Stmt::Plain { label, body, goto })
+        }
+        Err(stop) => {
+            drop(body);
+            Err(stop)
+        }
+    }
 }
 
 /// `[B name] [B]`
