@@ -27,7 +27,6 @@ pub enum KeyValue<'a> {
 }
 
 /// What each keyword holds.
-#[derive(Drop)]
 pub struct Keywords {
     anchor: i64,
     full_scan: i64,
@@ -47,6 +46,31 @@ pub struct Keywords {
     return_text: Text,
     freturn_text: Text,
     nreturn_text: Text,
+}
+
+impl Drop for Keywords {
+    fn drop(self) {
+        let Keywords {
+            anchor: _,
+            full_scan: _,
+            trim: _,
+            input: _,
+            output: _,
+            st_limit: _,
+            max_lngth: _,
+            st_count: _,
+            st_no: _,
+            last_no: _,
+            st_f_count: _,
+            fnc_level: _,
+            newest_return: _,
+            alphabet: _,
+            null_text: _,
+            return_text: _,
+            freturn_text: _,
+            nreturn_text: _,
+        } = self;
+    }
 }
 
 impl Model for Keywords {

@@ -9,9 +9,14 @@ use std::marker::Model;
 use std::rc::RcSlice;
 
 /// Code of a pattern, which its clones share and which never changes. Code without an instruction takes no memory.
-#[derive(Drop)]
 pub struct PatCode {
     shared: Option<RcSlice<Instr>>,
+}
+
+impl Drop for PatCode {
+    fn drop(self) {
+        let PatCode { shared: _ } = self;
+    }
 }
 
 impl Model for PatCode {

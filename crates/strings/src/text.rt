@@ -14,11 +14,20 @@ use std::marker::Model;
 use std::rc::RcSlice;
 
 /// Bytes that are shared and never change; contracts see the list of them. The null text takes no memory.
-#[derive(Drop)]
 pub struct Text {
     shared: Option<RcSlice<u8>>,
     start: usize,
     end: usize,
+}
+
+impl Drop for Text {
+    fn drop(self) {
+        let Text {
+            shared: _,
+            start: _,
+            end: _,
+        } = self;
+    }
 }
 
 impl Model for Text {

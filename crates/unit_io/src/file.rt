@@ -19,7 +19,6 @@ use strings::Text;
 /// Unit 5 is standard input, and unit 6 is standard output, unless files are given for them. Other units are open where
 /// files are given for them. Input is read in pieces, as its records are asked for. What is written is kept back until
 /// `flush` at the latest, and for standard output until standard input is read. They don't tell their records.
-#[derive(Drop)]
 pub struct FileUnits<'a, R: Files + Input + Print> {
     rt: &'a R,
     alloc: Global,
@@ -27,6 +26,19 @@ pub struct FileUnits<'a, R: Files + Input + Print> {
     output: LineWriter<BufWriter<Printer<'a, R>>>,
     given: Vec<GivenFile<'a, R::File>>,
     counts: Counts,
+}
+
+impl<R: Files + Input + Print> Drop for FileUnits<'_, R> {
+    fn drop(self) {
+        let FileUnits {
+            rt: _,
+            alloc: _,
+            input: _,
+            output: _,
+            given: _,
+            counts: _,
+        } = self;
+    }
 }
 
 impl<'a, R: Files + Input + Print> FileUnits<'a, R> {

@@ -10,7 +10,6 @@ use std::alloc::AllocError;
 use strings::Text;
 
 /// A value. Its clones share its bytes and its code.
-#[derive(Drop)]
 pub enum Value {
     String(Text),
     Integer(i64),
@@ -20,6 +19,15 @@ pub enum Value {
     Expression(u32),
     /// An array, a table or a record, by its number in the order of making.
     Object(usize),
+}
+
+impl Drop for Value {
+    fn drop(self) {
+        match self {
+            Value::String(_) | Value::Pattern(_) | Value::Name(_) => {}
+            Value::Integer(_) | Value::Expression(_) | Value::Object(_) => {}
+        }
+    }
 }
 
 impl Clone for Value {

@@ -68,10 +68,15 @@ impl Variable {
 }
 
 /// What a run holds besides what stands on its units.
-#[derive(Drop)]
 pub struct World {
     variables: IndexMap<Text, Variable>,
     pub(crate) keywords: Keywords,
+}
+
+impl Drop for World {
+    fn drop(self) {
+        let World { variables: _, keywords: _ } = self;
+    }
 }
 
 impl Model for World {
