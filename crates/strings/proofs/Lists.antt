@@ -1,5 +1,5 @@
 use Rattle.std.proofs.Common.{◌≡◌, ℕ, zero, suc, ◌+◌, ◌-◌, ◌≤◌, List, [], ◌∷◌, ◌++◌, length, take, drop, refl, sym, ap, ◌∙◌, arith, append_assoc, add-one}
-use Rattle.std.proofs.lemmas.List.{drop-take, append-nil, take-take, drop-drop, length-take}
+use Rattle.std.proofs.lemmas.List.{drop-take, append-nil, take-take, drop-drop, length-append, length-take}
 use Rattle.std.specs.List.{repeat, slice_range}
 use Rattle.std.specs.Prelude.{◌==◌, if◌then◌else◌}
 use Rattle.model.specs.Strings.{replaced_or}
@@ -40,3 +40,15 @@ repeat_of_null n (x ∷ xs) e = absurd (omega arith)
 
 pub repeat_more : (n : ℕ) (xs : List ℕ) → repeat (n + 1) xs ≡ repeat n xs ++ xs
 repeat_more n xs = rw add-one (repeat-push n xs)
+
+front_of : (xs ys : List ℕ) → take (length xs) (xs ++ ys) ≡ xs
+front_of [] ys = refl
+front_of (x ∷ xs) ys = ap (λ zs. x ∷ zs) (front_of xs ys)
+
+-- two lists written over the front of another
+pub joined_in_front : (xs ys before after : List ℕ) → take (length xs + length ys) (take (length xs) (xs ++ before) ++ (ys ++ after)) ≡ xs ++ ys
+joined_in_front xs ys before after =
+    ap (λ zs. take (length xs + length ys) (zs ++ (ys ++ after))) (front_of xs before)
+    ∙ ap (λ zs. take (length xs + length ys) zs) (sym (append_assoc xs ys after))
+    ∙ ap (λ n. take n ((xs ++ ys) ++ after)) (sym (length-append xs ys))
+    ∙ front_of (xs ++ ys) after

@@ -1,9 +1,12 @@
--- The bytes that a text shares.
-use Rattle.std.specs.Prelude.{ℕ, List, [], Option, Some, None}
-use Rattle.std.specs.Rc.{rc_slice_items}
-use Rattle.std.specs.declared.rc.RcSlice.{RcSlice}
-use Rattle.std.specs.declared.alloc.Global.{Global}
+-- Where the bytes of a text are.
+use Rattle.std.specs.Prelude.{◌≡◌, ◌≤◌, ℕ, List, length, take, slice_range}
+use Rattle.strings.specs.declared.text.Bytes.{Bytes}
+use Rattle.strings.specs.declared.text.Bytes.TheVariants.{Own, Shared}
 
-abbrev pub shared_bytes : Option (RcSlice ℕ Global) → List ℕ
-shared_bytes None = []
-shared_bytes (Some it) = rc_slice_items it
+abbrev pub bytes_of : Bytes → List ℕ
+bytes_of (Own len array) = take len array
+bytes_of (Shared start end shared) = slice_range (shared.value.items) start end
+
+abbrev pub AreWithin : Bytes → Type 0
+AreWithin (Own len array) = (len ≤ 23) × (length array ≡ 23)
+AreWithin (Shared start end shared) = (start ≤ end) × (end ≤ length (shared.value.items))

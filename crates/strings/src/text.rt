@@ -1,44 +1,59 @@
-//! A text: bytes that are shared by its clones and by the parts cut from it.
+//! A text: a few bytes of its own, or many that are shared by its clones and by the parts cut from it.
 
-ghost use Rattle.std.specs.Prelude.{◌≡◌, ◌+◌, ◌*◌, ◌<◌, ◌≤◌, ℕ, [], ◌++◌, length, map, IfOk, IfErr, IsTrue, Err, ◌↔◌, slice_range, slice_index};
+ghost use Rattle.std.specs.Prelude.{◌≡◌, ◌+◌, ◌*◌, ◌^◌, ◌<◌, ◌≤◌, ℕ, [], ◌++◌, length, map, IfOk, IfErr, IsTrue, Err, ◌↔◌, slice_range, slice_index};
 ghost use Rattle.std.specs.Fmt.{signed_decimal};
 ghost use Rattle.std.specs.List.{repeat};
 ghost use Rattle.model.specs.Strings.{replaced};
-ghost use Rattle.strings.specs.Shared.{shared_bytes};
 
 use crate::fault::StrFault;
 use itoa::Buffer;
 use std::alloc::{AllocError, Global};
 use std::hash::{Hash, Hasher};
 use std::marker::Model;
-use std::rc::RcSlice;
+use std::rc::Rc;
 
-/// Bytes that are shared and never change; contracts see the list of them. The null text takes no memory.
+// How many bytes a text has at most that are its own.
+const FEW: usize = 23;
+
+// Where the bytes are.
+#[derive(Drop)]
+enum Bytes {
+    // The first so many of the array, which is copied with the text.
+    Own {
+        len: u8,
+        array: [u8; FEW],
+    },
+    // Those between two places.
+    Shared {
+        start: usize,
+        end: usize,
+        shared: Rc<Vec<u8>>,
+    },
+}
+
+/// Bytes that never change; contracts see the list of them. A few take no memory, and more are shared.
 pub struct Text {
-    shared: Option<RcSlice<u8>>,
-    start: usize,
-    end: usize,
+    bytes: Bytes,
 }
 
 impl Drop for Text {
     fn drop(self) {
-        let Text {
-            shared: _,
-            start: _,
-            end: _,
-        } = self;
+        let Text { bytes: _ } = self;
     }
 }
 
+const _: () = prove!(size_of::<Text>() <= 32);
+
 impl Model for Text {
-    ghost use Rattle.std.specs.Prelude.{List, ℕ, length, slice_range, ◌≤◌};
-    ghost use Rattle.strings.specs.Shared.{shared_bytes};
+    ghost use Rattle.std.specs.Prelude.{List, ℕ};
 
     ghost Value = { List ℕ };
 
-    ghost view = { λ t. slice_range (shared_bytes t.shared) t.start t.end };
+    ghost use Rattle.strings.specs.Shared.{bytes_of, AreWithin};
 
-    ghost invariant = { λ t. (t.start ≤ t.end) × (t.end ≤ length (shared_bytes t.shared)) };
+    ghost view = { λ t. bytes_of t.bytes };
+
+    ghost invariant = { λ t. AreWithin t.bytes };
 }
 
 impl Text {
@@ -47,9 +62,44 @@ impl Text {
         ensures { result ≡ [] }
     {
         Text {
-            shared: None,
-            start: 0,
-            end: 0,
+            bytes: Bytes::Own {
+                len: 0,
+                array: [0; FEW],
+            },
+        }
+    }
+
+    // The text of a few bytes, which are copied. Takes no memory.
+    fn few(bytes: &[u8]) -> Text
+        requires { length bytes.now ≤ 23 }
+        ensures { result ≡ bytes.now }
+    {
+        let len = bytes.len();
+        let mut array = [0; FEW];
+        array[..len].copy_from_slice(bytes);
+        Text {
+            bytes: Bytes::Own {
+                len: len as u8,
+                array,
+            },
+        }
+    }
+
+    // Two texts in one of a few bytes.
+    fn few_joined(left: &[u8], right: &[u8]) -> Text
+        requires { length left.now + length right.now ≤ 23 }
+        ensures { result ≡ left.now ++ right.now }
+    {
+        let front = left.len();
+        let len = front + right.len();
+        let mut array = [0; FEW];
+        array[..front].copy_from_slice(left);
+        array[front..len].copy_from_slice(right);
+        Text {
+            bytes: Bytes::Own {
+                len: len as u8,
+                array,
+            },
         }
     }
 
@@ -59,28 +109,35 @@ impl Text {
         ensures err { IfErr result (λ fault. fault ≡ StrFault.Memory) }
     {
         let end = bytes.len();
-        if end == 0 {
-            return Ok(Text::null());
+        if end <= FEW {
+            return Ok(Text::few(bytes));
         }
-        let shared = RcSlice::from_slice(alloc, bytes)?;
+        let shared = Rc::new(alloc, Vec::from_slice(alloc, bytes)?)?;
         Ok(Text {
-            shared: Some(shared),
-            start: 0,
-            end,
+            bytes: Bytes::Shared {
+                start: 0,
+                end,
+                shared,
+            },
         })
     }
 
-    /// The text of a vector's bytes, which aren't copied.
+    /// The text of a vector's bytes, which are copied only if they are few.
     pub fn from_vec(bytes: Vec<u8>) -> Result<Text, StrFault>
         ensures ok { IfOk result (λ text. text ≡ bytes.items) }
         ensures err { IfErr result (λ fault. fault ≡ StrFault.Memory) }
     {
         let end = bytes.len();
-        let shared = RcSlice::from_vec(bytes)?;
+        if end <= FEW {
+            return Ok(Text::few(bytes.as_slice()));
+        }
+        let shared = Rc::new(*bytes.allocator(), bytes)?;
         Ok(Text {
-            shared: Some(shared),
-            start: 0,
-            end,
+            bytes: Bytes::Shared {
+                start: 0,
+                end,
+                shared,
+            },
         })
     }
 
@@ -94,16 +151,46 @@ impl Text {
         if front > limit || back > limit - front {
             return Err(StrFault::TooLong);
         }
+        if front + back <= FEW {
+            return Ok(Text::few_joined(left.as_slice(), right.as_slice()));
+        }
         if front == 0 {
             return Ok(right.clone()?);
         }
         if back == 0 {
             return Ok(left.clone()?);
         }
-        let mut all = Vec::with_capacity(alloc, front + back)?;
-        all.extend_from_slice(left.as_slice())?;
-        all.extend_from_slice(right.as_slice())?;
-        Text::from_vec(all)
+        joined(alloc, left.as_slice(), right.as_slice())
+    }
+
+    /// One text and then the other. Bytes of the first that nothing else shares aren't copied while they have room.
+    pub fn append(alloc: Global, left: Text, right: &Text, limit: usize) -> Result<Text, StrFault>
+        ensures ok { IfOk result (λ text. text ≡ left ++ right.now) }
+        ensures too_long { (result ≡ Err StrFault.TooLong) ↔ (limit < length left + length right.now) }
+    {
+        let front = left.len();
+        let back = right.len();
+        if back > limit || front > limit - back {
+            return Err(StrFault::TooLong);
+        }
+        if front + back <= FEW {
+            return Ok(Text::few_joined(left.as_slice(), right.as_slice()));
+        }
+        if front == 0 {
+            return Ok(right.clone()?);
+        }
+        let Text { bytes } = left;
+        match bytes {
+            Bytes::Own { len, array } => joined(alloc, &array[..len as usize], right.as_slice()),
+            Bytes::Shared { start, end, shared } => match Rc::try_unwrap(shared) {
+                Ok(all) => lengthened(alloc, all, start, end, right.as_slice()),
+                Err(shared) => joined(
+                    alloc,
+                    &shared.as_ref().as_slice()[start..end],
+                    right.as_slice(),
+                ),
+            },
+        }
     }
 
     /// The text, `n` times.
@@ -150,72 +237,124 @@ impl Text {
     }
 
     /// The bytes.
+    #[inline]
     pub fn as_slice(&self) -> &[u8]
         ensures { result.now ≡ self.now }
     {
-        match &self.shared {
-            Some(shared) => {
-                let all = shared.as_slice();
-                &all[self.start..self.end]
+        match &self.bytes {
+            Bytes::Own { len, array } => &array[..*len as usize],
+            Bytes::Shared { start, end, shared } => {
+                let all = shared.as_ref().as_slice();
+                &all[*start..*end]
             }
-            None => &[],
         }
     }
 
     /// How many bytes there are.
+    #[inline]
     pub fn len(&self) -> usize
         ensures { result ≡ length self.now }
     {
-        self.end - self.start
+        match &self.bytes {
+            Bytes::Own { len, .. } => *len as usize,
+            Bytes::Shared { start, end, .. } => *end - *start,
+        }
     }
 
     /// Whether it is the null text.
+    #[inline]
     pub fn is_empty(&self) -> bool
         ensures { IsTrue result ↔ (self.now ≡ []) }
     {
-        self.start == self.end
+        self.len() == 0
     }
 
-    /// The bytes from `from` up to `to`, shared and not copied.
+    /// The bytes from `from` up to `to`, copied if they are few, and else shared.
     pub fn sub(&self, from: usize, to: usize) -> Result<Text, StrFault>
         requires ordered { from ≤ to }
         requires within { to ≤ length self.now }
         ensures ok { IfOk result (λ part. part ≡ slice_range self.now from to) }
         ensures err { IfErr result (λ fault. fault ≡ StrFault.Memory) }
     {
-        if from == to {
-            return Ok(Text::null());
+        let bytes = self.as_slice();
+        if to - from <= FEW {
+            return Ok(Text::few(&bytes[from..to]));
         }
-        let shared = share(&self.shared)?;
-        Ok(Text {
-            shared,
-            start: self.start + from,
-            end: self.start + to,
-        })
+        match &self.bytes {
+            Bytes::Shared { start, shared, .. } => {
+                let shared = shared.clone()?;
+                Ok(Text {
+                    bytes: Bytes::Shared {
+                        start: *start + from,
+                        end: *start + to,
+                        shared,
+                    },
+                })
+            }
+            Bytes::Own { .. } => unreachable!(),
+        }
     }
 }
 
 impl Clone for Text {
     ghost is_clone = { λ text copy. copy ≡ text };
 
+    #[inline]
     fn clone(&self) -> Result<Text, AllocError> {
-        let shared = share(&self.shared)?;
-        Ok(Text {
-            shared,
-            start: self.start,
-            end: self.end,
-        })
+        match &self.bytes {
+            Bytes::Own { len, array } => Ok(Text {
+                bytes: Bytes::Own {
+                    len: *len,
+                    array: *array,
+                },
+            }),
+            Bytes::Shared { start, end, shared } => {
+                let shared = shared.clone()?;
+                Ok(Text {
+                    bytes: Bytes::Shared {
+                        start: *start,
+                        end: *end,
+                        shared,
+                    },
+                })
+            }
+        }
     }
 }
 
-// The same bytes, shared once more.
-fn share(shared: &Option<RcSlice<u8>>) -> Result<Option<RcSlice<u8>>, AllocError>
-    ensures { IfOk result (λ copy. shared_bytes copy ≡ shared_bytes shared.now) }
+// Two texts in one.
+fn joined(alloc: Global, left: &[u8], right: &[u8]) -> Result<Text, StrFault>
+    requires { length left.now + length right.now < 2 ^ 64 }
+    ensures ok { IfOk result (λ text. text ≡ left.now ++ right.now) }
+    ensures err { IfErr result (λ fault. fault ≡ StrFault.Memory) }
 {
-    match shared {
-        Some(it) => Ok(Some(it.clone()?)),
-        None => Ok(None),
-    }
+    let mut all = Vec::with_capacity(alloc, left.len() + right.len())?;
+    all.extend_from_slice(left)?;
+    all.extend_from_slice(right)?;
+    Text::from_vec(all)
+}
+
+// The bytes between two places, and then others; the vector is kept.
+fn lengthened(
+    alloc: Global,
+    all: Vec<u8>,
+    start: usize,
+    end: usize,
+    right: &[u8],
+) -> Result<Text, StrFault>
+    requires ordered { start ≤ end }
+    requires within { end ≤ length all.items }
+    ensures ok { IfOk result (λ text. text ≡ slice_range all.items start end ++ right.now) }
+    ensures err { IfErr result (λ fault. fault ≡ StrFault.Memory) }
+{
+    let mut all = all;
+    all.truncate(end);
+    all.extend_from_slice(right)?;
+    let end = all.len();
+    let shared = Rc::new(alloc, all)?;
+    Ok(Text {
+        bytes: Bytes::Shared { start, end, shared },
+    })
 }
 
 // What each byte becomes.
