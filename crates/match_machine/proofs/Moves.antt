@@ -1,26 +1,18 @@
 -- How the kept state moves.
 use Rattle.std.proofs.Common.{◌≡◌, ℕ, zero, suc, ◌+◌, ◌-◌, ◌<◌, ◌≤◌, List, [], ◌∷◌, ◌++◌, map, reverse, length, refl, sym, ◌∙◌, ap, subst, arith, add-one, ◌⊎◌, inl, inr, Option, Some, None, Bool, true, false}
 use Rattle.std.specs.Prelude.{slice_get, get_or, drop}
-use Rattle.std.proofs.lemmas.List.{reverse-append, map-append}
 use Rattle.std.proofs.lemmas.Option.{slice_get_cases, slice_get_past}
 use Rattle.model.specs.Pattern.{Instr, Pending, Event, Running, Failed, Asks, Matched}
 use Rattle.model.specs.Basic.{from_up}
 use Rattle.model.specs.Steps as s
 use Rattle.model.specs.Steps.{Code, settled}
-use Rattle.match_machine.specs.declared.state.Note.{Note}
-use Rattle.match_machine.specs.declared.state.Note.TheVariants as note
-use Rattle.match_machine.specs.declared.state.Choice.{Choice}
-use Rattle.match_machine.specs.View.{note_of, notes_of, inside, choice_of, choices_of, is_running}
+use Rattle.match_machine.specs.Standing.{inside}
+use Rattle.match_machine.specs.View.{is_running}
 
 -- ---- entered patterns
-settled_left : (ns : List s.Note) (code code' : Code) (p p' c : ℕ) (a : Pending) → length code ≤ p → settled (s.Left code' p' ∷ ns) code p c a ≡ settled ns code' p' c a
+pub settled_left : (ns : List s.Note) (code code' : Code) (p p' c : ℕ) (a : Pending) → length code ≤ p → settled (s.Left code' p' ∷ ns) code p c a ≡ settled ns code' p' c a
 settled_left ns code code' p p' c a h =
     ap (λ (o : Option Instr). elim o [ None ↦ settled ns code' p' c a | Some i ↦ record { code = code; place = p; cursor = c; notes = s.Left code' p' ∷ ns; pending = a } ]) (slice_get_past code p h)
-
-pub settled_pop : (xs ys : List Note) (code code' : Code) (p p' c : ℕ) (a : Pending) → xs ≡ ys ++ note.Left code' p' ∷ [] → length code ≤ p → settled (notes_of xs) code p c a ≡ settled (notes_of ys) code' p' c a
-settled_pop xs ys code code' p p' c a e h =
-    ap (λ z. settled (notes_of z) code p c a) e ∙ ap (λ z. settled (map note_of z) code p c a) (reverse-append ys (note.Left code' p' ∷ []))
-    ∙ settled_left (notes_of ys) code code' p p' c a h
 
 pub settled_within : (ns : List s.Note) (code : Code) (p c : ℕ) (a : Pending) → p < length code → settled ns code p c a ≡ record { code = code; place = p; cursor = c; notes = ns; pending = a }
 settled_within [] code p c a h = refl
@@ -50,10 +42,6 @@ go_within t cs b left h = go (slice_get_cases t.code t.place).1
 pub go_past : (t : s.Thread) (cs : List s.Choice) (b left : ℕ) → length t.code ≤ t.place → s.go t cs b left [] ≡ s.Over (s.Won b t.cursor t.pending)
 go_past t cs b left h = go_at t cs b left None (slice_get_past t.code t.place h)
 
--- ---- choices
-pub choices_push : (u : List ℕ) (xs : List Choice) (x : Choice) → choices_of u (xs ++ x ∷ []) ≡ choice_of u x ∷ choices_of u xs
-choices_push u xs x = ap (map (choice_of u)) (reverse-append xs (x ∷ []))
-
 -- ---- ARB
 from_up_head : (c n : ℕ) → from_up c n ≡ c ∷ drop 1 (from_up c n)
 from_up_head c zero = refl
@@ -66,16 +54,6 @@ arb_more u c h =
 
 pub arb_last : (u : List ℕ) (c : ℕ) → length u ≤ c → from_up c (length u - c) ≡ c ∷ []
 arb_last u c h = let e : length u - c ≡ 0 = omega arith in ap (from_up c) e
-
--- ---- copies
-map_reverse : {A B : Type 0} (f : A → B) (xs : List A) → map f (reverse xs) ≡ reverse (map f xs)
-map_reverse f [] = refl
-map_reverse f (x ∷ xs) =
-    ap (map f) (reverse-append (x ∷ []) xs) ∙ map-append f (reverse xs) (x ∷ []) ∙ ap (λ ys. ys ++ f x ∷ []) (map_reverse f xs)
-    ∙ sym (reverse-append (f x ∷ []) (map f xs))
-
-pub same_notes : (xs ys : List Note) → map note_of xs ≡ map note_of ys → notes_of xs ≡ notes_of ys
-same_notes xs ys h = map_reverse note_of xs ∙ ap reverse h ∙ sym (map_reverse note_of ys)
 
 -- ---- steps
 steps_suc : (u : List ℕ) (code : Code) (n : ℕ) (st : s.State) → s.steps u code (suc n) st ≡ s.step u code (s.steps u code n st)

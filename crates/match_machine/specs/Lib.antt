@@ -1,3 +1,5 @@
+pub mod Standing
+pub mod Logs
 pub mod View
 pub mod Held
 pub mod Balance

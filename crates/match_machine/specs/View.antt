@@ -9,22 +9,20 @@ use Rattle.match_machine.specs.declared.event.Want.{Want}
 use Rattle.match_machine.specs.declared.event.Want.TheVariants as want
 use Rattle.match_machine.specs.declared.event.Told.{Told}
 use Rattle.match_machine.specs.declared.event.Told.TheVariants as told
-use Rattle.match_machine.specs.declared.event.Assignment.{Assignment}
 use Rattle.match_machine.specs.declared.event.Event.{Event}
 use Rattle.match_machine.specs.declared.event.Event.TheVariants as event
 use Rattle.match_machine.specs.declared.event.Answer.{Answer}
 use Rattle.match_machine.specs.declared.event.Answer.TheVariants as answer
-use Rattle.match_machine.specs.declared.state.Note.{Note}
-use Rattle.match_machine.specs.declared.state.Note.TheVariants as note
 use Rattle.match_machine.specs.declared.state.Thread.{Thread}
 use Rattle.match_machine.specs.declared.state.Kept.{Kept}
 use Rattle.match_machine.specs.declared.state.Kept.TheVariants as kept
-use Rattle.match_machine.specs.declared.state.Choice.{Choice}
 use Rattle.match_machine.specs.declared.state.Waiting.{Waiting}
 use Rattle.match_machine.specs.declared.state.Waiting.TheVariants as waiting
 use Rattle.match_machine.specs.declared.state.Mode.{Mode}
 use Rattle.match_machine.specs.declared.state.Mode.TheVariants as mode
 use Rattle.match_machine.specs.declared.state.Run.{Run}
+use Rattle.match_machine.specs.Standing.{Standing, Back}
+pub use Rattle.match_machine.specs.Logs.{assigned, pending_of}
 
 -- ---- events and answers
 abbrev pub want_of : Want → p.Want
@@ -35,12 +33,6 @@ want_of want.Bytes = p.WantBytes
 abbrev pub told_of : Told → p.Told
 told_of (told.Text w) = p.Text w
 told_of (told.Number n) = p.Number n
-
-abbrev pub assigned : Assignment → p.Name × List ℕ
-assigned x = (name_of x.name, x.value)
-
-abbrev pub pending_of : List Assignment → p.Pending
-pending_of xs = map assigned xs
 
 abbrev pub event_is : Event → p.Event ℕ
 event_is event.Running = p.Running
@@ -57,21 +49,9 @@ answer_of answer.Failed = p.IsFailed
 answer_of answer.Said = p.IsSaid
 
 -- ---- states
-abbrev pub note_of : Note → s.Note
-note_of (note.Opened c) = s.Opened c
-note_of (note.Left code q) = s.Left code q
-
-abbrev pub notes_of : List Note → List s.Note
-notes_of xs = map note_of (reverse xs)
-
--- the newest is that of an entered pattern
-abbrev pub inside : List s.Note → Bool
-inside (s.Left code q ∷ ns) = true
-inside _ = false
-
 abbrev pub thread_of : Thread → s.Thread
 thread_of t =
-    record { code = t.code; place = t.place; cursor = t.cursor; notes = notes_of t.notes.items; pending = pending_of t.pending.items }
+    record { code = t.trail.code; place = t.place; cursor = t.cursor; notes = t.trail.notes; pending = t.trail.pending }
 
 -- an end of BAL and those behind it
 abbrev pub ends_from : List ℕ → Option ℕ → List ℕ
@@ -86,12 +66,12 @@ kept_of u (kept.Bal e) t = s.Retry (t.place + 1) e (balanced (drop e u) 0 e) t
 kept_of u kept.Again t = s.Again t
 kept_of u kept.Quit t = s.Quit
 
-abbrev pub choice_of : List ℕ → Choice → s.Choice
-choice_of u x = kept_of u x.kept (thread_of x.thread)
+abbrev pub choice_of : List ℕ → Back → s.Choice
+choice_of u x = kept_of u x.kept x.thread
 
 -- the newest first
-abbrev pub choices_of : List ℕ → List Choice → List s.Choice
-choices_of u xs = map (choice_of u) (reverse xs)
+abbrev pub choices_of : List ℕ → List Back → List s.Choice
+choices_of u xs = map (choice_of u) xs
 
 abbrev pub waiting_of : Waiting → s.Waiting
 waiting_of (waiting.Pattern e) = s.ForPattern e
@@ -119,7 +99,7 @@ state_by mode.Matched t cs b left w y = s.Over (s.Won b t.cursor t.pending)
 state_by mode.Failed t cs b left w y = s.Over s.Lost
 
 abbrev pub state_of : List ℕ → Run → State
-state_of u r = state_by r.mode (thread_of r.thread) (choices_of u r.choices.items) r.start r.left r.waiting r.answer
+state_of u r = state_by r.mode (thread_of r.thread) (choices_of u r.thread.trail.backs) r.start r.left r.waiting r.answer
 
 -- where memory was refused, nothing is left of it
 abbrev pub held : Bool → List ℕ → Run → State
@@ -133,21 +113,21 @@ SamePlaces a b = (b.start ≡ a.start) × (b.left ≡ a.left)
 
 -- the match with its attempt gone on to a place and a cursor
 abbrev pub gone : List ℕ → Run → ℕ → ℕ → State
-gone u r q c = go (onward (thread_of r.thread) q c) (choices_of u r.choices.items) r.start r.left []
+gone u r q c = go (onward (thread_of r.thread) q c) (choices_of u r.thread.trail.backs) r.start r.left []
 
 -- the match after a failure
 abbrev pub failed : List ℕ → Run → State
-failed u r = back (choices_of u r.choices.items) r.start r.left []
+failed u r = back (choices_of u r.thread.trail.backs) r.start r.left []
 
 -- the match after an instruction
 abbrev pub done : List ℕ → Run → s.Act → State
-done u r x = after_act x (choices_of u r.choices.items) r.start r.left []
+done u r x = after_act x (choices_of u r.thread.trail.backs) r.start r.left []
 
 -- what is kept with an attempt fits the subject and the attempt's code
 abbrev pub KeptFits : List ℕ → Thread → Kept → Type 0
 KeptFits u t (kept.To q) = Unit {0}
-KeptFits u t (kept.Arb e) = (e ≤ length u) × (t.place < length t.code)
-KeptFits u t (kept.Bal e) = (e ≤ length u) × (t.place < length t.code)
+KeptFits u t (kept.Arb e) = (e ≤ length u) × (t.place < length t.trail.code)
+KeptFits u t (kept.Bal e) = (e ≤ length u) × (t.place < length t.trail.code)
 KeptFits u t kept.Again = t.cursor ≤ length u
 KeptFits u t kept.Quit = Unit {0}
 

@@ -8,6 +8,7 @@ mod matcher;
 mod run;
 mod state;
 mod step;
+mod trail;
 
 pub use event::{Answer, Assignment, Event, Told, Want};
 pub use matcher::Matcher;

@@ -1,23 +1,15 @@
 //! One state of a match.
 
-use crate::event::{Answer, Assignment, Told};
-use pattern_compiler::{Kind, Name, PatCode};
+use crate::event::{Answer, Told};
+use crate::trail::Trail;
+use pattern_compiler::{Kind, Name};
 
-/// A cursor that OPEN noted, or where the code that EVAL left goes on.
-#[derive(Drop)]
-pub enum Note {
-    Opened(usize),
-    Left(PatCode, usize),
-}
-
-/// Where one attempt stands. The newest note is the last.
+/// Where one attempt stands, with the choices.
 #[derive(Drop)]
 pub struct Thread {
-    pub code: PatCode,
     pub place: usize,
     pub cursor: usize,
-    pub notes: Vec<Note>,
-    pub pending: Vec<Assignment>,
+    pub trail: Trail,
 }
 
 /// What is gone back to: on at a place, at a further end of ARB or BAL, an instruction to be done again, or the end of
@@ -29,13 +21,6 @@ pub enum Kept {
     Bal(usize),
     Again,
     Quit,
-}
-
-/// A choice with its copy of the attempt.
-#[derive(Drop)]
-pub struct Choice {
-    pub kept: Kept,
-    pub thread: Thread,
 }
 
 /// What an answer is awaited for.
@@ -56,7 +41,7 @@ pub enum Mode {
     Failed,
 }
 
-/// A match between two steps. The newest choice is the last.
+/// A match between two steps.
 #[derive(Drop)]
 pub struct Run {
     pub mode: Mode,
@@ -64,7 +49,6 @@ pub struct Run {
     /// How many further starts there are.
     pub left: usize,
     pub thread: Thread,
-    pub choices: Vec<Choice>,
     pub waiting: Option<Waiting>,
     pub answer: Option<Answer>,
 }

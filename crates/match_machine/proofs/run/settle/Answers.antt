@@ -1,12 +1,26 @@
-use Rattle.std.proofs.Common.{◌≡◌, ◌∙◌, sym, ap, ◌++◌, ◌∷◌, [], rules}
-use Rattle.match_machine.specs.View.{thread_of, notes_of}
-use Rattle.match_machine.proofs.Moves.{settled_pop, settled_within, settled_outside}
+use Rattle.std.proofs.Common.{◌≡◌, ◌≤◌, ◌<◌, ◌∙◌, sym, ap, arith, length}
+use Rattle.model.specs.Steps.{settled}
+use Rattle.match_machine.specs.Standing.{Standing}
+use Rattle.match_machine.proofs.Moves.{settled_left, settled_within}
 use Rattle.match_machine.proofs.run.settle.Goals as goal
 
-pub loop-thread-preserved-in-Left-1 : goal.loop-thread-preserved-in-Left-1
-loop-thread-preserved-in-Left-1 c =
-    sym (settled_pop c.loop-thread.thread.notes.items c.pop.new.self.items c.loop-thread.thread.code c.in-Some-Left.code c.loop-thread.thread.place c.in-Some-Left.place _ _ (c.in-Some-Left.ensures.items ∙ ap (λ note. c.pop.new.self.items ++ note ∷ []) c.in-Some-Left.field-0-is) (rw (sym c.len.ensures) c.loop-thread-test.true)) ∙ c.loop-thread.invariant
+pub loop-thread-preserved : goal.loop-thread-preserved
+loop-thread-preserved c =
+    let t = c.loop-thread.thread in
+    let l = c.leave.new.self in
+    let e = c.in_ok-thread.ensures in
+    let g : c.len.result ≡ length t.trail.code = c.len.ensures ∙ ap length c.code.ensures in
+    let h : length t.trail.code ≤ t.place = omega (arith, g, c.loop-thread-test.true) in
+    record {
+      thread =
+          sym (settled_left l.notes t.trail.code l.code t.place c.in_ok-thread.field-0 t.cursor l.pending h)
+          ∙ sym (ap (λ (v : Standing). settled v.notes v.code t.place t.cursor v.pending) e) ∙ c.loop-thread.invariant.thread;
+      choices = sym (ap (λ (v : Standing). v.backs) e) ∙ c.loop-thread.invariant.choices;
+    }
 
-pub returns-after-loop-thread : goal.returns-after-loop-thread
-returns-after-loop-thread c =
-    sym (settled_within _ _ _ _ _ (rw (sym c.len.ensures) c.loop-thread-test.false)) ∙ c.loop-thread.invariant
+pub returns-after-loop-thread-clause-thread : goal.returns-after-loop-thread-clause-thread
+returns-after-loop-thread-clause-thread c =
+    let t = c.loop-thread.thread in
+    let g : c.len.result ≡ length t.trail.code = c.len.ensures ∙ ap length c.code.ensures in
+    let h : t.place < length t.trail.code = omega (arith, g, c.loop-thread-test.false) in
+    sym (settled_within t.trail.notes t.trail.code t.place t.cursor t.trail.pending h) ∙ c.loop-thread.invariant.thread

@@ -1,12 +1,14 @@
 use Rattle.std.proofs.Common.{◌≡◌, length}
 use Rattle.model.specs.Steps.{settled}
-use Rattle.match_machine.specs.View.{thread_of}
 use Rattle.match_machine.proofs.run.settle.Given as goal
 
 abbrev pub invariant-loop-thread : goal.invariant-loop-thread
 invariant-loop-thread l =
-    settled (thread_of l.thread).notes l.thread.code l.thread.place l.thread.cursor (thread_of l.thread).pending
-    ≡ settled (thread_of l.fn.thread).notes l.fn.thread.code l.fn.thread.place l.fn.thread.cursor (thread_of l.fn.thread).pending
+    record {
+      thread : settled l.thread.trail.notes l.thread.trail.code l.thread.place l.thread.cursor l.thread.trail.pending
+          ≡ settled l.fn.thread.trail.notes l.fn.thread.trail.code l.fn.thread.place l.fn.thread.cursor l.fn.thread.trail.pending;
+      choices : l.thread.trail.backs ≡ l.fn.thread.trail.backs;
+    }
 
 abbrev pub decreases-loop-thread : goal.decreases-loop-thread
-decreases-loop-thread l = length l.thread.notes.items
+decreases-loop-thread l = length l.thread.trail.notes

@@ -1,0 +1,325 @@
+//! Where the attempt under way stands, and the choices that are gone back to.
+
+ghost use Rattle.std.specs.Prelude.{◌≡◌, ◌∷◌, ◌++◌, List, [], true, false, Bool, IfOk, OnOk, OnErr, MatchOption, length, reverse, Some, None, option_copied, if◌then◌else◌};
+ghost use Rattle.model.specs.Steps as s;
+ghost use Rattle.model.specs.Steps.{Code};
+ghost use Rattle.model.specs.Pattern.{Pending};
+ghost use Rattle.match_machine.specs.Standing.{Standing, Back, inside, opened, unopened, no_backs};
+ghost use Rattle.match_machine.specs.Logs.{assigned, pending_of, note_of, chain, entry_at, below_of, last_code};
+
+use crate::event::Assignment;
+use crate::state::Kept;
+use pattern_compiler::PatCode;
+use std::alloc::{AllocError, Global};
+use std::marker::Model;
+use std::mem;
+
+/// A cursor that OPEN noted, or where the code that EVAL left goes on.
+#[derive(Drop)]
+pub enum Note {
+    Opened(usize),
+    Left(PatCode, usize),
+}
+
+/// A note, and the list below it: 0, or one more than the place of its newest entry.
+#[derive(Drop)]
+pub struct Entry {
+    pub note: Note,
+    pub below: usize,
+}
+
+/// What is gone back to, with the lengths that the logs are cut to.
+#[derive(Clone, Copy)]
+pub struct Choice {
+    pub kept: Kept,
+    pub place: usize,
+    pub cursor: usize,
+    /// The list of notes.
+    pub head: usize,
+    pub log: usize,
+    pub pending: usize,
+    pub codes: usize,
+}
+
+/// The attempt's code, its notes and its pending assignments, and the choices. Notes are only added: a list of notes is
+/// the place of its newest. The code of a choice is the last of the codes that its cut leaves. The newest choice is the
+/// last.
+#[derive(Drop)]
+pub struct Trail {
+    code: PatCode,
+    /// The last of the codes is the attempt's.
+    stored: bool,
+    codes: Vec<PatCode>,
+    head: usize,
+    log: Vec<Entry>,
+    pending: Vec<Assignment>,
+    choices: Vec<Choice>,
+}
+
+impl Model for Trail {
+    ghost use Rattle.match_machine.specs.Standing.{Standing};
+
+    ghost Value = { Standing };
+
+    ghost use Rattle.match_machine.specs.Logs.{standing, IsKept};
+
+    ghost view = { standing };
+
+    ghost invariant = { IsKept };
+}
+
+impl Trail {
+    /// Nothing. Takes no memory.
+    pub fn new(alloc: Global) -> Trail
+        ensures { result ≡ record { code = []; notes = []; pending = []; backs = [] } }
+    {
+        Trail {
+            code: PatCode::null(),
+            stored: false,
+            codes: Vec::new(alloc),
+            head: 0,
+            log: Vec::new(alloc),
+            pending: Vec::new(alloc),
+            choices: Vec::new(alloc),
+        }
+    }
+
+    /// The code.
+    pub fn code(&self) -> &PatCode
+        ensures { result.now ≡ self.now.code }
+    {
+        &self.code
+    }
+
+    /// Whether there is no choice.
+    pub fn is_last(&self) -> bool
+        ensures { result ≡ no_backs self.now.backs }
+    {
+        self.choices.is_empty()
+    }
+
+    /// The first attempt of a start.
+    pub fn begin(&mut self, code: &PatCode) -> Result<(), AllocError>
+        ensures { OnOk result (self.new ≡ record { code = code.now; notes = []; pending = []; backs = [] }) }
+    {
+        self.code = code.clone()?;
+        self.stored = false;
+        self.choices.clear();
+        self.codes.clear();
+        self.head = 0;
+        self.log.clear();
+        self.pending.clear();
+        Ok(())
+    }
+
+    /// Adds a note.
+    fn add(&mut self, note: Note) -> Result<(), AllocError>
+        ensures { OnOk result (self.new ≡ record self.old { notes = note_of note ∷ self.old.notes }) }
+    {
+        let below = self.head;
+        self.log.push(Entry { note, below })?;
+        self.head = self.log.len();
+        Ok(())
+    }
+
+    /// Notes a cursor.
+    pub fn open(&mut self, cursor: usize) -> Result<(), AllocError>
+        ensures { OnOk result (self.new ≡ record self.old { notes = s.Opened cursor ∷ self.old.notes }) }
+    {
+        self.add(Note::Opened(cursor))
+    }
+
+    /// The newest note is taken off if it is that of OPEN, and its cursor is answered.
+    pub fn take_opened(&mut self) -> Option<usize>
+        ensures cursor { result ≡ opened self.old.notes }
+        ensures taken { self.new ≡ record self.old { notes = unopened self.old.notes } }
+    {
+        match opened_at(self.log.as_slice(), self.head) {
+            Some((cursor, below)) => {
+                self.head = below;
+                Some(cursor)
+            }
+            None => None,
+        }
+    }
+
+    /// Into a pattern, which goes on at the place.
+    pub fn enter(&mut self, code: PatCode, after: usize) -> Result<(), AllocError>
+        ensures { OnOk result (self.new ≡ record self.old { code = code; notes = s.Left self.old.code after ∷ self.old.notes }) }
+    {
+        let left = mem::replace(&mut self.code, code);
+        self.stored = false;
+        self.add(Note::Left(left, after))
+    }
+
+    /// Whether the newest note is that of an entered pattern.
+    pub fn is_inside(&self) -> bool
+        ensures { result ≡ inside self.now.notes }
+    {
+        is_left_at(self.log.as_slice(), self.head)
+    }
+
+    /// Out of an entered pattern; the place where it goes on.
+    pub fn leave(&mut self) -> Result<usize, AllocError>
+        requires { inside self.old.notes ≡ true }
+        ensures { IfOk result (λ place. self.old ≡ record self.new { code = self.old.code; notes = s.Left self.new.code place ∷ self.new.notes }) }
+    {
+        match left_at(self.log.as_slice(), self.head)? {
+            Some((code, place, below)) => {
+                self.code = code;
+                self.stored = false;
+                self.head = below;
+                Ok(place)
+            }
+            None => unreachable!(),
+        }
+    }
+
+    /// A pending assignment more.
+    pub fn assign(&mut self, assignment: Assignment) -> Result<(), AllocError>
+        ensures { OnOk result (self.new ≡ record self.old { pending = self.old.pending ++ assigned assignment ∷ [] }) }
+    {
+        self.pending.push(assignment)?;
+        Ok(())
+    }
+
+    /// A copy of the pending assignments.
+    pub fn copy_pending(&self, alloc: Global) -> Result<Vec<Assignment>, AllocError>
+        ensures { IfOk result (λ v. pending_of v.items ≡ self.now.pending) }
+    {
+        copy_pending(alloc, self.pending.as_slice())
+    }
+
+    /// Keeps a choice. Takes memory only where a log has to grow.
+    pub fn keep(&mut self, kept: Kept, place: usize, cursor: usize) -> Result<(), AllocError>
+        ensures { OnOk result (self.new ≡ record self.old { backs = record { kept = kept; thread = record { code = self.old.code; place = place; cursor = cursor; notes = self.old.notes; pending = self.old.pending } } ∷ self.old.backs }) }
+    {
+        store(&self.code, self.stored, &mut self.codes)?;
+        self.stored = true;
+        self.choices.push(Choice {
+            kept,
+            place,
+            cursor,
+            head: self.head,
+            log: self.log.len(),
+            pending: self.pending.len(),
+            codes: self.codes.len(),
+        })?;
+        Ok(())
+    }
+
+    /// Back to the newest choice, if there is one.
+    pub fn back(&mut self) -> Result<Option<Choice>, AllocError>
+        ensures { IfOk result (λ o. MatchOption o (self.old.backs ≡ []) (λ x. self.old.backs ≡ record { kept = x.kept; thread = record { code = self.new.code; place = x.place; cursor = x.cursor; notes = self.new.notes; pending = self.new.pending } } ∷ self.new.backs)) }
+    {
+        match self.choices.pop() {
+            Some(choice) => {
+                self.stored = false;
+                self.codes.truncate(choice.codes);
+                self.head = choice.head;
+                self.log.truncate(choice.log);
+                self.pending.truncate(choice.pending);
+                self.code = last_of(self.codes.as_slice())?;
+                self.stored = true;
+                Ok(Some(choice))
+            }
+            None => Ok(None),
+        }
+    }
+}
+
+/// The entry of the newest note.
+fn newest(log: &[Entry], head: usize) -> Option<&Entry>
+    ensures { option_copied result ≡ entry_at log.now head }
+{
+    if head > 0 { log.get(head - 1) } else { None }
+}
+
+/// The list below an entry.
+fn below(head: usize, below: usize) -> usize
+    ensures { result ≡ below_of head below }
+{
+    if below < head { below } else { 0 }
+}
+
+/// The cursor of the newest note, if it is that of OPEN, and the list below it.
+fn opened_at(log: &[Entry], head: usize) -> Option<(usize, usize)>
+    ensures { MatchOption result (opened (chain (reverse log.now) head) ≡ None) (λ x. chain (reverse log.now) head ≡ s.Opened x.0 ∷ chain (reverse log.now) x.1) }
+{
+    match newest(log, head) {
+        Some(entry) => match entry.note {
+            Note::Opened(cursor) => Some((cursor, below(head, entry.below))),
+            Note::Left(_, _) => None,
+        },
+        None => None,
+    }
+}
+
+/// Whether the newest note is that of an entered pattern.
+fn is_left_at(log: &[Entry], head: usize) -> bool
+    ensures { result ≡ inside (chain (reverse log.now) head) }
+{
+    match newest(log, head) {
+        Some(entry) => match entry.note {
+            Note::Opened(_) => false,
+            Note::Left(_, _) => true,
+        },
+        None => false,
+    }
+}
+
+/// The code and the place that the newest note leads to, if it is that of an entered pattern, and the list below it.
+fn left_at(log: &[Entry], head: usize) -> Result<Option<(PatCode, usize, usize)>, AllocError>
+    ensures { IfOk result (λ o. MatchOption o (inside (chain (reverse log.now) head) ≡ false) (λ x. chain (reverse log.now) head ≡ s.Left x.0 x.1 ∷ chain (reverse log.now) x.2)) }
+{
+    match newest(log, head) {
+        Some(entry) => match &entry.note {
+            Note::Opened(_) => Ok(None),
+            Note::Left(code, place) => {
+                let code = code.clone()?;
+                Ok(Some((code, *place, below(head, entry.below))))
+            }
+        },
+        None => Ok(None),
+    }
+}
+
+/// The code as the last of the codes, where it isn't yet.
+fn store(code: &PatCode, stored: bool, codes: &mut Vec<PatCode>) -> Result<(), AllocError>
+    requires { stored ≡ true → last_code codes.old.items ≡ code.now }
+    ensures last { OnOk result (last_code codes.new.items ≡ code.now) }
+    ensures more { OnOk result ((cs : List Code) × (codes.new.items ≡ codes.old.items ++ cs)) }
+    ensures same { OnErr result (codes.new.items ≡ codes.old.items) }
+{
+    if !stored {
+        let copy = code.clone()?;
+        codes.push(copy)?;
+    }
+    Ok(())
+}
+
+/// The last code.
+fn last_of(codes: &[PatCode]) -> Result<PatCode, AllocError>
+    ensures { IfOk result (λ code. code ≡ last_code codes.now) }
+{
+    match codes.last() {
+        Some(code) => {
+            let copy = code.clone()?;
+            Ok(copy)
+        }
+        None => Ok(PatCode::null()),
+    }
+}
+
+/// The same assignments.
+fn copy_pending(alloc: Global, pending: &[Assignment]) -> Result<Vec<Assignment>, AllocError>
+    ensures { IfOk result (λ v. pending_of v.items ≡ pending_of pending.now) }
+{
+    let mut copies = Vec::with_capacity(alloc, pending.len())?;
+    for assignment in pending {
+        let name = assignment.name.clone()?;
+        let value = assignment.value.clone()?;
+        copies.push(Assignment { name, value })?;
+    }
+    Ok(copies)
+}
