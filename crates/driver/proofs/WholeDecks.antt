@@ -16,7 +16,7 @@ use Rattle.model.specs.TreeViews.{stmt_of}
 use Rattle.parser.specs.Refusals.{IsRefusal}
 use Rattle.codegen.specs.Countable.{Fits}
 use Rattle.codegen.specs.Layout.{image_of}
-use Rattle.codegen_laws.proofs.Images.{are_fit, are_countable, spelt as is_spelt, sound as is_sound, agrees as does_as_meant}
+use Rattle.codegen_laws.proofs.Images.{are_fit, are_countable, spelt as is_spelt, sound as is_sound, agrees as does_as_meant, in_time as ends_in_time}
 use Rattle.fragment.specs.Fragment.{not_yet}
 use Rattle.fragment.proofs.RunYet.{run_yet, evaluated}
 use Rattle.driver.specs.declared.refusal.Refusal.{Refusal}
@@ -67,6 +67,7 @@ is_module deck bytes ss image a none i s = record {
   spelt = s ∙ ap spelling i;
   sound = is_sound deck ss a;
   agrees = does_as_meant deck ss a;
+  in_time = ends_in_time deck ss a;
   loads = record { spelt = is_spelt deck ss a; formed = is_sound deck ss a; run_yet = run_yet ss none; evaluated = evaluated ss none };
 }
 

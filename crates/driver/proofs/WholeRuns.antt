@@ -1,18 +1,23 @@
 -- From the module of a deck to its run.
-use Rattle.std.proofs.Common.{◌≡◌, ◌⊎◌, ◌∙◌, refl, ap, ℕ, List, [], Option, Result, Ok, Err, inl, inr}
+use Rattle.std.proofs.Common.{◌≡◌, ◌⊎◌, ◌∙◌, refl, sym, ap, subst, ℕ, ◌≤◌, List, [], Option, Some, None, Result, Ok, Err, inl, inr}
 use Rattle.model.specs.declared.format.LoadFault.{LoadFault}
 use Rattle.model.specs.declared.image.Image.{Image}
 use Rattle.model.specs.declared.run.Status.{Status}
-use Rattle.model.specs.Agreement.{mach}
+use Rattle.model.specs.declared.run.Ending.{Ending}
+use Rattle.model.specs.Agreement.{Agrees, Inputs, Seen, mach, mean}
 use Rattle.model.specs.Io.{Io}
 use Rattle.model.specs.Reading as reading
+use Rattle.model.specs.Faults.{verdict, Verdict, Accepted}
 use Rattle.model.specs.Told.{IfTold}
+use Rattle.model.specs.Trees.{Stmt}
 use Rattle.model.proofs.SpeltImages.{spelt_is_read}
 use Rattle.loader.specs.Answers.{IsAnswer, no_memory}
 use Rattle.loader.proofs.Judging.{accepted}
 use Rattle.statement_machine.specs.Stopped.{IfRan, ending_of}
 use Rattle.driver.specs.Compiled.{IsModuleOf}
-use Rattle.driver.specs.Whole.{IsRunOf}
+use Rattle.statement_machine.proofs.Seeing.{if_ran}
+use Rattle.world.proofs.Telling.{told_on}
+use Rattle.driver.specs.Whole.{IsRunOf, OfRun, IsSeenOf, IsMeant, IsInTime}
 
 read : (deck bytes : List ℕ) (m : IsModuleOf deck bytes) → reading.image_of bytes ≡ Ok m.image
 read deck bytes m = ap reading.image_of m.spelt ∙ spelt_is_read m.image m.has_spelling
@@ -26,8 +31,31 @@ is_run deck given bytes bound status before after same m run = record {
   image = m.image;
   generated = m.generated;
   agrees = m.agrees;
+  in_time = m.in_time;
   run = run m.image (ap reading.image_of same ∙ read deck bytes m);
 }
+
+-- ---- in the deck's own words
+
+seen_of : (ss : List Stmt) (image : Image) (inputs : Inputs) (bound : ℕ) (ending : Option Ending) (seen : Seen) → Agrees ss image → seen ≡ mach image inputs bound → seen.ending ≡ ending → (n : ℕ) × IsSeenOf ending seen.printed (mean n ss inputs)
+seen_of ss image inputs bound None seen a s e = let (n, more, p) = a.prints_only inputs bound in (n, more, p ∙ ap (λ x. x.printed ++ more) (sym s))
+seen_of ss image inputs bound (Some x) seen a s e = let (n, m) = a.ends_only inputs bound x (ap (λ x. x.ending) (sym s) ∙ e) in (n, m ∙ sym s ∙ ap (λ o. record { ending = o; printed = seen.printed }) e)
+
+same_trees : (v : Verdict) (ss ts : List Stmt) → v ≡ Accepted ss → v ≡ Accepted ts → ss ≡ ts
+same_trees v ss ts a b = cc
+
+of_run : (deck : List ℕ) (bound : ℕ) (status : Status) (before after : Option Io) (P : List Stmt → Inputs → Seen → Type 0) (r : IsRunOf deck bound status before after)
+    → ((inputs : Inputs) (seen : Seen) → seen ≡ mach r.image inputs bound → P r.statements inputs seen) → OfRun deck status before after P
+of_run deck bound status before after P r h = if_ran status _ _ r.run (λ t. told_on before after _ _
+    (λ io io' run none ss a. subst (λ ts. P ts io.left (record { ending = ending_of status; printed = io'.printed })) (same_trees (verdict deck) r.statements ss r.trees a) (h io.left _ (run none))) t)
+
+pub is_meant : (deck : List ℕ) (bound : ℕ) (status : Status) (before after : Option Io) → IsRunOf deck bound status before after → IsMeant deck status before after
+is_meant deck bound status before after r = of_run deck bound status before after _ r (λ inputs seen s. seen_of r.statements r.image inputs bound seen.ending seen r.agrees s refl)
+
+pub is_in_time : (deck : List ℕ) (bound : ℕ) (status : Status) (before after : Option Io) → IsRunOf deck bound status before after → IsInTime deck bound status before after
+is_in_time deck bound status before after r = of_run deck bound status before after _ r (λ inputs seen s n e ends enough. s ∙ r.in_time inputs n e ends bound enough)
+
+-- ---- the loader takes what was compiled, unless it lacks memory
 
 told : (im : Image) (fault : LoadFault) (result : Result Image LoadFault) → result ≡ Err fault → (result ≡ Ok im) ⊎ (result ≡ Err no_memory) → fault ≡ no_memory
 told im fault result e (inl h) = absurd (cc)

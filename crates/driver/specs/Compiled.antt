@@ -9,6 +9,7 @@ use Rattle.model.specs.declared.image.Image.{Image}
 use Rattle.model.specs.Agreement.{Agrees}
 use Rattle.model.specs.Faults.{verdict, CardRefused, Refused, Accepted}
 use Rattle.model.specs.Spelling.{IsImage, spelling}
+use Rattle.model.specs.StepBound.{EndsInTime}
 use Rattle.model.specs.Trees.{Stmt}
 use Rattle.model.specs.WellFormed.{IsWellFormed}
 use Rattle.codegen.specs.Layout.{image_of}
@@ -24,8 +25,8 @@ pub record IsAccepted (deck : List ℕ) (ss : List Stmt) : Type 0 where
   pub faultless : verdict deck ≡ Accepted ss
   pub runs : not_yet 1 ss ≡ []
 
--- the bytes are the module of the deck: they spell its image, which is well-formed, does what the deck's statements mean,
--- and has no instruction that the machine doesn't run yet
+-- the bytes are the module of the deck: they spell its image, which is well-formed, does what the deck's statements mean
+-- in as many steps as the step bound says, and has no instruction that the machine doesn't run yet
 pub record IsModuleOf (deck bytes : List ℕ) : Type 0 where
   pub statements : List Stmt
   pub trees : verdict deck ≡ Accepted statements
@@ -35,6 +36,7 @@ pub record IsModuleOf (deck bytes : List ℕ) : Type 0 where
   pub spelt : bytes ≡ spelling image
   pub sound : IsWellFormed image
   pub agrees : Agrees statements image
+  pub in_time : EndsInTime statements image
   pub loads : IsLoaded image
 
 -- ---- decks that are refused

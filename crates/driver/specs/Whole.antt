@@ -1,13 +1,17 @@
 -- What running a deck gives.
-use Rattle.std.specs.Prelude.{◌≡◌, ℕ, List, [], Option}
+use Rattle.std.specs.Prelude.{◌≡◌, ℕ, ◌+◌, ◌*◌, ◌≤◌, List, [], Option, Some, None}
+use Rattle.model.specs.declared.run.Ending.{Ending}
 use Rattle.model.specs.declared.image.Image.{Image}
 use Rattle.model.specs.declared.run.Status.{Status}
-use Rattle.model.specs.Agreement.{Agrees, mach}
+use Rattle.model.specs.Agreement.{Agrees, IsBeginning, Records, Seen, mach, mean}
 use Rattle.model.specs.Faults.{verdict, Accepted}
 use Rattle.model.specs.Io.{Io}
+use Rattle.model.specs.RulesUsed.{rules_used}
+use Rattle.model.specs.StepBound.{EndsInTime}
 use Rattle.model.specs.Told.{IfTold}
 use Rattle.model.specs.Trees.{Stmt}
 use Rattle.codegen.specs.Layout.{image_of}
+use Rattle.statement_machine.specs.declared.TheConstants.{STEPS_PER_RULE}
 use Rattle.statement_machine.specs.Stopped.{IfRan, ending_of}
 
 -- the deck has no fault, its image does what its statements mean, and, unless the run stopped, its status and what it
@@ -18,4 +22,28 @@ pub record IsRunOf (deck : List ℕ) (bound : ℕ) (status : Status) (before aft
   pub image : Image
   pub generated : image ≡ image_of statements
   pub agrees : Agrees statements image
+  pub in_time : EndsInTime statements image
   pub run : IfRan status (IfTold before after (λ io io'. io.printed ≡ [] → record { ending = ending_of status; printed = io'.printed } ≡ mach image io.left bound))
+
+-- ---- in the deck's own words, without machine or image
+
+-- what is said of a run of the deck that nothing stopped, of its statements, of what the units held at first, and of how
+-- it ended, if it has, and what it printed
+abbrev pub OfRun : List ℕ → Status → Option Io → Option Io → (List Stmt → (ℕ → List (List ℕ)) → Seen → Type 0) → Type 0
+OfRun deck status before after P = IfRan status (IfTold before after (λ io io'. io.printed ≡ [] →
+    (ss : List Stmt) → verdict deck ≡ Accepted ss → P ss io.left (record { ending = ending_of status; printed = io'.printed })))
+
+-- what was seen of a run is what the meaning has at its end, or, where it runs on, printed so far is a beginning of what
+-- the meaning prints
+abbrev pub IsSeenOf : (ending : Option Ending) → Records → Seen → Type 0
+IsSeenOf None printed meant = IsBeginning printed meant.printed
+IsSeenOf (Some e) printed meant = meant ≡ record { ending = Some e; printed = printed }
+
+-- at some depth the deck means what was seen
+abbrev pub IsMeant : List ℕ → Status → Option Io → Option Io → Type 0
+IsMeant deck status before after = OfRun deck status before after (λ ss inputs seen. (n : ℕ) × IsSeenOf seen.ending seen.printed (mean n ss inputs))
+
+-- where the meaning ends having used r rules, and the bound is STEPS_PER_RULE * (r + 1) or more, the run has ended so
+abbrev pub IsInTime : List ℕ → (bound : ℕ) → Status → Option Io → Option Io → Type 0
+IsInTime deck bound status before after = OfRun deck status before after (λ ss inputs seen. (n : ℕ) (e : Ending) → (mean n ss inputs).ending ≡ Some e →
+    STEPS_PER_RULE * (rules_used n ss inputs + 1) ≤ bound → seen ≡ mean n ss inputs)

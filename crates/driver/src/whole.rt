@@ -6,7 +6,7 @@ ghost use Rattle.statement_machine.specs.Answers.{IsStop};
 ghost use Rattle.statement_machine.specs.Stopped.{IfStopped};
 ghost use Rattle.driver.specs.declared.refusal.Refusal.TheVariants.{Memory};
 ghost use Rattle.driver.specs.Compiled.{IsRefusalOf};
-ghost use Rattle.driver.specs.Whole.{IsRunOf};
+ghost use Rattle.driver.specs.Whole.{IsInTime, IsMeant, IsRunOf};
 
 use crate::compiling::compile_deck;
 use crate::refusal::Refusal;
@@ -34,6 +34,11 @@ pub fn run_deck<U: Units>(
     // A deck is refused by exactly its faults; want of memory says nothing of the deck.
     ensures refused { IfErr result (IsRefusalOf deck.now) }
     ensures untouched { OnErr result (units.new ≡ units.old) }
+    // In the deck's own words: the run ended as its meaning does at some depth, with exactly that printed, or it runs
+    // on, and what it printed is a beginning of what its meaning prints at some depth.
+    ensures meant { IfOk result (λ status. IsMeant deck.now status (U.told units.old) (U.told units.new)) }
+    // Where the meaning ends having used r rules, a run of STEPS_PER_RULE * (r + 1) steps or more has ended so.
+    ensures in_time { IfOk result (λ status. IsInTime deck.now bound status (U.told units.old) (U.told units.new)) }
     // The run is the machine's, on an image that does what the deck's statements mean.
     ensures run { IfOk result (λ status. IsRunOf deck.now bound status (U.told units.old) (U.told units.new)) }
     // A run stopped by a failed unit names it; want of memory says nothing of the run.

@@ -1,4 +1,4 @@
-use Rattle.driver.proofs.WholeRuns.{is_run, only_memory}
+use Rattle.driver.proofs.WholeRuns.{is_run, is_meant, is_in_time, only_memory}
 use Rattle.driver.proofs.whole.run_deck.Goals as goal
 
 pub returns-in-Ok-clause-run : goal.returns-in-Ok-clause-run
@@ -7,3 +7,11 @@ returns-in-Ok-clause-run g c =
 
 pub lacking-requires : goal.lacking-requires
 lacking-requires g c = record { memory = only_memory c.args.deck.now c.deref.result.now c.in_ok-module.module.items c.in-Err.fault c.deref.ensures.value c.in_ok-module.ensures.module c.in-Err.ensures.refused }
+
+pub returns-in-Ok-clause-meant : goal.returns-in-Ok-clause-meant
+returns-in-Ok-clause-meant g c =
+    is_meant c.args.deck.now c.args.bound c.in-Ok.status (g.U.Units.told c.args.units.now) (g.U.Units.told c.run_module.new.units) (returns-in-Ok-clause-run g c)
+
+pub returns-in-Ok-clause-in_time : goal.returns-in-Ok-clause-in_time
+returns-in-Ok-clause-in_time g c =
+    is_in_time c.args.deck.now c.args.bound c.in-Ok.status (g.U.Units.told c.args.units.now) (g.U.Units.told c.run_module.new.units) (returns-in-Ok-clause-run g c)
