@@ -40,6 +40,8 @@ impl Clone for Instr {
             Instr::Abort => Instr::Abort,
             Instr::Fence => Instr::Fence,
             Instr::Open => Instr::Open,
+            Instr::OpenFence => Instr::OpenFence,
+            Instr::CloseFence => Instr::CloseFence,
             Instr::Close(name) => Instr::Close(name.clone()?),
             Instr::Say(name) => Instr::Say(name.clone()?),
             Instr::At(name) => Instr::At(name.clone()?),

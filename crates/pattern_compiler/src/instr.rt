@@ -60,6 +60,10 @@ pub enum Instr {
     Fence,
     /// Notes the cursor.
     Open,
+    /// Notes how many choices there are.
+    OpenFence,
+    /// Keeps the choices that its `OpenFence` noted.
+    CloseFence,
     /// A conditional assignment of what stands since the noted cursor.
     Close(Name),
     /// An immediate assignment of what stands since the noted cursor.
@@ -115,7 +119,8 @@ impl Drop for Instr {
             Instr::Do(_) => {}
             Instr::Close(_) | Instr::Say(_) | Instr::At(_) => {}
             Instr::Split(_) | Instr::Jmp(_) | Instr::Eval(_) | Instr::EvalBasic(_, _) => {}
-            Instr::Succeed | Instr::Abort | Instr::Fence | Instr::Open => {}
+            Instr::Succeed | Instr::Abort | Instr::Fence => {}
+            Instr::Open | Instr::OpenFence | Instr::CloseFence => {}
         }
     }
 }

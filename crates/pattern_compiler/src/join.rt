@@ -3,7 +3,7 @@
 ghost use Rattle.std.specs.Prelude.{◌≡◌, ◌≤◌, ◌+◌, [], ◌∷◌, ◌++◌, ℕ, Option, IfOk, OnOk, length};
 ghost use Rattle.model.specs.Pattern as pattern;
 ghost use Rattle.model.specs.Pattern.{Pat, Expr};
-ghost use Rattle.model.specs.PatternCode.{exits_past, exit_past, alt_code, cat_code, arbno_code, cond_code, imm_code};
+ghost use Rattle.model.specs.PatternCode.{exits_past, exit_past, alt_code, cat_code, arbno_code, fence_code, cond_code, imm_code};
 ghost use Rattle.model.specs.Stands.{Stands};
 ghost use Rattle.pattern_compiler.specs.View.{instr_of, name_of, code_of};
 
@@ -61,12 +61,20 @@ impl PatCode {
         PatCode::from_list(instrs)
     }
 
+    /// The pattern, of which the first end alone is taken.
+    pub fn fence_of(alloc: Global, part: &PatCode) -> Result<PatCode, AllocError>
+        ensures code { IfOk result (λ code. code ≡ fence_code part.now) }
+        ensures stands { IfOk result (λ code. (xs : ℕ → Option Expr) (p : Pat) → Stands xs p part.now → Stands xs (pattern.FenceOf p) code) }
+    {
+        between(alloc, Instr::OpenFence, part, Instr::CloseFence)
+    }
+
     /// The pattern with a conditional assignment of what it matched.
     pub fn cond(alloc: Global, part: &PatCode, name: Name) -> Result<PatCode, AllocError>
         ensures code { IfOk result (λ code. code ≡ cond_code part.now (name_of name)) }
         ensures stands { IfOk result (λ code. (xs : ℕ → Option Expr) (p : Pat) → Stands xs p part.now → Stands xs (pattern.Cond p (name_of name)) code) }
     {
-        noted(alloc, part, Instr::Close(name))
+        between(alloc, Instr::Open, part, Instr::Close(name))
     }
 
     /// The pattern with an immediate assignment of what it matched.
@@ -74,17 +82,17 @@ impl PatCode {
         ensures code { IfOk result (λ code. code ≡ imm_code part.now (name_of name)) }
         ensures stands { IfOk result (λ code. (xs : ℕ → Option Expr) (p : Pat) → Stands xs p part.now → Stands xs (pattern.Imm p (name_of name)) code) }
     {
-        noted(alloc, part, Instr::Say(name))
+        between(alloc, Instr::Open, part, Instr::Say(name))
     }
 }
 
-// The part, the cursor noted before it, and then an instruction.
-fn noted(alloc: Global, part: &PatCode, last: Instr) -> Result<PatCode, AllocError>
-    ensures { IfOk result (λ code. code ≡ pattern.Open ∷ (part.now ++ instr_of last ∷ [])) }
+// The part between two instructions.
+fn between(alloc: Global, first: Instr, part: &PatCode, last: Instr) -> Result<PatCode, AllocError>
+    ensures { IfOk result (λ code. code ≡ instr_of first ∷ (part.now ++ instr_of last ∷ [])) }
 {
     let middle = part.as_slice();
     let mut instrs = Vec::with_capacity(alloc, middle.len() + 2)?;
-    instrs.push(Instr::Open)?;
+    instrs.push(first)?;
     put(&mut instrs, middle)?;
     instrs.push(last)?;
     PatCode::from_list(instrs)
