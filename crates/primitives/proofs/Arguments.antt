@@ -32,6 +32,7 @@ first_three p.NotAny vs w h = refl
 first_three p.Span vs w h = refl
 first_three p.Break vs w h = refl
 first_three p.Arbno vs w h = refl
+first_three p.Fence vs w h = refl
 first_three p.Eq vs w h = refl
 first_three p.Ne vs w h = refl
 first_three p.Lt vs w h = refl

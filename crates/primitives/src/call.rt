@@ -14,7 +14,7 @@ ghost use Rattle.primitives.specs.Answers.{ComesTo, is_there};
 
 use crate::functions::{data_type, dupl, remdr, replace, size, trim};
 use crate::outcome::Outcome;
-use crate::patterns::{arbno, kind};
+use crate::patterns::{arbno, fence, kind};
 use crate::predicates::{Comparison, compare, differ, ident, integer, lgt};
 use model::PrimId;
 use pattern_compiler::Kind;
@@ -36,6 +36,7 @@ pub fn is_there(id: PrimId) -> bool
         | PrimId::Span
         | PrimId::Break
         | PrimId::Arbno
+        | PrimId::Fence
         | PrimId::Eq
         | PrimId::Ne
         | PrimId::Lt
@@ -109,6 +110,7 @@ fn call_with(
         PrimId::Span => kind(alloc, Kind::Span, first),
         PrimId::Break => kind(alloc, Kind::Break, first),
         PrimId::Arbno => arbno(alloc, first),
+        PrimId::Fence => fence(alloc, first),
         PrimId::Eq => compare(Comparison::Eq, first, second),
         PrimId::Ne => compare(Comparison::Ne, first, second),
         PrimId::Lt => compare(Comparison::Lt, first, second),
