@@ -16,4 +16,4 @@ pub returns-in-Fence-clause-answer : goal.returns-in-Fence-clause-answer
 returns-in-Fence-clause-answer c io =
     let w = world_of c.args.world.now io in
     let vs = value_of c.args.first.now ∷ value_of c.args.second.now ∷ value_of c.args.third.now ∷ [] in
-    subst (λ id. ComesTo c.fence.result w (prim_op codes_of id vs w)) (sym c.in-Fence.is) (c.fence.ensures.answer w)
+    subst (λ id. ComesTo c.fence_of.result w (prim_op codes_of id vs w)) (sym c.in-Fence.is) (c.fence_of.ensures.answer w)
