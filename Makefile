@@ -70,7 +70,7 @@ wrong: toolchain ## [CRATE=name]: try the wrong bodies that the gate doesn't; ea
 	@tools/wrong $(CRATE)
 
 time: toolchain ## [CRATE=name]: the processor time of the gate, or of a crate, as a table
-	@tools/gate_time $(CRATE)
+	@RT_JOBS=$${RT_JOBS:-$$(tools/jobs)} tools/gate_time $(CRATE)
 
 check: toolchain ## prove every crate over what earlier checks kept
 	@echo "check: proving every crate, lowest first"
