@@ -4,6 +4,8 @@ import contextlib
 import os
 import pathlib
 import shutil
+import signal
+import sys
 import tempfile
 
 ROOT = pathlib.Path(__file__).resolve().parent.parent
@@ -53,3 +55,8 @@ def copied(names):
 def rt():
     """The toolchain's command."""
     return os.environ.get("RT", "rt")
+
+
+def end_when_told():
+    """Has a request to end this script leave nothing behind: no copy, and no command that runs on."""
+    signal.signal(signal.SIGTERM, lambda *_: sys.exit(143))
