@@ -12,7 +12,7 @@ export RT
 BUILT := $(PROGRAM)/out/sno $(PROGRAM)/out/sno.by-rattle
 # What a proof of the program reads, folders too, so that a file that goes is noticed.
 PARTS := $(foreach crate,$(shell tools/below sno 2>/dev/null),crates/$(crate)/src crates/$(crate)/specs crates/$(crate)/proofs)
-SOURCES := crates.txt $(shell find $(wildcard $(PARTS)) 2>/dev/null)
+SOURCES := $(shell find crates.txt $(wildcard $(PARTS)) 2>/dev/null)
 # Whether the program's words name files for units.
 HAS_UNITS := $(shell grep -l 'UNIT=FILE' crates/driver/src/words.rt 2>/dev/null)
 
