@@ -3,15 +3,20 @@ SHELL := /bin/sh
 RT ?= rt
 DECK ?= examples/hello.sno
 INPUT ?=
+CRATE ?=
 
 PROGRAM := crates/sno
 BENCHES := $(wildcard crates/*_bench)
-# What a proof reads, folders too, so that a file that goes is noticed.
-SOURCES := crates.txt $(shell find crates/*/src crates/*/specs crates/*/proofs 2>/dev/null)
+export RT
+# The program as the gate leaves it: as LLVM built it, and as Rattle's own compiler did.
+BUILT := $(PROGRAM)/out/sno $(PROGRAM)/out/sno.by-rattle
+# What a proof of the program reads, folders too, so that a file that goes is noticed.
+PARTS := $(foreach crate,$(shell tools/below sno 2>/dev/null),crates/$(crate)/src crates/$(crate)/specs crates/$(crate)/proofs)
+SOURCES := $(shell find crates.txt $(wildcard $(PARTS)) 2>/dev/null)
 # Whether the program's words name files for units.
 HAS_UNITS := $(shell grep -l 'UNIT=FILE' crates/driver/src/words.rt 2>/dev/null)
 
-.PHONY: help run try sno test check bench fmt clean toolchain program deck input
+.PHONY: help run try sno test decks wrong time check bench fmt clean toolchain program deck input
 .DEFAULT_GOAL := help
 
 help: ## list the targets
@@ -47,14 +52,25 @@ sno: build/sno ## leave the proved program at build/sno
 
 # `rt run` is the command that links, so the new program runs once, on the deck that does nothing.
 build/sno: $(SOURCES) | program
-	@echo "sno: proving and building the program (each crate's lines come as it is proved; minutes where nothing is kept)" >&2
-	@mkdir -p build
-	@(cd $(PROGRAM) && echo END | $(RT) run) >&2 || { echo "sno: not proved, or not built" >&2; exit 1; }
+	@echo "sno: proving and building the program (minutes where nothing is kept; all lines go to build/log)" >&2
+	@(cd $(PROGRAM) && echo END | ../../tools/progress "$(RT) run") >&2 || { echo "sno: not proved, or not built" >&2; exit 1; }
 	@cp $(PROGRAM)/out/sno build/sno.new && mv build/sno.new build/sno
 
-test: toolchain ## the gate: every proof from nothing, must-fail edits, tests, programs (last line 'N passed, M failed')
-	@echo "test: proving every crate from nothing; this takes minutes (docs/architecture.md has the times)"
-	@$(RT) ci
+# A program that the gate proved is the one that `make run` runs, unless a source changed since the gate began.
+test: toolchain ## the gate: every proof from nothing, must-fail edits, tests, programs, decks (last line 'N passed, M failed')
+	@echo "test: proving every crate from nothing; this takes many minutes (all lines go to build/log)"
+	@mkdir -p build && touch build/began
+	@RT_JOBS=$${RT_JOBS:-$$(tools/jobs)} tools/progress "$(RT) ci" "tools/wrong --texts" "tests/run $(BUILT)"
+	@cp $(PROGRAM)/out/sno build/sno.new && touch -r build/began build/sno.new && mv build/sno.new build/sno
+
+decks: build/sno ## the decks of tests/ alone, on the proved program
+	@tests/run build/sno
+
+wrong: toolchain ## [CRATE=name]: try the wrong bodies that the gate doesn't; each must be refused
+	@tools/wrong $(CRATE)
+
+time: toolchain ## [CRATE=name]: the processor time of the gate, or of a crate, as a table
+	@RT_JOBS=$${RT_JOBS:-$$(tools/jobs)} tools/gate_time $(CRATE)
 
 check: toolchain ## prove every crate over what earlier checks kept
 	@echo "check: proving every crate, lowest first"
