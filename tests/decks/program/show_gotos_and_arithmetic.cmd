@@ -1,0 +1,2 @@
+compile deck.sno a.module
+show a.module

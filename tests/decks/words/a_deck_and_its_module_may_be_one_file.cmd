@@ -1,0 +1,2 @@
+compile deck.sno deck.sno
+run deck.sno

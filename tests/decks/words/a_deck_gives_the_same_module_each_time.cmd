@@ -1,0 +1,4 @@
+compile deck.sno a.module
+compile deck.sno b.module
+show a.module
+show b.module

@@ -1,0 +1,2 @@
+check deck.sno
+run deck.sno

@@ -1,0 +1,4 @@
+compile . a.module
+check .
+show .
+run .

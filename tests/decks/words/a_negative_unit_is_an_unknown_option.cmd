@@ -1,0 +1,1 @@
+run hello.module -1=a

@@ -1,0 +1,2 @@
+compile deck.sno hello.module
+run hello.module

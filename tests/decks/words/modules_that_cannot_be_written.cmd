@@ -1,0 +1,2 @@
+compile deck.sno not_there/a.module
+compile deck.sno .

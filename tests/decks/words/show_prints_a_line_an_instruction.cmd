@@ -1,0 +1,1 @@
+show hello.module

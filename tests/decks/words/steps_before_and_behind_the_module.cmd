@@ -1,0 +1,4 @@
+run hello.module --steps 6
+run --steps 6 hello.module
+run hello.module --steps=6
+run --steps=6 hello.module

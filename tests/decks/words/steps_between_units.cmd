@@ -1,0 +1,1 @@
+run hello.module 8=a --steps 6 9=b

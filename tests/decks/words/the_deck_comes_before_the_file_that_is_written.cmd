@@ -1,0 +1,1 @@
+compile deck.sno not_there/a.module

@@ -1,0 +1,1 @@
+compile not_there not_there/a.module

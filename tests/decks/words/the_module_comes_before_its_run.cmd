@@ -1,0 +1,1 @@
+run another_version.module --steps 0 6=not_there/a

@@ -1,0 +1,5 @@
+compile
+compile deck.sno
+check
+show
+run
