@@ -8,7 +8,7 @@ use Rattle.aggregates.proofs.heap.Heap.set.Goals as goal
 pub returns-clause-stored : goal.returns-clause-stored
 returns-clause-stored g c =
     objects_stored c.self.inside.objects.items c.args.self.now c.args.object c.set.new.self c.index_mut.result.now c.in_ok-stored.stored (stored_at c.args.place c.args.value)
-        c.self.view_is (omega arith) (c.in_ok-stored.ensures.stored ∙ ap (λ y. stored_at c.args.place c.args.value (Some (object_of y))) c.index_mut.ensures.value)
+    c.self.view_is (omega arith) (c.in_ok-stored.ensures.stored ∙ ap (λ y. stored_at c.args.place c.args.value (Some (object_of y))) c.index_mut.ensures.value)
 
 pub returns-clause-nowhere : goal.returns-clause-nowhere
 returns-clause-nowhere g c e =
