@@ -3,3 +3,4 @@ pub mod Objects
 pub mod Counts
 pub mod Entries
 pub mod Subscripts
+pub mod Fields

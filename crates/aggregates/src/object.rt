@@ -89,7 +89,7 @@ pub(crate) fn place_among(name: &Text, fields: &[Text]) -> Option<usize>
     ensures { result ≡ place_of 0 name.now fields.now }
 {
     for (k, field) in fields.iter().enumerate() {
-        if field == name {
+        if name == field {
             return Some(k);
         }
     }

@@ -1,4 +1,4 @@
-use Rattle.std.proofs.Common.{ap, sym, ◌∙◌, Some, arith}
+use Rattle.std.proofs.Common.{ap, ◌∙◌, Some, arith}
 use Rattle.aggregates.specs.Objects.{stored_at}
 use Rattle.aggregates.specs.Made.{object_of}
 use Rattle.aggregates.proofs.Objects.{objects_stored, objects_same}
