@@ -52,10 +52,12 @@ fn arrays(rt: HostRuntime) {
     assert!(rt; all_come(rt.alloc(), &rows));
 }
 
+// A dimension with one subscript.
+const ONE: (i64, i64) = (1, 1);
+
 // At most 1,048,576 elements and eight dimensions; a dimension with no subscript is left out here.
 #[test]
 fn bounds(rt: HostRuntime) {
-    let one = (1, 1);
     let rows = [
         (Step::Array(&[(0, 1_048_576)]), Seen::Nothing),
         (
@@ -63,11 +65,11 @@ fn bounds(rt: HostRuntime) {
             Seen::Nothing,
         ),
         (
-            Step::Array(&[one, one, one, one, one, one, one, one, one]),
+            Step::Array(&[ONE, ONE, ONE, ONE, ONE, ONE, ONE, ONE, ONE]),
             Seen::Nothing,
         ),
         (
-            Step::Array(&[one, one, one, one, one, one, one, (1, 2)]),
+            Step::Array(&[ONE, ONE, ONE, ONE, ONE, ONE, ONE, (1, 2)]),
             Seen::Number(0),
         ),
         (
