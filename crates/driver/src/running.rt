@@ -1,6 +1,6 @@
 //! From a module to what it prints.
 
-ghost use Rattle.std.specs.Prelude.{◌≡◌, [], Err, Ok, IfErr, IfOk, OnErr, OnOk};
+ghost use Rattle.std.specs.Prelude.{◌≡◌, ℕ, List, [], Err, Ok, IfErr, IfOk, OnErr, OnOk};
 ghost use Rattle.model.specs.declared.image.Image.{Image};
 ghost use Rattle.model.specs.Agreement.{mach};
 ghost use Rattle.model.specs.Reading.{image_of};
@@ -9,6 +9,8 @@ ghost use Rattle.loader.specs.Answers.{IsAnswer};
 ghost use Rattle.loader.specs.Loaded.{IsLoaded};
 ghost use Rattle.statement_machine.specs.Answers.{IsStop};
 ghost use Rattle.statement_machine.specs.Stopped.{IfRan, IfStopped, ending_of};
+ghost use Rattle.driver.specs.Compiled.{IsModuleOf};
+ghost use Rattle.driver.specs.Whole.{IsInTime, IsMeant};
 
 use loader::load;
 use model::{LoadFault, Status};
@@ -28,6 +30,11 @@ pub fn run_module<U: Units>(
     ensures accepted { OnOk result ((m : Image) × (image_of bytes.now ≡ Ok m) × IsLoaded m) }
     ensures run { IfOk result (λ status. (m : Image) → image_of bytes.now ≡ Ok m → IfRan status (IfTold (U.told units.old) (U.told units.new) (λ io io'. io.printed ≡ [] →
         record { ending = ending_of status; printed = io'.printed } ≡ mach m io.left bound))) }
+    // Of a module that compile_deck wrote, in the words of its deck alone: it ended as the deck's meaning does at some
+    // depth, with exactly that printed, or runs on, and what it printed is a beginning of what the meaning prints.
+    ensures meant { IfOk result (λ status. (deck : List ℕ) → IsModuleOf deck bytes.now → IsMeant deck status (U.told units.old) (U.told units.new)) }
+    // Where that meaning ends having used r rules, a run of STEPS_PER_RULE * (r + 1) steps or more has ended so.
+    ensures in_time { IfOk result (λ status. (deck : List ℕ) → IsModuleOf deck bytes.now → IsInTime deck bound status (U.told units.old) (U.told units.new)) }
     ensures stop { IfOk result (λ status. IfStopped status (λ stop. IsStop stop (U.failures units.old) (U.failures units.new))) }
 {
     let program = load(alloc, bytes)?;

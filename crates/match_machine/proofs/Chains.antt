@@ -1,17 +1,17 @@
 -- Lists of notes in a log that only grows, and logs that are cut to marks.
-use Rattle.std.proofs.Common.{◌≡◌, ℕ, zero, suc, ◌+◌, ◌-◌, ◌<◌, ◌≤◌, List, [], ◌∷◌, ◌++◌, map, reverse, length, refl, sym, ◌∙◌, ap, subst, arith, ◌⊎◌, inl, inr, Option, Some, None, Bool, true, false, cond, take}
+use Rattle.std.proofs.Common.{◌≡◌, ℕ, zero, suc, ◌+◌, ◌-◌, ◌<◌, ◌≤◌, List, [], ◌∷◌, ◌++◌, reverse, length, refl, sym, ◌∙◌, ap, subst, arith, ◌⊎◌, inl, inr, Option, Some, None, Bool, true, false, cond, take}
 use Rattle.std.proofs.Math.Dec.{eqb, ltb, eqb-suc-zero}
-use Rattle.std.specs.Prelude.{slice_get, get_or}
+use Rattle.std.proofs.Math.Seq.{drop-append_seam}
+use Rattle.std.specs.Prelude.{slice_get, get_or, drop}
 use Rattle.std.proofs.lemmas.Bool.{ne_eqb, ltb-true, ltb-false}
 use Rattle.std.proofs.lemmas.Bool.Decides.{eqb_tells}
-use Rattle.std.proofs.lemmas.List.{reverse-append, reverse-reverse, length-reverse, length-append, take-append-le, take_all}
-use Rattle.std.proofs.lemmas.Option.{none-some, same_Some, slice_get_cases, slice_get_past, slice_get_within}
-use Rattle.model.specs.Steps as s
+use Rattle.std.proofs.lemmas.List.{reverse-append, reverse-reverse, length-reverse, length-append, length-drop, take-append-le, take-append-drop, take_all}
+use Rattle.std.proofs.lemmas.Option.{none-some, same_Some, slice_get_cases}
 use Rattle.model.specs.Steps.{Code}
 use Rattle.match_machine.specs.declared.event.Assignment.{Assignment}
 use Rattle.match_machine.specs.declared.trail.Entry.{Entry}
 use Rattle.match_machine.specs.declared.trail.Choice.{Choice}
-use Rattle.match_machine.specs.Standing.{Back, no_backs}
+use Rattle.match_machine.specs.Standing.{Back, no_backs, oldest}
 use Rattle.match_machine.specs.Logs.{note_of, chain, entry_at, below_of, last_code, Logs, cut, back_of, backs, Marks}
 
 -- ---- lists of notes
@@ -188,3 +188,55 @@ no_backs_of l (x ∷ xs) = sym (eqb-suc-zero (length xs))
 
 pub no_choices : (l : Logs) (xs : List Choice) → no_backs (backs l (reverse xs)) ≡ eqb (length xs) 0
 no_choices l xs = no_backs_of l (reverse xs) ∙ ap (λ n. eqb n 0) (length-reverse xs)
+
+-- ---- the oldest choices
+-- the marks of older choices are those of the whole logs too
+uncut_same : (l : Logs) (x : Choice) (xs : List Choice) → Marks (cut l x) xs → Same (cut l x) l xs
+uncut_same l x xs m =
+    let codes = take x.codes l.codes in
+    let log = take x.log l.log in
+    let pending = take x.pending l.pending in
+    let a = more_codes codes (drop x.codes l.codes) log pending xs m in
+    let b = more_log (codes ++ drop x.codes l.codes) log (drop x.log l.log) pending xs a.marks in
+    let c = more_pending (codes ++ drop x.codes l.codes) (log ++ drop x.log l.log) pending (drop x.pending l.pending) xs b.marks in
+    let e : record { codes = codes ++ drop x.codes l.codes; log = log ++ drop x.log l.log; pending = pending ++ drop x.pending l.pending } ≡ l =
+    λ i. record { codes = take-append-drop x.codes l.codes i; log = take-append-drop x.log l.log i; pending = take-append-drop x.pending l.pending i } in
+    record {
+      marks = subst (λ (k : Logs). Marks k xs) e c.marks;
+      backs = ap (λ (k : Logs). backs k xs) (sym e) ∙ c.backs ∙ b.backs ∙ a.backs;
+    }
+
+pub older_marks : (n : ℕ) (l : Logs) (xs : List Choice) → Marks l xs → Marks l (drop n xs)
+older_marks zero l xs m = m
+older_marks (suc n) l [] m = m
+older_marks (suc n) l (x ∷ xs) m = older_marks n l xs (uncut_same l x xs m.3).marks
+
+older_backs : (n : ℕ) (l : Logs) (xs : List Choice) → Marks l xs → backs l (drop n xs) ≡ drop n (backs l xs)
+older_backs zero l xs m = refl
+older_backs (suc n) l [] m = refl
+older_backs (suc n) l (x ∷ xs) m =
+    let same = uncut_same l x xs m.3 in
+    older_backs n l xs same.marks ∙ ap (drop n) same.backs
+
+length_backs : (l : Logs) (xs : List Choice) → length (backs l xs) ≡ length xs
+length_backs l [] = refl
+length_backs l (x ∷ xs) = ap suc (length_backs (cut l x) xs)
+
+pub count_choices : (l : Logs) (xs : List Choice) → length (backs l (reverse xs)) ≡ length xs
+count_choices l xs = length_backs l (reverse xs) ∙ length-reverse xs
+
+-- the choices that are left of the k oldest
+oldest_choices : (k : ℕ) (xs : List Choice) → reverse (take k xs) ≡ drop (length xs - k) (reverse xs)
+oldest_choices k xs =
+    let n : length (reverse (drop k xs)) ≡ length xs - k = length-reverse (drop k xs) ∙ length-drop k xs in
+    sym (drop-append_seam (reverse (drop k xs)) (reverse (take k xs)))
+    ∙ ap (λ m. drop m (reverse (drop k xs) ++ reverse (take k xs))) n
+    ∙ ap (drop (length xs - k)) (sym (reverse-append (take k xs) (drop k xs)) ∙ ap reverse (take-append-drop k xs))
+
+pub oldest_marks : (k : ℕ) (l : Logs) (xs : List Choice) → Marks l (reverse xs) → Marks l (reverse (take k xs))
+oldest_marks k l xs m = subst (Marks l) (sym (oldest_choices k xs)) (older_marks (length xs - k) l (reverse xs) m)
+
+pub oldest_backs : (k : ℕ) (l : Logs) (xs : List Choice) → Marks l (reverse xs) → backs l (reverse (take k xs)) ≡ oldest k (backs l (reverse xs))
+oldest_backs k l xs m =
+    ap (backs l) (oldest_choices k xs) ∙ older_backs (length xs - k) l (reverse xs) m
+    ∙ ap (λ n. drop (n - k) (backs l (reverse xs))) (sym (count_choices l xs))

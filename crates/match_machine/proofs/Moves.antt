@@ -1,13 +1,14 @@
 -- How the kept state moves.
-use Rattle.std.proofs.Common.{◌≡◌, ℕ, zero, suc, ◌+◌, ◌-◌, ◌<◌, ◌≤◌, List, [], ◌∷◌, ◌++◌, map, reverse, length, refl, sym, ◌∙◌, ap, subst, arith, add-one, ◌⊎◌, inl, inr, Option, Some, None, Bool, true, false}
+use Rattle.std.proofs.Common.{◌≡◌, ℕ, zero, suc, ◌+◌, ◌-◌, ◌<◌, ◌≤◌, List, [], ◌∷◌, length, refl, sym, ◌∙◌, ap, arith, add-one, ◌⊎◌, inl, inr, Option, Some, None, true, false}
 use Rattle.std.specs.Prelude.{slice_get, get_or, drop}
-use Rattle.std.proofs.lemmas.Option.{slice_get_cases, slice_get_past}
+use Rattle.std.proofs.lemmas.List.{drop-map, length-map}
+use Rattle.std.proofs.lemmas.Option.{none-some, same_Some, slice_get_cases, slice_get_past}
 use Rattle.model.specs.Pattern.{Instr, Pending, Event, Running, Failed, Asks, Matched}
 use Rattle.model.specs.Basic.{from_up}
 use Rattle.model.specs.Steps as s
 use Rattle.model.specs.Steps.{Code, settled}
-use Rattle.match_machine.specs.Standing.{inside}
-use Rattle.match_machine.specs.View.{is_running}
+use Rattle.match_machine.specs.Standing.{Back, inside, fenced, unfenced, oldest}
+use Rattle.match_machine.specs.View.{choice_of, choices_of, is_running}
 
 -- ---- entered patterns
 pub settled_left : (ns : List s.Note) (code code' : Code) (p p' c : ℕ) (a : Pending) → length code ≤ p → settled (s.Left code' p' ∷ ns) code p c a ≡ settled ns code' p' c a
@@ -17,6 +18,7 @@ settled_left ns code code' p p' c a h =
 pub settled_within : (ns : List s.Note) (code : Code) (p c : ℕ) (a : Pending) → p < length code → settled ns code p c a ≡ record { code = code; place = p; cursor = c; notes = ns; pending = a }
 settled_within [] code p c a h = refl
 settled_within (s.Opened b ∷ ns) code p c a h = refl
+settled_within (s.Fenced k ∷ ns) code p c a h = refl
 settled_within (s.Left code' p' ∷ ns) code p c a h = go (slice_get_cases code p).1
   where
     go : ((x : Instr) × (p < length code) × (slice_get code p ≡ Some x) × (get_or code p x ≡ x)) ⊎ ((length code ≤ p) × (slice_get code p ≡ None)) → settled (s.Left code' p' ∷ ns) code p c a ≡ record { code = code; place = p; cursor = c; notes = s.Left code' p' ∷ ns; pending = a }
@@ -26,7 +28,20 @@ settled_within (s.Left code' p' ∷ ns) code p c a h = go (slice_get_cases code 
 pub settled_outside : (ns : List s.Note) (code : Code) (p c : ℕ) (a : Pending) → inside ns ≡ false → settled ns code p c a ≡ record { code = code; place = p; cursor = c; notes = ns; pending = a }
 settled_outside [] code p c a h = refl
 settled_outside (s.Opened b ∷ ns) code p c a h = refl
+settled_outside (s.Fenced k ∷ ns) code p c a h = refl
 settled_outside (s.Left code' p' ∷ ns) code p c a h = cc
+
+-- ---- FCLOSE
+pub fenced_is : (ns : List s.Note) (k : ℕ) → Some k ≡ fenced ns → ns ≡ s.Fenced k ∷ unfenced ns
+fenced_is (s.Fenced j ∷ ns) k e = ap (λ (n : ℕ). s.Fenced n ∷ ns) (same_Some j k (sym e))
+fenced_is [] k e = absurd (none-some k (sym e))
+fenced_is (s.Opened b ∷ ns) k e = absurd (none-some k (sym e))
+fenced_is (s.Left code p ∷ ns) k e = absurd (none-some k (sym e))
+
+-- the choices that FCLOSE leaves
+pub kept_choices : (u : List ℕ) (k : ℕ) (bs : List Back) → choices_of u (oldest k bs) ≡ s.kept k (choices_of u bs)
+kept_choices u k bs =
+    sym (drop-map (choice_of u) (length bs - k) bs) ∙ ap (λ n. drop (n - k) (choices_of u bs)) (sym (length-map bs (choice_of u)))
 
 -- ---- on at a place
 go_at : (t : s.Thread) (cs : List s.Choice) (b left : ℕ) (o : Option Instr) → s.at_place t ≡ o → s.go t cs b left [] ≡ elim o [ None ↦ s.Over (s.Won b t.cursor t.pending) | Some i ↦ s.Going t cs b left [] ]

@@ -1,5 +1,5 @@
 -- The logs of a match, and what is left of them at a choice.
-use Rattle.std.specs.Prelude.{zero, suc, ltb, eqb, ◌≡◌, ◌≤◌, ◌+◌, ◌-◌, ℕ, List, [], ◌∷◌, map, reverse, length, take, slice_get, Option, Some, None, Bool, true, false, cond}
+use Rattle.std.specs.Prelude.{zero, suc, ltb, eqb, ◌≡◌, ◌≤◌, ◌-◌, ℕ, List, [], ◌∷◌, map, reverse, length, take, slice_get, Option, Some, None, true, cond}
 use Rattle.model.specs.Pattern as p
 use Rattle.model.specs.Steps as s
 use Rattle.model.specs.Steps.{Code}
@@ -20,6 +20,7 @@ pending_of xs = map assigned xs
 
 abbrev pub note_of : Note → s.Note
 note_of (note.Opened c) = s.Opened c
+note_of (note.Fenced k) = s.Fenced k
 note_of (note.Left code q) = s.Left code q
 
 -- the list of notes h of the entries es, the newest first: each list needs the older entries alone

@@ -1,5 +1,5 @@
 -- Where an attempt stands, and what is gone back to.
-use Rattle.std.specs.Prelude.{ℕ, List, [], ◌∷◌, Option, Some, None, Bool, true, false}
+use Rattle.std.specs.Prelude.{ℕ, ◌-◌, List, [], ◌∷◌, length, drop, Option, Some, None, Bool, true, false}
 use Rattle.model.specs.Pattern.{Pending}
 use Rattle.model.specs.Steps as s
 use Rattle.match_machine.specs.declared.state.Kept.{Kept}
@@ -20,6 +20,10 @@ abbrev pub no_backs : List Back → Bool
 no_backs [] = true
 no_backs (b ∷ bs) = false
 
+-- the k oldest
+abbrev pub oldest : ℕ → List Back → List Back
+oldest k bs = drop (length bs - k) bs
+
 -- the newest is that of an entered pattern
 abbrev pub inside : List s.Note → Bool
 inside (s.Left code q ∷ ns) = true
@@ -34,3 +38,13 @@ opened _ = None
 abbrev pub unopened : List s.Note → List s.Note
 unopened (s.Opened b ∷ ns) = ns
 unopened ns = ns
+
+-- the newest is that of FOPEN
+abbrev pub fenced : List s.Note → Option ℕ
+fenced (s.Fenced k ∷ ns) = Some k
+fenced _ = None
+
+-- without it
+abbrev pub unfenced : List s.Note → List s.Note
+unfenced (s.Fenced k ∷ ns) = ns
+unfenced ns = ns

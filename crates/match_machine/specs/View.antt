@@ -1,10 +1,10 @@
 -- What a match is in the definitions.
-use Rattle.std.specs.Prelude.{◌≡◌, ℕ, ◌+◌, ◌-◌, List, [], ◌∷◌, map, reverse, length, drop, ◌<◌, ◌≤◌, Option, Some, None, Bool, true, false}
+use Rattle.std.specs.Prelude.{◌≡◌, ℕ, ◌+◌, ◌-◌, List, [], ◌∷◌, map, length, drop, ◌<◌, ◌≤◌, Option, Some, None, Bool, true, false}
 use Rattle.model.specs.Pattern as p
 use Rattle.model.specs.Basic.{from_up, balanced}
 use Rattle.model.specs.Steps as s
 use Rattle.model.specs.Steps.{Code, State, onward, go, back, act, after_act, forked}
-use Rattle.pattern_compiler.specs.View.{name_of, basic_of, kind_of, instr_of}
+use Rattle.pattern_compiler.specs.View.{name_of, kind_of}
 use Rattle.match_machine.specs.declared.event.Want.{Want}
 use Rattle.match_machine.specs.declared.event.Want.TheVariants as want
 use Rattle.match_machine.specs.declared.event.Told.{Told}
@@ -21,7 +21,7 @@ use Rattle.match_machine.specs.declared.state.Waiting.TheVariants as waiting
 use Rattle.match_machine.specs.declared.state.Mode.{Mode}
 use Rattle.match_machine.specs.declared.state.Mode.TheVariants as mode
 use Rattle.match_machine.specs.declared.state.Run.{Run}
-use Rattle.match_machine.specs.Standing.{Standing, Back}
+use Rattle.match_machine.specs.Standing.{Back}
 pub use Rattle.match_machine.specs.Logs.{assigned, pending_of}
 
 -- ---- events and answers

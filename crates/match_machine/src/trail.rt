@@ -4,7 +4,7 @@ ghost use Rattle.std.specs.Prelude.{◌≡◌, ◌∷◌, ◌++◌, List, [], tr
 ghost use Rattle.model.specs.Steps as s;
 ghost use Rattle.model.specs.Steps.{Code};
 ghost use Rattle.model.specs.Pattern.{Pending};
-ghost use Rattle.match_machine.specs.Standing.{Standing, Back, inside, opened, unopened, no_backs};
+ghost use Rattle.match_machine.specs.Standing.{Standing, Back, inside, opened, unopened, fenced, unfenced, no_backs, oldest};
 ghost use Rattle.match_machine.specs.Logs.{assigned, pending_of, note_of, chain, entry_at, below_of, last_code};
 
 use crate::event::Assignment;
@@ -14,10 +14,11 @@ use std::alloc::{AllocError, Global};
 use std::marker::Model;
 use std::mem;
 
-/// A cursor that OPEN noted, or where the code that EVAL left goes on.
+/// A cursor that OPEN noted, how many choices FOPEN noted, or where the code that EVAL left goes on.
 #[derive(Drop)]
 pub enum Note {
     Opened(usize),
+    Fenced(usize),
     Left(PatCode, usize),
 }
 
@@ -143,6 +144,35 @@ impl Trail {
         }
     }
 
+    /// Notes how many choices there are.
+    pub fn open_fence(&mut self) -> Result<(), AllocError>
+        ensures { OnOk result (self.new ≡ record self.old { notes = s.Fenced (length self.old.backs) ∷ self.old.notes }) }
+    {
+        let count = self.choices.len();
+        self.add(Note::Fenced(count))
+    }
+
+    /// The newest note is taken off if it is that of FOPEN, and its number is answered.
+    pub fn take_fenced(&mut self) -> Option<usize>
+        ensures count { result ≡ fenced self.old.notes }
+        ensures taken { self.new ≡ record self.old { notes = unfenced self.old.notes } }
+    {
+        match fenced_at(self.log.as_slice(), self.head) {
+            Some((count, below)) => {
+                self.head = below;
+                Some(count)
+            }
+            None => None,
+        }
+    }
+
+    /// Keeps the oldest choices, so many of them.
+    pub fn keep_oldest(&mut self, count: usize)
+        ensures { self.new ≡ record self.old { backs = oldest count self.old.backs } }
+    {
+        self.choices.truncate(count);
+    }
+
     /// Into a pattern, which goes on at the place.
     pub fn enter(&mut self, code: PatCode, after: usize) -> Result<(), AllocError>
         ensures { OnOk result (self.new ≡ record self.old { code = code; notes = s.Left self.old.code after ∷ self.old.notes }) }
@@ -249,7 +279,20 @@ fn opened_at(log: &[Entry], head: usize) -> Option<(usize, usize)>
     match newest(log, head) {
         Some(entry) => match entry.note {
             Note::Opened(cursor) => Some((cursor, below(head, entry.below))),
-            Note::Left(_, _) => None,
+            Note::Fenced(_) | Note::Left(_, _) => None,
+        },
+        None => None,
+    }
+}
+
+/// The number of the newest note, if it is that of FOPEN, and the list below it.
+fn fenced_at(log: &[Entry], head: usize) -> Option<(usize, usize)>
+    ensures { MatchOption result (fenced (chain (reverse log.now) head) ≡ None) (λ x. chain (reverse log.now) head ≡ s.Fenced x.0 ∷ chain (reverse log.now) x.1) }
+{
+    match newest(log, head) {
+        Some(entry) => match entry.note {
+            Note::Fenced(count) => Some((count, below(head, entry.below))),
+            Note::Opened(_) | Note::Left(_, _) => None,
         },
         None => None,
     }
@@ -261,7 +304,7 @@ fn is_left_at(log: &[Entry], head: usize) -> bool
 {
     match newest(log, head) {
         Some(entry) => match entry.note {
-            Note::Opened(_) => false,
+            Note::Opened(_) | Note::Fenced(_) => false,
             Note::Left(_, _) => true,
         },
         None => false,
@@ -274,7 +317,7 @@ fn left_at(log: &[Entry], head: usize) -> Result<Option<(PatCode, usize, usize)>
 {
     match newest(log, head) {
         Some(entry) => match &entry.note {
-            Note::Opened(_) => Ok(None),
+            Note::Opened(_) | Note::Fenced(_) => Ok(None),
             Note::Left(code, place) => {
                 let code = code.clone()?;
                 Ok(Some((code, *place, below(head, entry.below))))

@@ -20,6 +20,9 @@ fn answers(rt: HostRuntime) {
         ("?", Play::Failed, Seen::Failed),
         // *P 'B' with 'A' | 'AA' for P: the answer is taken once, and its choice gone back to
         ("?B&", Play::Pattern("AAA&|"), Seen::Matched(0, 3)),
+        // FENCE(*P) 'B' with the same: its first end alone
+        ("?^B&", Play::Pattern("AAA&|"), Seen::Failed),
+        ("?^B&", Play::Pattern("AA&A|"), Seen::Matched(0, 3)),
         // LEN(1) $ X, and @X
         ("l$", Play::Steps(100), Seen::Told(1)),
         ("l$", Play::Said, Seen::Matched(0, 1)),

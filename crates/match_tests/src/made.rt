@@ -53,11 +53,12 @@ fn joined(alloc: Global, sign: u8, parts: &mut Vec<PatCode>) -> Result<PatCode, 
     }
 }
 
-// The part again and again, or assigned.
+// The part again and again, its first end alone, or assigned.
 fn around(alloc: Global, sign: u8, parts: &mut Vec<PatCode>) -> Result<PatCode, StrFault> {
     let part = last(parts);
     Ok(match sign {
         b'*' => PatCode::arbno(alloc, &part)?,
+        b'^' => PatCode::fence_of(alloc, &part)?,
         b'.' => PatCode::cond(alloc, &part, name(alloc)?)?,
         _ => PatCode::imm(alloc, &part, name(alloc)?)?,
     })
@@ -66,14 +67,14 @@ fn around(alloc: Global, sign: u8, parts: &mut Vec<PatCode>) -> Result<PatCode, 
 fn next(alloc: Global, sign: u8, parts: &mut Vec<PatCode>) -> Result<PatCode, StrFault> {
     Ok(match sign {
         b'&' | b'|' => joined(alloc, sign, parts)?,
-        b'*' | b'.' | b'$' => around(alloc, sign, parts)?,
+        b'*' | b'^' | b'.' | b'$' => around(alloc, sign, parts)?,
         b'@' => PatCode::at(alloc, name(alloc)?)?,
         _ => part(alloc, sign)?,
     })
 }
 
 /// The code of a pattern that stands with each sign behind its parts: `&` for one part behind another, `|` for one or
-/// the other, `*` for ARBNO, `.` and `$` for assignments to X.
+/// the other, `*` for ARBNO, `^` for FENCE of the part, `.` and `$` for assignments to X.
 pub fn pattern(alloc: Global, signs: &str) -> Result<PatCode, StrFault> {
     let mut parts = Vec::new(alloc);
     for sign in signs.as_bytes() {

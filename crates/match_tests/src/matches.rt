@@ -11,6 +11,18 @@ fn places(rt: HostRuntime) {
         ("ABC", "!B&", Seen::Failed),
         // 'A' FENCE 'B' | 'C': FENCE that is backed into ends the match
         ("AC", "A!&B&C|", Seen::Failed),
+        // FENCE('A' | 'AB') 'C': no further end
+        ("ABC", "AAB&|^C&", Seen::Failed),
+        // FENCE('A') 'C': the next starts are tried
+        ("ABAC", "A^C&", Seen::Matched(2, 4)),
+        // FENCE('A') 'X' | 'AB', and (FENCE('A' | 'AB') | 'ABC') RPOS(0): what was before the fence
+        ("AB", "A^X&AB&|", Seen::Matched(0, 2)),
+        ("ABC", "AAB&|^AB&C&|r&", Seen::Matched(0, 3)),
+        // ARBNO(FENCE('A' | 'AA')) 'B'
+        ("AAB", "AAA&|^*B&", Seen::Matched(0, 3)),
+        // FENCE(ABORT) | 'A', and FENCE(FAIL) | 'A'
+        ("A", "x^A|", Seen::Failed),
+        ("A", "f^A|", Seen::Matched(0, 1)),
         // ABORT | 'B'
         ("BBC", "xB|", Seen::Failed),
         // BAL on a closing bracket, on an open one, on a nest, on null
@@ -44,6 +56,8 @@ fn assignments(rt: HostRuntime) {
         ("AAB", "A*.B&", Seen::Assigned(0, 3, 2)),
         // 'A' . X 'X' | 'AB' . X: nothing stays of the branch given up
         ("AB", "A.X&AB&.|", Seen::Assigned(0, 2, 2)),
+        // FENCE('A' . X) 'B'
+        ("AB", "A.^B&", Seen::Assigned(0, 2, 1)),
         // ARB . X RPOS(0), on null and on bytes
         ("", "a.r&", Seen::Assigned(0, 0, 0)),
         ("AB", "a.r&", Seen::Assigned(0, 2, 2)),

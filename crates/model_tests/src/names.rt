@@ -22,7 +22,7 @@ const KEYWORDS: [(&str, bool); 14] = [
 ];
 
 /// Each primitive's name and most arguments.
-const PRIMITIVES: [(&str, usize); 37] = [
+const PRIMITIVES: [(&str, usize); 38] = [
     ("LEN", 1),
     ("POS", 1),
     ("RPOS", 1),
@@ -60,6 +60,7 @@ const PRIMITIVES: [(&str, usize); 37] = [
     ("INPUT", 3),
     ("OUTPUT", 3),
     ("DETACH", 1),
+    ("FENCE", 1),
 ];
 
 #[test]

@@ -79,6 +79,15 @@ fn sets(rt: HostRuntime) {
             Arg::Name("X"),
             Want::Error(ErrorCode::WrongType),
         ),
+        // the part between two instructions
+        (PrimId::Fence, Arg::Missing, Want::Code(2)),
+        (PrimId::Fence, Arg::Text("AB"), Want::Code(3)),
+        (PrimId::Fence, Arg::Expr(9), Want::Code(3)),
+        (
+            PrimId::Fence,
+            Arg::Name("X"),
+            Want::Error(ErrorCode::WrongType),
+        ),
     ] {
         assert!(rt; comes_to(rt.alloc(), id, [arg, Arg::Missing, Arg::Missing], want));
     }
@@ -87,6 +96,6 @@ fn sets(rt: HostRuntime) {
 #[test]
 fn primitives_that_are_there(rt: HostRuntime) {
     for (code, id) in PrimId::ALL.into_iter().enumerate() {
-        assert!(rt; is_there(id) == (code < 26));
+        assert!(rt; is_there(id) == (code < 26 || code == 37));
     }
 }

@@ -48,6 +48,7 @@ first_three p.Dupl vs w h = refl
 first_three p.Replace vs w h = refl
 first_three p.Remdr vs w h = refl
 first_three p.DataType vs w h = refl
+first_three p.Fence vs w h = refl
 first_three p.Array vs w h = absurd (true≢false (sym h))
 first_three p.Table vs w h = absurd (true≢false (sym h))
 first_three p.Item vs w h = absurd (true≢false (sym h))

@@ -23,3 +23,6 @@ known_op k v w = conv (part_of k v) w (λ b. Gives (Pat (basic_code b)) w)
 
 abbrev pub arbno_op : MVal → MW → Op MW MVal
 arbno_op v w = conv (to_pattern codes_of v) w (λ q. Gives (Pat (codes_of.arbno q)) w)
+
+abbrev pub fence_op : MVal → MW → Op MW MVal
+fence_op v w = conv (to_pattern codes_of v) w (λ q. Gives (Pat (codes_of.fence_of q)) w)

@@ -14,7 +14,7 @@ ghost use Rattle.primitives.specs.Answers.{ComesTo, is_there};
 
 use crate::functions::{data_type, dupl, remdr, replace, size, trim};
 use crate::outcome::Outcome;
-use crate::patterns::{arbno, kind};
+use crate::patterns::{arbno, fence_of, kind};
 use crate::predicates::{Comparison, compare, differ, ident, integer, lgt};
 use model::PrimId;
 use pattern_compiler::Kind;
@@ -51,7 +51,8 @@ pub fn is_there(id: PrimId) -> bool
         | PrimId::Dupl
         | PrimId::Replace
         | PrimId::Remdr
-        | PrimId::DataType => true,
+        | PrimId::DataType
+        | PrimId::Fence => true,
         PrimId::Array
         | PrimId::Table
         | PrimId::Item
@@ -125,6 +126,7 @@ fn call_with(
         PrimId::Replace => replace(alloc, first, second, third),
         PrimId::Remdr => remdr(first, second),
         PrimId::DataType => data_type(alloc, first, world),
+        PrimId::Fence => fence_of(alloc, first),
         _ => unreachable!(),
     }
 }

@@ -1,4 +1,4 @@
-use Rattle.std.proofs.Common.{◌≡◌, ℕ, List, sym, ◌∙◌, ap, arith, ◌<◌, ◌≤◌, length, []}
+use Rattle.std.proofs.Common.{◌≡◌, List, sym, ◌∙◌, ap, arith, ◌<◌, ◌≤◌, length, []}
 use Rattle.match_machine.specs.Standing.{Back}
 use Rattle.match_machine.specs.View.{thread_of, choices_of}
 use Rattle.match_machine.proofs.Moves.{go_within, go_past}

@@ -1,4 +1,4 @@
-use Rattle.std.proofs.Common.{◌≡◌, ◌∷◌, ◌∙◌, sym, ap, reverse}
+use Rattle.std.proofs.Common.{◌∷◌, ◌∙◌, sym, ap, reverse, inl, inr}
 use Rattle.model.specs.Steps as s
 use Rattle.match_machine.specs.Standing.{inside}
 use Rattle.match_machine.specs.Logs.{note_of, chain, below_of}
@@ -8,7 +8,10 @@ use Rattle.match_machine.proofs.trail.left_at.Goals as goal
 pub returns-in-Opened : goal.returns-in-Opened
 returns-in-Opened c =
     ap inside (chain_head c.args.log.now c.args.head c.in-Some.entry.now (sym c.in-Some.ensures))
-    ∙ ap (λ n. inside (note_of n ∷ chain (reverse c.args.log.now) (below_of c.args.head c.in-Some.entry.now.below))) c.in-Opened.is
+    ∙ elim c.in-Opened.is [
+      | inl (b, e) ↦ ap (λ n. inside (note_of n ∷ chain (reverse c.args.log.now) (below_of c.args.head c.in-Some.entry.now.below))) e
+      | inr (k, e) ↦ ap (λ n. inside (note_of n ∷ chain (reverse c.args.log.now) (below_of c.args.head c.in-Some.entry.now.below))) e
+    ]
 
 pub returns-in_ok-code-in-Left : goal.returns-in_ok-code-in-Left
 returns-in_ok-code-in-Left c =

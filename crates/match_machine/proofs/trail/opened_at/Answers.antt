@@ -1,4 +1,4 @@
-use Rattle.std.proofs.Common.{◌≡◌, ◌∷◌, ◌∙◌, sym, ap, reverse}
+use Rattle.std.proofs.Common.{◌∷◌, ◌∙◌, sym, ap, reverse, inl, inr}
 use Rattle.model.specs.Steps as s
 use Rattle.match_machine.specs.Standing.{opened}
 use Rattle.match_machine.specs.Logs.{note_of, chain, below_of}
@@ -11,10 +11,13 @@ returns-in-Opened c =
     ∙ ap (λ n. note_of n ∷ chain (reverse c.args.log.now) (below_of c.args.head c.in-Some.entry.now.below)) c.in-Opened.is
     ∙ ap (λ b. s.Opened c.in-Opened.cursor ∷ chain (reverse c.args.log.now) b) (sym c.below.ensures)
 
-pub returns-in-Left : goal.returns-in-Left
-returns-in-Left c =
+pub returns-in-Fenced : goal.returns-in-Fenced
+returns-in-Fenced c =
     ap opened (chain_head c.args.log.now c.args.head c.in-Some.entry.now (sym c.in-Some.ensures))
-    ∙ ap (λ n. opened (note_of n ∷ chain (reverse c.args.log.now) (below_of c.args.head c.in-Some.entry.now.below))) c.in-Left.is
+    ∙ elim c.in-Fenced.is [
+      | inl (k, e) ↦ ap (λ n. opened (note_of n ∷ chain (reverse c.args.log.now) (below_of c.args.head c.in-Some.entry.now.below))) e
+      | inr (x, q, e) ↦ ap (λ n. opened (note_of n ∷ chain (reverse c.args.log.now) (below_of c.args.head c.in-Some.entry.now.below))) e
+    ]
 
 pub returns-in-None : goal.returns-in-None
 returns-in-None c = ap opened (chain_no_head c.args.log.now c.args.head (sym c.in-None.ensures))

@@ -1,5 +1,5 @@
-use Rattle.std.proofs.Common.{◌≡◌, ◌∷◌, ◌++◌, [], ◌∙◌, sym, ap, reverse, ◌+◌}
-use Rattle.match_machine.specs.Logs.{chain, pending_of, logs_of}
+use Rattle.std.proofs.Common.{◌∷◌, [], ◌∙◌, ap, reverse, ◌+◌}
+use Rattle.match_machine.specs.Logs.{pending_of}
 use Rattle.match_machine.proofs.Chains.{more_log, chain_push}
 use Rattle.match_machine.proofs.trail.Trail.add.Goals as goal
 

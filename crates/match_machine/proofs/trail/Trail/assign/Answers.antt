@@ -1,6 +1,6 @@
-use Rattle.std.proofs.Common.{◌≡◌, ◌∷◌, ◌++◌, [], ◌∙◌, sym, ap, reverse}
+use Rattle.std.proofs.Common.{◌∷◌, [], reverse}
 use Rattle.std.proofs.lemmas.List.{map-append}
-use Rattle.match_machine.specs.Logs.{chain, assigned, logs_of}
+use Rattle.match_machine.specs.Logs.{chain, assigned}
 use Rattle.match_machine.proofs.Chains.{more_pending}
 use Rattle.match_machine.proofs.trail.Trail.assign.Goals as goal
 

@@ -1,4 +1,4 @@
-use Rattle.std.proofs.Common.{◌≡◌, ◌∙◌, sym, ap}
+use Rattle.std.proofs.Common.{◌∙◌, sym, ap}
 use Rattle.std.proofs.Math.Dec.{eqb}
 use Rattle.match_machine.specs.Standing.{Standing, no_backs}
 use Rattle.match_machine.specs.Logs.{logs_of}

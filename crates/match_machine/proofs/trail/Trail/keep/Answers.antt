@@ -1,4 +1,4 @@
-use Rattle.std.proofs.Common.{◌≡◌, ◌∷◌, ◌++◌, [], List, ◌∙◌, sym, ap, reverse}
+use Rattle.std.proofs.Common.{◌∷◌, List, ◌∙◌, ap, reverse}
 use Rattle.model.specs.Steps.{Code}
 use Rattle.match_machine.specs.Standing.{Back}
 use Rattle.match_machine.specs.Logs.{chain, pending_of, backs, logs_of}

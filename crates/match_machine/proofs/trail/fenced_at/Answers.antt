@@ -1,0 +1,23 @@
+use Rattle.std.proofs.Common.{◌∷◌, ◌∙◌, sym, ap, reverse, inl, inr}
+use Rattle.model.specs.Steps as s
+use Rattle.match_machine.specs.Standing.{fenced}
+use Rattle.match_machine.specs.Logs.{note_of, chain, below_of}
+use Rattle.match_machine.proofs.Chains.{chain_head, chain_no_head}
+use Rattle.match_machine.proofs.trail.fenced_at.Goals as goal
+
+pub returns-in-Fenced : goal.returns-in-Fenced
+returns-in-Fenced c =
+    chain_head c.args.log.now c.args.head c.in-Some.entry.now (sym c.in-Some.ensures)
+    ∙ ap (λ n. note_of n ∷ chain (reverse c.args.log.now) (below_of c.args.head c.in-Some.entry.now.below)) c.in-Fenced.is
+    ∙ ap (λ b. s.Fenced c.in-Fenced.count ∷ chain (reverse c.args.log.now) b) (sym c.below.ensures)
+
+pub returns-in-Opened : goal.returns-in-Opened
+returns-in-Opened c =
+    ap fenced (chain_head c.args.log.now c.args.head c.in-Some.entry.now (sym c.in-Some.ensures))
+    ∙ elim c.in-Opened.is [
+      | inl (b, e) ↦ ap (λ n. fenced (note_of n ∷ chain (reverse c.args.log.now) (below_of c.args.head c.in-Some.entry.now.below))) e
+      | inr (x, q, e) ↦ ap (λ n. fenced (note_of n ∷ chain (reverse c.args.log.now) (below_of c.args.head c.in-Some.entry.now.below))) e
+    ]
+
+pub returns-in-None : goal.returns-in-None
+returns-in-None c = ap fenced (chain_no_head c.args.log.now c.args.head (sym c.in-None.ensures))
