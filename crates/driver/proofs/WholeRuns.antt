@@ -1,5 +1,5 @@
 -- From the module of a deck to its run.
-use Rattle.std.proofs.Common.{◌≡◌, ◌⊎◌, ◌∙◌, refl, sym, ap, subst, ℕ, ◌≤◌, List, [], Option, Some, None, Result, Ok, Err, inl, inr}
+use Rattle.std.proofs.Common.{◌≡◌, ◌⊎◌, ◌∙◌, refl, sym, ap, subst, ℕ, ◌≤◌, List, [], ◌++◌, Option, Some, None, Result, Ok, Err, inl, inr}
 use Rattle.model.specs.declared.format.LoadFault.{LoadFault}
 use Rattle.model.specs.declared.image.Image.{Image}
 use Rattle.model.specs.declared.run.Status.{Status}
@@ -16,8 +16,8 @@ use Rattle.loader.proofs.Judging.{accepted}
 use Rattle.statement_machine.specs.Stopped.{IfRan, ending_of}
 use Rattle.driver.specs.Compiled.{IsModuleOf}
 use Rattle.statement_machine.proofs.Seeing.{if_ran}
-use Rattle.world.proofs.Telling.{told_on}
-use Rattle.driver.specs.Whole.{IsRunOf, OfRun, IsSeenOf, IsMeant, IsInTime}
+use Rattle.statement_machine.proofs.Telling.{told_on}
+use Rattle.driver.specs.Whole.{IsRunOf, OfRun, IsSeenOf, Mean, EndIn, IsMeant, IsInTime}
 
 read : (deck bytes : List ℕ) (m : IsModuleOf deck bytes) → reading.image_of bytes ≡ Ok m.image
 read deck bytes m = ap reading.image_of m.spelt ∙ spelt_is_read m.image m.has_spelling
@@ -38,8 +38,8 @@ is_run deck given bytes bound status before after same m run = record {
 -- ---- in the deck's own words
 
 seen_of : (ss : List Stmt) (image : Image) (inputs : Inputs) (bound : ℕ) (ending : Option Ending) (seen : Seen) → Agrees ss image → seen ≡ mach image inputs bound → seen.ending ≡ ending → (n : ℕ) × IsSeenOf ending seen.printed (mean n ss inputs)
-seen_of ss image inputs bound None seen a s e = let (n, more, p) = a.prints_only inputs bound in (n, more, p ∙ ap (λ x. x.printed ++ more) (sym s))
-seen_of ss image inputs bound (Some x) seen a s e = let (n, m) = a.ends_only inputs bound x (ap (λ x. x.ending) (sym s) ∙ e) in (n, m ∙ sym s ∙ ap (λ o. record { ending = o; printed = seen.printed }) e)
+seen_of ss image inputs bound None seen a s e = let p = a.prints_only inputs bound in (p.0, p.1.0, p.1.1 ∙ ap (λ x. x.printed ++ p.1.0) (sym s))
+seen_of ss image inputs bound (Some x) seen a s e = let m = a.ends_only inputs bound x (ap (λ y. y.ending) (sym s) ∙ e) in (m.0, m.1 ∙ sym s ∙ ap (λ o. record { ending = o; printed = seen.printed }) e)
 
 same_trees : (v : Verdict) (ss ts : List Stmt) → v ≡ Accepted ss → v ≡ Accepted ts → ss ≡ ts
 same_trees v ss ts a b = cc
@@ -50,10 +50,10 @@ of_run deck bound status before after P r h = if_ran status _ _ r.run (λ t. tol
     (λ io io' run none ss a. subst (λ ts. P ts io.left (record { ending = ending_of status; printed = io'.printed })) (same_trees (verdict deck) r.statements ss r.trees a) (h io.left _ (run none))) t)
 
 pub is_meant : (deck : List ℕ) (bound : ℕ) (status : Status) (before after : Option Io) → IsRunOf deck bound status before after → IsMeant deck status before after
-is_meant deck bound status before after r = of_run deck bound status before after _ r (λ inputs seen s. seen_of r.statements r.image inputs bound seen.ending seen r.agrees s refl)
+is_meant deck bound status before after r = of_run deck bound status before after Mean r (λ inputs seen s. seen_of r.statements r.image inputs bound seen.ending seen r.agrees s refl)
 
 pub is_in_time : (deck : List ℕ) (bound : ℕ) (status : Status) (before after : Option Io) → IsRunOf deck bound status before after → IsInTime deck bound status before after
-is_in_time deck bound status before after r = of_run deck bound status before after _ r (λ inputs seen s n e ends enough. s ∙ r.in_time inputs n e ends bound enough)
+is_in_time deck bound status before after r = of_run deck bound status before after (EndIn bound) r (λ inputs seen s n e ends enough. s ∙ r.in_time inputs n e ends bound enough)
 
 -- ---- the loader takes what was compiled, unless it lacks memory
 

@@ -3,7 +3,7 @@ use Rattle.std.specs.Prelude.{◌≡◌, ℕ, ◌+◌, ◌*◌, ◌≤◌, List,
 use Rattle.model.specs.declared.run.Ending.{Ending}
 use Rattle.model.specs.declared.image.Image.{Image}
 use Rattle.model.specs.declared.run.Status.{Status}
-use Rattle.model.specs.Agreement.{Agrees, IsBeginning, Records, Seen, mach, mean}
+use Rattle.model.specs.Agreement.{Agrees, Inputs, IsBeginning, Records, Seen, mach, mean}
 use Rattle.model.specs.Faults.{verdict, Accepted}
 use Rattle.model.specs.Io.{Io}
 use Rattle.model.specs.RulesUsed.{rules_used}
@@ -29,7 +29,7 @@ pub record IsRunOf (deck : List ℕ) (bound : ℕ) (status : Status) (before aft
 
 -- what is said of a run of the deck that nothing stopped, of its statements, of what the units held at first, and of how
 -- it ended, if it has, and what it printed
-abbrev pub OfRun : List ℕ → Status → Option Io → Option Io → (List Stmt → (ℕ → List (List ℕ)) → Seen → Type 0) → Type 0
+abbrev pub OfRun : List ℕ → Status → Option Io → Option Io → (List Stmt → Inputs → Seen → Type 0) → Type 0
 OfRun deck status before after P = IfRan status (IfTold before after (λ io io'. io.printed ≡ [] →
     (ss : List Stmt) → verdict deck ≡ Accepted ss → P ss io.left (record { ending = ending_of status; printed = io'.printed })))
 
@@ -39,11 +39,16 @@ abbrev pub IsSeenOf : (ending : Option Ending) → Records → Seen → Type 0
 IsSeenOf None printed meant = IsBeginning printed meant.printed
 IsSeenOf (Some e) printed meant = meant ≡ record { ending = Some e; printed = printed }
 
--- at some depth the deck means what was seen
-abbrev pub IsMeant : List ℕ → Status → Option Io → Option Io → Type 0
-IsMeant deck status before after = OfRun deck status before after (λ ss inputs seen. (n : ℕ) × IsSeenOf seen.ending seen.printed (mean n ss inputs))
+-- at some depth these statements mean what was seen
+abbrev pub Mean : List Stmt → Inputs → Seen → Type 0
+Mean ss inputs seen = (n : ℕ) × IsSeenOf seen.ending seen.printed (mean n ss inputs)
 
 -- where the meaning ends having used r rules, and the bound is STEPS_PER_RULE * (r + 1) or more, the run has ended so
+abbrev pub EndIn : (bound : ℕ) → List Stmt → Inputs → Seen → Type 0
+EndIn bound ss inputs seen = (n : ℕ) (e : Ending) → (mean n ss inputs).ending ≡ Some e → STEPS_PER_RULE * (rules_used n ss inputs + 1) ≤ bound → seen ≡ mean n ss inputs
+
+abbrev pub IsMeant : List ℕ → Status → Option Io → Option Io → Type 0
+IsMeant deck status before after = OfRun deck status before after Mean
+
 abbrev pub IsInTime : List ℕ → (bound : ℕ) → Status → Option Io → Option Io → Type 0
-IsInTime deck bound status before after = OfRun deck status before after (λ ss inputs seen. (n : ℕ) (e : Ending) → (mean n ss inputs).ending ≡ Some e →
-    STEPS_PER_RULE * (rules_used n ss inputs + 1) ≤ bound → seen ≡ mean n ss inputs)
+IsInTime deck bound status before after = OfRun deck status before after (EndIn bound)

@@ -1,5 +1,5 @@
 -- The primitives that are there give values, or fail.
-use Rattle.std.proofs.Common.{◌≡◌, ℕ, List, IsTrue, refl, sym, true≢false}
+use Rattle.std.proofs.Common.{◌≡◌, List, IsTrue, refl, sym, true≢false}
 use Rattle.model.specs.declared.primitives.PrimId.{PrimId}
 use Rattle.model.specs.declared.primitives.PrimId.TheVariants as p
 use Rattle.model.specs.Aggregates.{type_of}

@@ -2,6 +2,7 @@
 use Rattle.std.proofs.Common.{[], Option, Some, None}
 use Rattle.model.specs.Io.{Io}
 use Rattle.model.specs.Told.{IfTold}
+pub use Rattle.world.proofs.Telling.{told_on}
 
 -- any records serve for what is told of none
 pub no_records : Io
