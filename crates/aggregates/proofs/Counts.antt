@@ -1,5 +1,5 @@
 -- How many elements an array has.
-use Rattle.std.proofs.Common.{◌≡◌, ℕ, zero, suc, ◌+◌, ◌*◌, ◌<◌, ◌≤◌, List, [], ◌∷◌, ◌++◌, length, get_or, take, min, inl, inr, refl, sym, ap, ◌∙◌, arith}
+use Rattle.std.proofs.Common.{◌≡◌, ℕ, zero, suc, ◌+◌, ◌*◌, ◌<◌, ◌≤◌, List, [], ◌∷◌, ◌++◌, length, get_or, take, min, inl, inr, sym, ap, ◌∙◌, arith}
 use Rattle.std.proofs.lemmas.Bool.{cases_lt}
 use Rattle.std.proofs.lemmas.List.{take_more}
 use Rattle.std.proofs.Math.Nat.{mul_assoc, mul-one, one-mul, mul-suc}
@@ -7,7 +7,7 @@ use Rattle.model.specs.Values.{Bounds}
 use Rattle.model.specs.Prototypes.{elements_in}
 
 -- a product is no less than a factor
-at_least : (a b : ℕ) → 0 < b → a ≤ a * b
+pub at_least : (a b : ℕ) → 0 < b → a ≤ a * b
 at_least a zero p = absurd (omega arith)
 at_least a (suc b) p = omega (arith, mul-suc a b)
 
@@ -25,19 +25,19 @@ sat_over e c m p le q =
 
 pub saturates : (e c m : ℕ) → 0 < m → 0 < e → 0 < c → min (min e m * min c m) m ≡ min (e * c) m
 saturates e c m p pe pc = elim (cases_lt m e) [
-    | inl over ↦ let i : min e m ≡ m = omega arith in ap (λ n. min (n * min c m) m) i ∙ sat_over e c m p (omega arith) pc
-    | inr within ↦ let i : min e m ≡ e = omega arith in ap (λ n. min (n * min c m) m) i ∙ inside within
-  ]
+  | inl over ↦ let i : min e m ≡ m = omega arith in ap (λ n. min (n * min c m) m) i ∙ sat_over e c m p (omega arith) pc
+  | inr within ↦ let i : min e m ≡ e = omega arith in ap (λ n. min (n * min c m) m) i ∙ inside within
+]
   where
     inside : e ≤ m → min (e * min c m) m ≡ min (e * c) m
     inside within = elim (cases_lt m c) [
-        | inl over ↦
-            let i : min c m ≡ m = omega arith in
-            let cut : m ≤ m * e = at_least m e pe in
-            let full : c ≤ c * e = at_least c e pe in
-            grind (arith, i, cut, full)
-        | inr below ↦ let i : min c m ≡ c = omega arith in ap (λ n. min (e * n) m) i
-      ]
+      | inl over ↦
+          let i : min c m ≡ m = omega arith in
+          let cut : m ≤ m * e = at_least m e pe in
+          let full : c ≤ c * e = at_least c e pe in
+          grind (arith, i, cut, full)
+      | inr below ↦ let i : min c m ≡ c = omega arith in ap (λ n. min (e * n) m) i
+    ]
 
 module _ (bs : List Bounds) (k : ℕ) (d : Bounds) (lt : k < length bs) (is : d ≡ get_or bs k d) where
   counted : elements_in (take (k + 1) bs) ≡ elements_in (take k bs) * d.count

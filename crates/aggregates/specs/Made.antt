@@ -1,5 +1,5 @@
 -- Objects as they are held, and as the definitions see them; and those that calls make.
-use Rattle.std.specs.Prelude.{ℕ, List, [], ◌∷◌, ◌++◌, length, map, replicate, Option, Some, None, Bool, if◌then◌else◌, option_map}
+use Rattle.std.specs.Prelude.{ℕ, List, [], ◌∷◌, ◌++◌, length, map, replicate, Option, Some, None, Bool, if◌then◌else◌}
 use Rattle.model.specs.Values.{Key, Bounds, Object, ArrayOf, TableOf, RecordOf}
 use Rattle.model.specs.Prototypes.{elements_in, are_bounds}
 use Rattle.aggregates.specs.Keys.{table_rows}

@@ -1,6 +1,8 @@
 -- What an object holds at a place, and what it is with another value there.
-use Rattle.std.specs.Prelude.{ℕ, List, Option, Some, None, Bool, true, false}
+use Rattle.std.specs.Prelude.{ℕ, ℤ, List, Option, Some, None, Bool, true, false}
 use Rattle.model.specs.Values.{Key, Object, ArrayOf, TableOf, RecordOf}
+use Rattle.model.specs.Trees.{Bytes}
+use Rattle.model.specs.Aggregates.{place_from, place_of}
 use Rattle.model.specs.Operators.{element_of, with_element, with_value_for, with_item}
 use Rattle.aggregates.specs.Keys.{key_of, value_at}
 use Rattle.aggregates.specs.declared.place.Place.{Place}
@@ -28,3 +30,18 @@ module _ {V : Type 0} where
   abbrev pub put_at : ℕ → Option (Object V) → List (Object V) → Option (List (Object V))
   put_at k None os = None
   put_at k (Some o) os = with_item k o os
+
+  -- the place of an array's element, by its subscripts
+  abbrev pub place_in : List ℤ → Option (Object V) → Option ℕ
+  place_in zs (Some (ArrayOf bs vs)) = place_from 0 bs zs
+  place_in zs _ = None
+
+  -- the place of a record's field, by its name
+  abbrev pub field_in : Bytes → Option (Object V) → Option ℕ
+  field_in f (Some (RecordOf t fs vs)) = place_of 0 f fs
+  field_in f _ = None
+
+  -- the type of a record
+  abbrev pub record_type : Option (Object V) → Option Bytes
+  record_type (Some (RecordOf t fs vs)) = Some t
+  record_type _ = None

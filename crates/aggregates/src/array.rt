@@ -2,11 +2,12 @@
 
 ghost use Rattle.std.specs.Prelude.{◌≡◌, ◌<◌, ◌^◌, IfOk, Some, replicate, slice_get, length, false};
 ghost use Rattle.std.specs.Option.{option_copied};
+ghost use Rattle.model.specs.Aggregates.{place_from};
 ghost use Rattle.model.specs.Prototypes.{elements_in};
 ghost use Rattle.model.specs.Operators.{with_item};
 ghost use Rattle.aggregates.specs.Objects.{if_stored};
 
-use crate::bounds::Bounds;
+use crate::bounds::{Bounds, place_of};
 use crate::element::Element;
 use crate::items::{copied, put, repeated};
 use std::alloc::{AllocError, Global};
@@ -42,7 +43,11 @@ impl<V: Element> Array<V> {
     }
 
     /// The array with this value everywhere.
-    pub(crate) fn filled(alloc: Global, bounds: Vec<Bounds>, value: &V) -> Result<Array<V>, AllocError>
+    pub(crate) fn filled(
+        alloc: Global,
+        bounds: Vec<Bounds>,
+        value: &V,
+    ) -> Result<Array<V>, AllocError>
         requires { elements_in bounds.items < 2 ^ 63 }
         ensures { IfOk result (λ array. array ≡ (bounds.items, replicate (elements_in bounds.items) value.now)) }
     {
@@ -65,6 +70,13 @@ impl<V: Element> Array<V> {
         ensures { option_copied result ≡ slice_get self.now.1 place }
     {
         self.elements.get(place)
+    }
+
+    /// The place of the element with these subscripts.
+    pub(crate) fn place(&self, subscripts: &[i64]) -> Option<usize>
+        ensures { result ≡ place_from 0 self.now.0 subscripts.now }
+    {
+        place_of(&self.bounds, subscripts)
     }
 
     /// Another element at a place, if there is one.

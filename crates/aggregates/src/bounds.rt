@@ -1,6 +1,7 @@
 //! The dimensions of arrays.
 
-ghost use Rattle.std.specs.Prelude.{◌≡◌, ◌<◌, ◌-◌, ◌^◌, min, Some, pos, ◌<ℤ◌, nat_abs};
+ghost use Rattle.std.specs.Prelude.{◌≡◌, ◌<◌, ◌-◌, ◌^◌, min, Some, pos, ◌<ℤ◌, nat_abs, IfSome};
+ghost use Rattle.model.specs.Aggregates.{place_from};
 ghost use Rattle.model.specs.Prototypes.{bounds_from, elements_in, are_bounds};
 ghost use Rattle.aggregates.specs.Bounds.{offset_in};
 
@@ -49,7 +50,8 @@ impl Bounds {
 
     /// How many subscripts stand below this one, if it is one of them.
     pub(crate) fn offset(&self, subscript: i64) -> Option<u64>
-        ensures { result ≡ offset_in self.now subscript }
+        ensures offset { result ≡ offset_in self.now subscript }
+        ensures below { IfSome result (λ o. o < self.now.count) }
     {
         if subscript < self.low || subscript > self.high {
             return None;
@@ -96,4 +98,23 @@ pub fn are_bounds(bounds: &[Bounds]) -> bool
     ensures { result ≡ are_bounds bounds.now }
 {
     bounds.len() <= 8 && elements_in(bounds) <= 1_048_576
+}
+
+/// The place of the element with these subscripts, among all elements of these dimensions. Takes no memory.
+pub(crate) fn place_of(bounds: &[Bounds], subscripts: &[i64]) -> Option<usize>
+    requires fits { elements_in bounds.now < 2 ^ 63 }
+    requires some { 0 < elements_in bounds.now }
+    ensures { result ≡ place_from 0 bounds.now subscripts.now }
+{
+    if subscripts.len() != bounds.len() {
+        return None;
+    }
+    let mut place = 0;
+    for (k, dimension) in bounds.iter().enumerate() {
+        let Some(offset) = dimension.offset(subscripts[k]) else {
+            return None;
+        };
+        place = place * dimension.count() + offset as usize;
+    }
+    Some(place)
 }

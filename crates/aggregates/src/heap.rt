@@ -4,13 +4,13 @@ ghost use Rattle.std.specs.Prelude.{◌≡◌, ◌++◌, ◌∷◌, [], length, 
 ghost use Rattle.std.specs.Option.{option_copied};
 ghost use Rattle.model.specs.Values.{ArrayOf, TableOf, RecordOf};
 ghost use Rattle.model.specs.Prototypes.{elements_in};
-ghost use Rattle.aggregates.specs.Objects.{held_at, stored_at, put_at, if_stored};
+ghost use Rattle.aggregates.specs.Objects.{held_at, stored_at, put_at, if_stored, place_in, field_in, record_type};
 ghost use Rattle.aggregates.specs.Made.{kind_of, filled, copied, rows_array, number, with_object, object_of};
 
 use crate::array::Array;
 use crate::bounds::{Bounds, are_bounds};
 use crate::element::Element;
-use crate::object::{Kind, Object, Record};
+use crate::object::{Kind, Object, Record, place_among};
 use crate::place::Place;
 use crate::table::Table;
 use std::alloc::{AllocError, Global};
@@ -65,6 +65,36 @@ impl<V: Element> Heap<V> {
         }
     }
 
+    /// The place of an array's element, by its subscripts. Takes no memory.
+    pub fn place(&self, object: usize, subscripts: &[i64]) -> Option<usize>
+        ensures { result ≡ place_in subscripts.now (slice_get self.now object) }
+    {
+        match self.object(object) {
+            Some(Object::Array(array)) => array.place(subscripts),
+            _ => None,
+        }
+    }
+
+    /// The place of a record's field, by its name. Takes no memory.
+    pub fn field(&self, object: usize, name: &Text) -> Option<usize>
+        ensures { result ≡ field_in name.now (slice_get self.now object) }
+    {
+        match self.object(object) {
+            Some(Object::Record(record)) => place_among(name, &record.fields),
+            _ => None,
+        }
+    }
+
+    /// The type of a record.
+    pub fn record_type(&self, object: usize) -> Option<&Text>
+        ensures { option_copied result ≡ record_type (slice_get self.now object) }
+    {
+        match self.object(object) {
+            Some(Object::Record(record)) => Some(&record.type_name),
+            _ => None,
+        }
+    }
+
     /// Stores a value at a place of an object, if it has that place. Only a table takes memory.
     pub fn set(&mut self, object: usize, place: Place, value: V) -> Result<bool, AllocError>
         ensures stored { IfOk result (λ stored. if_stored stored self.new ≡ put_at object (stored_at place value (slice_get self.old object)) self.old) }
@@ -79,7 +109,12 @@ impl<V: Element> Heap<V> {
     }
 
     /// A new array with this value everywhere; its number. Bounds that no array may have are refused by `None`.
-    pub fn new_array(&mut self, alloc: Global, bounds: Vec<Bounds>, value: &V) -> Result<Option<usize>, AllocError>
+    pub fn new_array(
+        &mut self,
+        alloc: Global,
+        bounds: Vec<Bounds>,
+        value: &V,
+    ) -> Result<Option<usize>, AllocError>
         ensures number { IfOk result (λ made. made ≡ number (filled bounds.items value.now) self.old) }
         ensures made { OnOk result (self.new ≡ with_object (filled bounds.items value.now) self.old) }
         ensures refused { OnErr result (self.new ≡ self.old) }
@@ -101,7 +136,12 @@ impl<V: Element> Heap<V> {
     }
 
     /// A new record of this type, with these fields and their values; its number.
-    pub fn new_record(&mut self, type_name: Text, fields: Vec<Text>, values: Vec<V>) -> Result<usize, AllocError>
+    pub fn new_record(
+        &mut self,
+        type_name: Text,
+        fields: Vec<Text>,
+        values: Vec<V>,
+    ) -> Result<usize, AllocError>
         ensures number { IfOk result (λ made. made ≡ length self.old) }
         ensures made { OnOk result (self.new ≡ self.old ++ RecordOf type_name fields.items values.items ∷ []) }
         ensures refused { OnErr result (self.new ≡ self.old) }
@@ -128,7 +168,11 @@ impl<V: Element> Heap<V> {
 
     /// A new array of a table's keys and values, a row for each value that isn't null; its number.
     /// What isn't a table, or has no such value, is refused by `None`.
-    pub fn table_to_array(&mut self, alloc: Global, object: usize) -> Result<Option<usize>, AllocError>
+    pub fn table_to_array(
+        &mut self,
+        alloc: Global,
+        object: usize,
+    ) -> Result<Option<usize>, AllocError>
         ensures number { IfOk result (λ made. made ≡ number (rows_array V.null_test V.key_value (slice_get self.old object)) self.old) }
         ensures made { OnOk result (self.new ≡ with_object (rows_array V.null_test V.key_value (slice_get self.old object)) self.old) }
         ensures refused { OnErr result (self.new ≡ self.old) }

@@ -20,7 +20,11 @@ pub(crate) fn copied<T: Clone + Drop>(alloc: Global, items: &[T]) -> Result<Vec<
 
 /// An item, so many times.
 #[tactic(auto, using(crate::proofs::Lists::replicate_more))]
-pub(crate) fn repeated<T: Clone + Drop>(alloc: Global, item: &T, n: usize) -> Result<Vec<T>, AllocError>
+pub(crate) fn repeated<T: Clone + Drop>(
+    alloc: Global,
+    item: &T,
+    n: usize,
+) -> Result<Vec<T>, AllocError>
     requires { (item copy : T) → T.is_clone item copy → copy ≡ item }
     ensures { IfOk result (λ items. items.items ≡ replicate n item.now) }
 {

@@ -1,4 +1,4 @@
-use Rattle.std.proofs.Common.{ap, sym, ◌∙◌, Some, arith}
+use Rattle.std.proofs.Common.{ap, ◌∙◌, Some, arith}
 use Rattle.aggregates.specs.Objects.{stored_at}
 use Rattle.aggregates.specs.Made.{object_of}
 use Rattle.aggregates.proofs.Objects.{objects_stored, objects_same}
@@ -8,7 +8,7 @@ use Rattle.aggregates.proofs.heap.Heap.set.Goals as goal
 pub returns-clause-stored : goal.returns-clause-stored
 returns-clause-stored g c =
     objects_stored c.self.inside.objects.items c.args.self.now c.args.object c.set.new.self c.index_mut.result.now c.in_ok-stored.stored (stored_at c.args.place c.args.value)
-        c.self.view_is (omega arith) (c.in_ok-stored.ensures.stored ∙ ap (λ y. stored_at c.args.place c.args.value (Some (object_of y))) c.index_mut.ensures.value)
+    c.self.view_is (omega arith) (c.in_ok-stored.ensures.stored ∙ ap (λ y. stored_at c.args.place c.args.value (Some (object_of y))) c.index_mut.ensures.value)
 
 pub returns-clause-nowhere : goal.returns-clause-nowhere
 returns-clause-nowhere g c e =

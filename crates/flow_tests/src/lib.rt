@@ -1,5 +1,0 @@
-//! Tests of the flow of code.
-#![tactic(auto)]
-
-#[cfg(test)]
-mod modules;

@@ -1,7 +1,0 @@
-//! Tests of loading.
-#![tactic(auto)]
-
-#[cfg(test)]
-mod bytes;
-#[cfg(test)]
-mod tables;

@@ -1,0 +1,184 @@
+//! Calls with values that no deck makes today, and what they come to: plain values, which are cheap to prove.
+
+use model::{ErrorCode, PrimId};
+use pattern_compiler::{Instr, Name, PatCode};
+use primitives::{Outcome, call_prim, is_there};
+use std::alloc::Global;
+use strings::Text;
+use world::{Fault, Value, World, alt, cond, imm};
+
+/// An argument.
+#[derive(Clone, Copy)]
+pub enum Arg<'a> {
+    Null,
+    Text(&'a str),
+    Int(i64),
+    /// The pattern ABORT.
+    Abort,
+    Variable(&'a str),
+    /// The name of an array's element.
+    Element,
+    /// An expression that isn't evaluated.
+    Expr(u32),
+    /// An array, a table or a record.
+    Object,
+}
+
+/// What is called.
+#[derive(Clone, Copy)]
+pub enum Call {
+    ToText,
+    ToInt,
+    ToPattern,
+    ToName,
+    ToLabel,
+    ToVariable,
+    Alt,
+    Cond,
+    Imm,
+    Cat,
+    /// The pattern that a match begins with.
+    Begin,
+    Prim(PrimId),
+}
+
+/// What it comes to.
+#[derive(Clone, Copy, PartialEq)]
+pub enum Seen {
+    Error(ErrorCode),
+    Stopped,
+    Failure,
+    Null,
+    /// A string or a variable's name of this byte.
+    Letter(u8),
+    /// A longer string.
+    Long(usize),
+    Integer(i64),
+    /// A pattern of this one part, which is evaluated in a match.
+    Deferred(u32),
+    /// Another pattern, of so many instructions.
+    Code(usize),
+    /// A name, an expression or an object.
+    Other,
+}
+
+fn value(alloc: Global, arg: Arg<'_>) -> Result<Value, Fault> {
+    Ok(match arg {
+        Arg::Null => Value::null(),
+        Arg::Text(bytes) => Value::String(Text::from_slice(alloc, bytes.as_bytes())?),
+        Arg::Int(n) => Value::Integer(n),
+        Arg::Abort => Value::Pattern(PatCode::abort(alloc)?),
+        Arg::Variable(bytes) => {
+            let name = Text::from_slice(alloc, bytes.as_bytes())?;
+            Value::Name(Name::Variable(name))
+        }
+        Arg::Element => Value::Name(Name::Element {
+            object: 0,
+            index: 0,
+        }),
+        Arg::Expr(expr) => Value::Expression(expr),
+        Arg::Object => Value::Object(0),
+    })
+}
+
+fn converted(alloc: Global, call: Call, value: &Value) -> Result<Value, Fault> {
+    match call {
+        Call::ToText => Ok(Value::String(value.to_text(alloc)?)),
+        Call::ToInt => Ok(Value::Integer(value.to_int()?)),
+        Call::ToPattern => Ok(Value::Pattern(value.to_pattern(alloc)?)),
+        Call::ToName => Ok(Value::Name(value.to_name(alloc)?)),
+        Call::ToLabel => Ok(Value::String(value.to_label(alloc)?)),
+        _ => Ok(Value::String(value.to_variable(alloc)?)),
+    }
+}
+
+fn primitive(
+    alloc: Global,
+    world: &mut World,
+    id: PrimId,
+    left: &Value,
+    right: &Value,
+) -> Result<Option<Value>, Fault> {
+    if !is_there(id) {
+        return Err(Fault::Error(ErrorCode::UndefinedFunction));
+    }
+    let arguments = vec![in alloc; left.clone()?, right.clone()?]?;
+    match call_prim(alloc, id, &arguments, world)? {
+        Outcome::Value(value) => Ok(Some(value)),
+        _ => Ok(None),
+    }
+}
+
+fn in_world(
+    alloc: Global,
+    world: &mut World,
+    call: Call,
+    left: &Value,
+    right: &Value,
+) -> Result<Option<Value>, Fault> {
+    match call {
+        Call::Prim(id) => primitive(alloc, world, id, left, right),
+        Call::Begin => {
+            let begun = world.begin_match(alloc, left, right)?;
+            Ok(Some(Value::Pattern(begun.pattern)))
+        }
+        _ => Ok(Some(world.cat(alloc, left, right)?)),
+    }
+}
+
+fn called(alloc: Global, call: Call, left: &Value, right: &Value) -> Result<Option<Value>, Fault> {
+    match call {
+        Call::Alt => Ok(Some(alt(alloc, left, right)?)),
+        Call::Cond => Ok(Some(cond(alloc, left, right.to_name(alloc)?)?)),
+        Call::Imm => Ok(Some(imm(alloc, left, right.to_name(alloc)?)?)),
+        Call::Cat | Call::Begin | Call::Prim(_) => {
+            in_world(alloc, &mut World::new(alloc)?, call, left, right)
+        }
+        _ => Ok(Some(converted(alloc, call, left)?)),
+    }
+}
+
+fn text(text: &Text) -> Seen {
+    match text.as_slice() {
+        [] => Seen::Null,
+        [byte] => Seen::Letter(*byte),
+        bytes => Seen::Long(bytes.len()),
+    }
+}
+
+fn code(code: &PatCode) -> Seen {
+    match code.get(0) {
+        Some(Instr::Eval(expr)) if code.len() == 1 => Seen::Deferred(*expr),
+        Some(Instr::EvalBasic(_, expr)) if code.len() == 1 => Seen::Deferred(*expr),
+        _ => Seen::Code(code.len()),
+    }
+}
+
+fn shown(value: &Value) -> Seen {
+    match value {
+        Value::String(bytes) => text(bytes),
+        Value::Integer(n) => Seen::Integer(*n),
+        Value::Pattern(pattern) => code(pattern),
+        Value::Name(Name::Variable(name)) => text(name),
+        _ => Seen::Other,
+    }
+}
+
+fn answer(
+    alloc: Global,
+    call: Call,
+    left: Arg<'_>,
+    right: Arg<'_>,
+) -> Result<Option<Value>, Fault> {
+    called(alloc, call, &value(alloc, left)?, &value(alloc, right)?)
+}
+
+/// What a call comes to, in the world as a run begins.
+pub fn seen_of(alloc: Global, call: Call, left: Arg<'_>, right: Arg<'_>) -> Seen {
+    match answer(alloc, call, left, right) {
+        Ok(Some(value)) => shown(&value),
+        Ok(None) => Seen::Failure,
+        Err(Fault::Error(error)) => Seen::Error(error),
+        Err(Fault::Stop(_)) => Seen::Stopped,
+    }
+}
