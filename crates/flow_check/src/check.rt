@@ -77,10 +77,7 @@ fn step(walk: &mut Walk, at: u32, instr: Instr) -> Result<bool, AllocError>
             Ok(true)
         }
         Some(Mark::Torn) => Ok(false),
-        Some(Mark::One(shape)) => {
-            let fine = follow(walk, at, rule_for(instr), shape)?;
-            Ok(fine)
-        }
+        Some(Mark::One(shape)) => follow(walk, at, rule_for(instr), shape),
     }
 }
 
