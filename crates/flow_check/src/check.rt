@@ -44,11 +44,20 @@ fn roots(alloc: Global, image: &Image) -> Result<Marks, AllocError>
 }
 
 /// How far the walk has come: the stacks and marks there are, and the shape that the instruction before leaves.
-#[derive(Drop)]
 struct Walk {
     pool: Pool,
     marks: Marks,
     carried: Option<Shape>,
+}
+
+impl Drop for Walk {
+    fn drop(self) {
+        let Walk {
+            pool: _,
+            marks: _,
+            carried: _,
+        } = self;
+    }
 }
 
 /// What follows where one shape comes; whether what is asked is there.
