@@ -1,17 +1,14 @@
 //! Instructions as bytes.
 
 ghost use Rattle.std.specs.Prelude.{◌≡◌, [], ◌∷◌, ◌++◌, OnOk, OnErr};
-ghost use Rattle.model.specs.Spelling.{instr, u16 as u16_bytes, u32 as u32_bytes, u64 as u64_bytes};
+ghost use Rattle.model.specs.Spelling.{instr, u16 as u16_bytes, u32 as u32_bytes};
 ghost use Rattle.model.specs.Reading.{Finds, instr_of};
 ghost use Rattle.code_format.specs.Places.{instr_at};
 
-use crate::codes::{
-    arith_code_of, arith_op_of, key_code_of, key_of, prim_code_of, prim_of, return_code_of,
-    return_kind_of, sign_code_of, sign_op_of,
-};
-use crate::numbers::{first_byte, first_u16, first_u32, first_u64};
+use crate::codes::{ARITH_OPS, RETURN_KINDS, SIGN_OPS, coded};
+use crate::numbers::{first_byte, first_u16, first_u32, first_u64, put_whole, put_wide};
 use byteorder::{BigEndian, ByteOrder};
-use model::{FormatFault, FormatRule, Instr};
+use model::{FormatFault, FormatRule, Instr, KeyId, PrimId};
 use std::alloc::AllocError;
 
 /// The instruction in front, and what is behind it; none if it is in no table or is cut.
@@ -33,7 +30,7 @@ pub fn first_instr(bytes: &[u8]) -> Option<(Instr, &[u8])>
         }
         4 => {
             let (x, rest) = first_byte(rest)?;
-            Some((Instr::Return(return_kind_of(x)?), rest))
+            Some((Instr::Return(coded(&RETURN_KINDS, x)?), rest))
         }
         5 => Some((Instr::GotoV, rest)),
         6 => Some((Instr::NoLabel, rest)),
@@ -53,11 +50,11 @@ pub fn first_instr(bytes: &[u8]) -> Option<(Instr, &[u8])>
         11 => Some((Instr::Fetch, rest)),
         12 => {
             let (x, rest) = first_byte(rest)?;
-            Some((Instr::KeyGet(key_of(x)?), rest))
+            Some((Instr::KeyGet(coded(&KeyId::ALL, x)?), rest))
         }
         13 => {
             let (x, rest) = first_byte(rest)?;
-            Some((Instr::KeySet(key_of(x)?), rest))
+            Some((Instr::KeySet(coded(&KeyId::ALL, x)?), rest))
         }
         14 => Some((Instr::Indir, rest)),
         15 => {
@@ -82,13 +79,13 @@ pub fn first_instr(bytes: &[u8]) -> Option<(Instr, &[u8])>
         }
         21 => {
             let (p, rest) = first_byte(rest)?;
-            let p = prim_of(p)?;
+            let p = coded(&PrimId::ALL, p)?;
             let (n, rest) = first_byte(rest)?;
             Some((Instr::PrimV(p, n), rest))
         }
         22 => {
             let (p, rest) = first_byte(rest)?;
-            let p = prim_of(p)?;
+            let p = coded(&PrimId::ALL, p)?;
             let (n, rest) = first_byte(rest)?;
             Some((Instr::PrimN(p, n), rest))
         }
@@ -101,11 +98,11 @@ pub fn first_instr(bytes: &[u8]) -> Option<(Instr, &[u8])>
         26 => Some((Instr::Fail, rest)),
         27 => {
             let (x, rest) = first_byte(rest)?;
-            Some((Instr::Sign(sign_op_of(x)?), rest))
+            Some((Instr::Sign(coded(&SIGN_OPS, x)?), rest))
         }
         28 => {
             let (x, rest) = first_byte(rest)?;
-            Some((Instr::Arith(arith_op_of(x)?), rest))
+            Some((Instr::Arith(coded(&ARITH_OPS, x)?), rest))
         }
         29 => Some((Instr::Cat, rest)),
         30 => Some((Instr::Alt, rest)),
@@ -170,26 +167,6 @@ fn put_short(out: &mut Vec<u8>, code: u8, n: u16) -> Result<(), AllocError>
     out.extend_from_slice(&bytes)
 }
 
-#[tactic(auto, unfolding(model::specs::Spelling::u32))]
-fn put_wide(out: &mut Vec<u8>, code: u8, n: u32) -> Result<(), AllocError>
-    ensures ok { OnOk result (out.new.items ≡ out.old.items ++ code ∷ u32_bytes n) }
-    ensures err { OnErr result (out.new.items ≡ out.old.items) }
-{
-    let mut bytes = [code, 0, 0, 0, 0];
-    BigEndian::write_u32(&mut bytes[1..], n);
-    out.extend_from_slice(&bytes)
-}
-
-#[tactic(auto, unfolding(model::specs::Spelling::u64))]
-fn put_whole(out: &mut Vec<u8>, code: u8, n: u64) -> Result<(), AllocError>
-    ensures ok { OnOk result (out.new.items ≡ out.old.items ++ code ∷ u64_bytes n) }
-    ensures err { OnErr result (out.new.items ≡ out.old.items) }
-{
-    let mut bytes = [code, 0, 0, 0, 0, 0, 0, 0, 0];
-    BigEndian::write_u64(&mut bytes[1..], n);
-    out.extend_from_slice(&bytes)
-}
-
 #[tactic(auto, unfolding(model::specs::Spelling::u16, model::specs::Spelling::u32))]
 fn put_call(out: &mut Vec<u8>, code: u8, string: u32, n: u16) -> Result<(), AllocError>
     ensures ok { OnOk result (out.new.items ≡ out.old.items ++ code ∷ (u32_bytes string ++ u16_bytes n)) }
@@ -211,7 +188,7 @@ pub fn put_instr(i: &Instr, out: &mut Vec<u8>) -> Result<(), AllocError>
         Instr::Begin(n) => put_wide(out, 1, n),
         Instr::Body => put_byte(out, 2),
         Instr::Goto(n) => put_wide(out, 3, n),
-        Instr::Return(x) => put_choice(out, 4, return_code_of(x)),
+        Instr::Return(x) => put_choice(out, 4, x as u8),
         Instr::GotoV => put_byte(out, 5),
         Instr::NoLabel => put_byte(out, 6),
         Instr::Str(n) => put_wide(out, 7, n),
@@ -219,8 +196,8 @@ pub fn put_instr(i: &Instr, out: &mut Vec<u8>) -> Result<(), AllocError>
         Instr::Null => put_byte(out, 9),
         Instr::Var(n) => put_wide(out, 10, n),
         Instr::Fetch => put_byte(out, 11),
-        Instr::KeyGet(x) => put_choice(out, 12, key_code_of(x)),
-        Instr::KeySet(x) => put_choice(out, 13, key_code_of(x)),
+        Instr::KeyGet(x) => put_choice(out, 12, x as u8),
+        Instr::KeySet(x) => put_choice(out, 13, x as u8),
         Instr::Indir => put_byte(out, 14),
         Instr::Elem(n) => put_short(out, 15, n),
         Instr::Assign => put_byte(out, 16),
@@ -228,14 +205,14 @@ pub fn put_instr(i: &Instr, out: &mut Vec<u8>) -> Result<(), AllocError>
         Instr::Expr(n) => put_wide(out, 18, n),
         Instr::CallV(s, n) => put_call(out, 19, s, n),
         Instr::CallN(s, n) => put_call(out, 20, s, n),
-        Instr::PrimV(p, n) => put_prim(out, 21, prim_code_of(p), n),
-        Instr::PrimN(p, n) => put_prim(out, 22, prim_code_of(p), n),
+        Instr::PrimV(p, n) => put_prim(out, 21, p as u8, n),
+        Instr::PrimN(p, n) => put_prim(out, 22, p as u8, n),
         Instr::Drop => put_byte(out, 23),
         Instr::Try(n) => put_wide(out, 24, n),
         Instr::Untry => put_byte(out, 25),
         Instr::Fail => put_byte(out, 26),
-        Instr::Sign(x) => put_choice(out, 27, sign_code_of(x)),
-        Instr::Arith(x) => put_choice(out, 28, arith_code_of(x)),
+        Instr::Sign(x) => put_choice(out, 27, x as u8),
+        Instr::Arith(x) => put_choice(out, 28, x as u8),
         Instr::Cat => put_byte(out, 29),
         Instr::Alt => put_byte(out, 30),
         Instr::Cond => put_byte(out, 31),

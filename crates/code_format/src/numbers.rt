@@ -1,8 +1,8 @@
 //! Numbers of one, two, four and eight bytes, the highest first.
 
-ghost use Rattle.std.specs.Prelude.{◌≡◌, ◌++◌, OnOk, OnErr};
+ghost use Rattle.std.specs.Prelude.{◌≡◌, ◌∷◌, ◌++◌, OnOk, OnErr};
 ghost use Rattle.std.specs.Int.{w16, w32, w64};
-ghost use Rattle.model.specs.Spelling.{u32 as u32_bytes};
+ghost use Rattle.model.specs.Spelling.{u32 as u32_bytes, u64 as u64_bytes};
 ghost use Rattle.model.specs.Reading.{Finds, Reads, number, number_at, byte, required};
 
 use byteorder::{BigEndian, ByteOrder};
@@ -112,5 +112,27 @@ pub fn put_u32(out: &mut Vec<u8>, n: u32) -> Result<(), AllocError>
 {
     let mut bytes = [0; 4];
     BigEndian::write_u32(&mut bytes, n);
+    out.extend_from_slice(&bytes)
+}
+
+/// Puts a code and a number of 4 bytes at the end; after a refusal the bytes are as before.
+#[tactic(auto, unfolding(model::specs::Spelling::u32))]
+pub(crate) fn put_wide(out: &mut Vec<u8>, code: u8, n: u32) -> Result<(), AllocError>
+    ensures ok { OnOk result (out.new.items ≡ out.old.items ++ code ∷ u32_bytes n) }
+    ensures err { OnErr result (out.new.items ≡ out.old.items) }
+{
+    let mut bytes = [code, 0, 0, 0, 0];
+    BigEndian::write_u32(&mut bytes[1..], n);
+    out.extend_from_slice(&bytes)
+}
+
+/// Puts a code and a number of 8 bytes at the end; after a refusal the bytes are as before.
+#[tactic(auto, unfolding(model::specs::Spelling::u64))]
+pub(crate) fn put_whole(out: &mut Vec<u8>, code: u8, n: u64) -> Result<(), AllocError>
+    ensures ok { OnOk result (out.new.items ≡ out.old.items ++ code ∷ u64_bytes n) }
+    ensures err { OnErr result (out.new.items ≡ out.old.items) }
+{
+    let mut bytes = [code, 0, 0, 0, 0, 0, 0, 0, 0];
+    BigEndian::write_u64(&mut bytes[1..], n);
     out.extend_from_slice(&bytes)
 }

@@ -1,12 +1,11 @@
 //! Instructions of patterns as bytes.
 
-ghost use Rattle.std.specs.Prelude.{◌≡◌, [], ◌∷◌, ◌++◌, OnOk, OnErr};
-ghost use Rattle.model.specs.Spelling.{pat_instr, u32 as u32_bytes, u64 as u64_bytes};
+ghost use Rattle.std.specs.Prelude.{◌≡◌, [], ◌++◌, OnOk, OnErr};
+ghost use Rattle.model.specs.Spelling.{pat_instr};
 ghost use Rattle.model.specs.Reading.{Reads, pat_instr_at};
 ghost use Rattle.code_format.specs.Places.{pat_at};
 
-use crate::numbers::{read_byte, read_u32, read_u64};
-use byteorder::{BigEndian, ByteOrder};
+use crate::numbers::{put_whole, put_wide, read_byte, read_u32, read_u64};
 use model::{FormatFault, FormatRule, Miss, PatInstr};
 use std::alloc::AllocError;
 
@@ -87,43 +86,23 @@ pub fn get_pat_instr(bytes: &[u8], at: usize) -> Result<(PatInstr, usize), Forma
     }
 }
 
-#[tactic(auto, unfolding(model::specs::Spelling::u32))]
-fn put_short(out: &mut Vec<u8>, kind: u8, n: u32) -> Result<(), AllocError>
-    ensures ok { OnOk result (out.new.items ≡ out.old.items ++ kind ∷ u32_bytes n) }
-    ensures err { OnErr result (out.new.items ≡ out.old.items) }
-{
-    let mut bytes = [kind, 0, 0, 0, 0];
-    BigEndian::write_u32(&mut bytes[1..], n);
-    out.extend_from_slice(&bytes)
-}
-
-#[tactic(auto, unfolding(model::specs::Spelling::u64))]
-fn put_long(out: &mut Vec<u8>, kind: u8, n: u64) -> Result<(), AllocError>
-    ensures ok { OnOk result (out.new.items ≡ out.old.items ++ kind ∷ u64_bytes n) }
-    ensures err { OnErr result (out.new.items ≡ out.old.items) }
-{
-    let mut bytes = [kind, 0, 0, 0, 0, 0, 0, 0, 0];
-    BigEndian::write_u64(&mut bytes[1..], n);
-    out.extend_from_slice(&bytes)
-}
-
 /// Puts an instruction of a pattern at the end; after a refusal the bytes are as before.
 pub fn put_pat_instr(i: &PatInstr, out: &mut Vec<u8>) -> Result<(), AllocError>
     ensures ok { OnOk result (out.new.items ≡ out.old.items ++ pat_instr i.now) }
     ensures err { OnErr result (out.new.items ≡ out.old.items) }
 {
     match *i {
-        PatInstr::Lit(n) => put_short(out, 0, n),
-        PatInstr::Split(n) => put_short(out, 1, n.cast_unsigned()),
-        PatInstr::Jmp(n) => put_short(out, 2, n.cast_unsigned()),
-        PatInstr::Len(n) => put_long(out, 3, n),
-        PatInstr::Pos(n) => put_long(out, 4, n),
-        PatInstr::RPos(n) => put_long(out, 5, n),
-        PatInstr::Tab(n) => put_long(out, 6, n),
-        PatInstr::RTab(n) => put_long(out, 7, n),
-        PatInstr::Any(n) => put_short(out, 8, n),
-        PatInstr::NotAny(n) => put_short(out, 9, n),
-        PatInstr::Span(n) => put_short(out, 10, n),
-        PatInstr::Break(n) => put_short(out, 11, n),
+        PatInstr::Lit(n) => put_wide(out, 0, n),
+        PatInstr::Split(n) => put_wide(out, 1, n.cast_unsigned()),
+        PatInstr::Jmp(n) => put_wide(out, 2, n.cast_unsigned()),
+        PatInstr::Len(n) => put_whole(out, 3, n),
+        PatInstr::Pos(n) => put_whole(out, 4, n),
+        PatInstr::RPos(n) => put_whole(out, 5, n),
+        PatInstr::Tab(n) => put_whole(out, 6, n),
+        PatInstr::RTab(n) => put_whole(out, 7, n),
+        PatInstr::Any(n) => put_wide(out, 8, n),
+        PatInstr::NotAny(n) => put_wide(out, 9, n),
+        PatInstr::Span(n) => put_wide(out, 10, n),
+        PatInstr::Break(n) => put_wide(out, 11, n),
     }
 }

@@ -36,10 +36,7 @@ fn object<'a>(alloc: Global, g: &mut Generator<'a>, o: &'a Option<Expr>) -> Resu
 {
     match o {
         Some(e) => value(alloc, g, e),
-        None => {
-            g.put(Instr::Null)?;
-            Ok(())
-        }
+        None => g.put(Instr::Null),
     }
 }
 
@@ -71,14 +68,12 @@ fn assignment<'a>(
     match key_target(subject) {
         Some(key) => {
             object(alloc, g, o)?;
-            key_set(g, key)?;
-            Ok(())
+            key_set(g, key)
         }
         None => {
             name(alloc, g, subject)?;
             object(alloc, g, o)?;
-            g.put(Instr::Assign)?;
-            Ok(())
+            g.put(Instr::Assign)
         }
     }
 }
@@ -103,8 +98,7 @@ fn replacement<'a>(
     value(alloc, g, pattern)?;
     g.put(Instr::MatchR)?;
     object(alloc, g, o)?;
-    g.put(Instr::Splice)?;
-    Ok(())
+    g.put(Instr::Splice)
 }
 
 /// Puts the code of a body.
@@ -118,14 +112,12 @@ pub fn body<'a>(alloc: Global, g: &mut Generator<'a>, b: &'a Body) -> Result<(),
         Body::Nothing => Ok(()),
         Body::Evaluate(e) => {
             value(alloc, g, e)?;
-            g.put(Instr::Drop)?;
-            Ok(())
+            g.put(Instr::Drop)
         }
         Body::Match(e, f) => {
             value(alloc, g, e)?;
             value(alloc, g, f)?;
-            g.put(Instr::Match)?;
-            Ok(())
+            g.put(Instr::Match)
         }
         Body::Assign(x, o) => assignment(alloc, g, x, o),
         Body::Replace(x, f, o) => replacement(alloc, g, x, f, o),

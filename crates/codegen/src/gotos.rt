@@ -57,14 +57,10 @@ pub fn place<'a>(
     ensures size { OnOk result (size (gen_of g.new) ≤ size (gen_of g.old) + 9 * weights.of_place (place_of p.now)) }
 {
     match p {
-        Place::Label(l) => {
-            g.put(to_label(labels, l))?;
-            Ok(())
-        }
+        Place::Label(l) => g.put(to_label(labels, l)),
         Place::Computed(e) => {
             value(alloc, g, e)?;
-            g.put(Instr::GotoV)?;
-            Ok(())
+            g.put(Instr::GotoV)
         }
     }
 }
@@ -86,10 +82,7 @@ pub fn after_success<'a>(
     match goto {
         Goto::OnSuccess(p) => place(alloc, g, labels, p),
         Goto::Both(p, _) => place(alloc, g, labels, p),
-        Goto::OnFailure(_) => {
-            g.put(Instr::Goto(number + 1))?;
-            Ok(())
-        }
+        Goto::OnFailure(_) => g.put(Instr::Goto(number + 1)),
         Goto::Next => Ok(()),
         Goto::Always(_) => Ok(()),
     }

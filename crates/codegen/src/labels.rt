@@ -12,9 +12,14 @@ use std::alloc::{AllocError, Global};
 use std::marker::Model;
 
 /// Labels with the numbers of their statements.
-#[derive(Drop)]
 pub struct Labels {
     numbers: IndexMap<Vec<u8>, u32>,
+}
+
+impl Drop for Labels {
+    fn drop(self) {
+        let Labels { numbers: _ } = self;
+    }
 }
 
 impl Model for Labels {

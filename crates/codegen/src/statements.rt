@@ -60,9 +60,6 @@ pub fn statement<'a>(
 {
     match s {
         Stmt::Plain { body, goto, .. } => plain(alloc, g, labels, number, body, goto),
-        Stmt::End { .. } => {
-            g.put(Instr::End)?;
-            Ok(())
-        }
+        Stmt::End { .. } => g.put(Instr::End),
     }
 }

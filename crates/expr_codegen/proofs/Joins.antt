@@ -1,5 +1,6 @@
 -- Parts that were put, joined.
 use Rattle.std.proofs.Common.{◌≡◌, ℕ, zero, suc, ◌+◌, List, [], ◌∷◌, ◌++◌, length, refl, sym, ap, ◌∙◌, subst, append_assoc, arith, Bool, true, false, bytes_eq, if◌then◌else◌, Some, slice_get, slice_set, map, length-append, ◌*◌, ◌≤◌, ◌<◌, drop, nat_lt, slice_index_or, get_or}
+use Rattle.std.specs.Prelude.{Result, Ok, Err, OnOk}
 use Rattle.std.proofs.lemmas.List.{drop-map, drop_more}
 use Rattle.model.specs.declared.instr.Instr.{Instr}
 use Rattle.model.specs.declared.instr.Instr.TheVariants as op
@@ -10,6 +11,12 @@ use Rattle.expr_codegen.specs.Texts.{place_of, with_text, with_texts}
 use Rattle.expr_codegen.specs.Code.{Part, nothing, one, with_string, unevaluated, ◌>>◌, handled}
 use Rattle.expr_codegen.specs.Emitting.{Gen, Emits, Longer, Numbered, SameBytes, due, size, with_instr, with_changed, with_waiting}
 use Rattle.expr_codegen.proofs.TextPlaces.{place_stays}
+
+-- ---- the result of a last call, returned as it is
+
+pub on_ok : {T E : Type 0} (r : Result T E) (P Q : Type 0) → OnOk r P → (P → Q) → OnOk r Q
+on_ok (Ok x) P Q h f = f h
+on_ok (Err e) P Q h f = tt
 
 -- ---- lists
 

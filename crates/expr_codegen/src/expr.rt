@@ -27,39 +27,18 @@ pub fn value<'a>(alloc: Global, g: &mut Generator<'a>, e: &'a Expr) -> Result<()
     match e {
         Expr::Name(x) => {
             variable(alloc, g, x)?;
-            g.put(Instr::Fetch)?;
-            Ok(())
+            g.put(Instr::Fetch)
         }
-        Expr::Integer(z) => {
-            let n = *z;
-            g.put(Instr::Int(n))?;
-            Ok(())
-        }
-        Expr::Literal(s) => {
-            literal(alloc, g, s)?;
-            Ok(())
-        }
-        Expr::Keyword(k) => {
-            keyword(g, k)?;
-            Ok(())
-        }
-        Expr::Call(f, args) => {
-            called(alloc, g, f, args, false)?;
-            Ok(())
-        }
+        Expr::Integer(z) => g.put(Instr::Int(*z)),
+        Expr::Literal(s) => literal(alloc, g, s),
+        Expr::Keyword(k) => keyword(g, k),
+        Expr::Call(f, args) => called(alloc, g, f, args, false),
         Expr::Reference(x, args) => {
             element(alloc, g, x, args)?;
-            g.put(Instr::Fetch)?;
-            Ok(())
+            g.put(Instr::Fetch)
         }
-        Expr::Unary(op, x) => {
-            applied(alloc, g, *op, x)?;
-            Ok(())
-        }
-        Expr::Binary(op, x, y) => {
-            combined(alloc, g, *op, x, y)?;
-            Ok(())
-        }
+        Expr::Unary(op, x) => applied(alloc, g, *op, x),
+        Expr::Binary(op, x, y) => combined(alloc, g, *op, x, y),
     }
 }
 
@@ -72,22 +51,10 @@ pub fn name<'a>(alloc: Global, g: &mut Generator<'a>, e: &'a Expr) -> Result<(),
     ensures size { OnOk result (size (gen_of g.new) ≤ size (gen_of g.old) + 9 * of_expr (expr_of e.now)) }
 {
     match e {
-        Expr::Name(x) => {
-            variable(alloc, g, x)?;
-            Ok(())
-        }
-        Expr::Call(f, args) => {
-            called(alloc, g, f, args, true)?;
-            Ok(())
-        }
-        Expr::Reference(x, args) => {
-            element(alloc, g, x, args)?;
-            Ok(())
-        }
-        Expr::Unary(op, x) => {
-            applied_name(alloc, g, *op, x)?;
-            Ok(())
-        }
+        Expr::Name(x) => variable(alloc, g, x),
+        Expr::Call(f, args) => called(alloc, g, f, args, true),
+        Expr::Reference(x, args) => element(alloc, g, x, args),
+        Expr::Unary(op, x) => applied_name(alloc, g, *op, x),
         Expr::Integer(_) | Expr::Literal(_) | Expr::Keyword(_) | Expr::Binary(_, _, _) => Ok(()),
     }
 }
@@ -108,8 +75,7 @@ fn applied_name<'a>(
     match op {
         Unary::Indirect => {
             value(alloc, g, x)?;
-            g.put(Instr::Indir)?;
-            Ok(())
+            g.put(Instr::Indir)
         }
         _ => Ok(()),
     }
@@ -131,44 +97,32 @@ fn applied<'a>(
     match op {
         Unary::NameOf => {
             name(alloc, g, x)?;
-            g.put(Instr::NameV)?;
-            Ok(())
+            g.put(Instr::NameV)
         }
         Unary::Cursor => {
             name(alloc, g, x)?;
-            g.put(Instr::Cursor)?;
-            Ok(())
+            g.put(Instr::Cursor)
         }
         Unary::Indirect => {
             value(alloc, g, x)?;
             g.put(Instr::Indir)?;
-            g.put(Instr::Fetch)?;
-            Ok(())
+            g.put(Instr::Fetch)
         }
-        Unary::Unevaluated => {
-            g.defer(x)?;
-            Ok(())
-        }
+        Unary::Unevaluated => g.defer(x),
         Unary::Plus => {
             value(alloc, g, x)?;
-            g.put(Instr::Sign(SignOp::Plus))?;
-            Ok(())
+            g.put(Instr::Sign(SignOp::Plus))
         }
         Unary::Minus => {
             value(alloc, g, x)?;
-            g.put(Instr::Sign(SignOp::Minus))?;
-            Ok(())
+            g.put(Instr::Sign(SignOp::Minus))
         }
         Unary::Interrogate => {
             value(alloc, g, x)?;
             g.put(Instr::Drop)?;
-            g.put(Instr::Null)?;
-            Ok(())
+            g.put(Instr::Null)
         }
-        Unary::Negate => {
-            negated(alloc, g, x)?;
-            Ok(())
-        }
+        Unary::Negate => negated(alloc, g, x),
     }
 }
 

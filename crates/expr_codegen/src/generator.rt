@@ -12,7 +12,6 @@ use model::{Bytes, Expr, Instr, Seq};
 use std::alloc::{AllocError, Global};
 
 /// The code so far and its tables.
-#[derive(Drop)]
 pub struct Generator<'a> {
     code: Vec<Instr>,
     at: u32,
@@ -21,6 +20,18 @@ pub struct Generator<'a> {
     taken: usize,
     ghost counted: { at ≡ total code.items },
     ghost within: { taken ≤ length waiting.items },
+}
+
+impl<'a> Drop for Generator<'a> {
+    fn drop(self) {
+        let Generator {
+            code: _,
+            at: _,
+            strings: _,
+            waiting: _,
+            taken: _,
+        } = self;
+    }
 }
 
 impl<'a> Generator<'a> {
@@ -113,7 +124,14 @@ impl<'a> Generator<'a> {
     pub fn into_code(self) -> Seq<Instr>
         ensures { result ≡ (gen_of self.entry).code }
     {
-        Seq::from_vec(self.code)
+        let Generator {
+            code,
+            at: _,
+            strings: _,
+            waiting: _,
+            taken: _,
+        } = self;
+        Seq::from_vec(code)
     }
 
     /// Changes instruction number `n` to one of the same length.

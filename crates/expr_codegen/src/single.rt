@@ -18,8 +18,7 @@ pub fn variable<'a>(alloc: Global, g: &mut Generator<'a>, name: &[u8]) -> Result
     ensures size { OnOk result (size (gen_of g.new) ≤ size (gen_of g.old) + 6) }
 {
     let number = g.string(alloc, name)?;
-    g.put(Instr::Var(number))?;
-    Ok(())
+    g.put(Instr::Var(number))
 }
 
 /// Puts a literal.
@@ -29,8 +28,7 @@ pub fn literal<'a>(alloc: Global, g: &mut Generator<'a>, text: &[u8]) -> Result<
     ensures size { OnOk result (size (gen_of g.new) ≤ size (gen_of g.old) + 6) }
 {
     let number = g.string(alloc, text)?;
-    g.put(Instr::Str(number))?;
-    Ok(())
+    g.put(Instr::Str(number))
 }
 
 /// Puts a keyword's value.
@@ -81,14 +79,10 @@ pub fn call<'a>(
     ensures size { OnOk result (size (gen_of g.new) ≤ size (gen_of g.old) + 8) }
 {
     match PrimId::named(function) {
-        Some(primitive) => {
-            g.put(primitive_call(wants_name, primitive, count as u8))?;
-            Ok(())
-        }
+        Some(primitive) => g.put(primitive_call(wants_name, primitive, count as u8)),
         None => {
             let name = g.string(alloc, function)?;
-            g.put(own_call(wants_name, name, count as u16))?;
-            Ok(())
+            g.put(own_call(wants_name, name, count as u16))
         }
     }
 }

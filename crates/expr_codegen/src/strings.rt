@@ -9,9 +9,14 @@ use std::alloc::{AllocError, Global};
 use std::marker::Model;
 
 /// Strings, numbered by first use.
-#[derive(Drop)]
 pub struct Strings {
     set: IndexSet<Vec<u8>>,
+}
+
+impl Drop for Strings {
+    fn drop(self) {
+        let Strings { set: _ } = self;
+    }
 }
 
 impl Model for Strings {

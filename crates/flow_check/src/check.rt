@@ -44,11 +44,20 @@ fn roots(alloc: Global, image: &Image) -> Result<Marks, AllocError>
 }
 
 /// How far the walk has come: the stacks and marks there are, and the shape that the instruction before leaves.
-#[derive(Drop)]
 struct Walk {
     pool: Pool,
     marks: Marks,
     carried: Option<Shape>,
+}
+
+impl Drop for Walk {
+    fn drop(self) {
+        let Walk {
+            pool: _,
+            marks: _,
+            carried: _,
+        } = self;
+    }
 }
 
 /// What follows where one shape comes; whether what is asked is there.
@@ -77,10 +86,7 @@ fn step(walk: &mut Walk, at: u32, instr: Instr) -> Result<bool, AllocError>
             Ok(true)
         }
         Some(Mark::Torn) => Ok(false),
-        Some(Mark::One(shape)) => {
-            let fine = follow(walk, at, rule_for(instr), shape)?;
-            Ok(fine)
-        }
+        Some(Mark::One(shape)) => follow(walk, at, rule_for(instr), shape),
     }
 }
 

@@ -9,6 +9,17 @@ use indexmap::IndexSet;
 use model::{Bytes, FormatRule, Miss, ReadError, Seq};
 use std::alloc::Global;
 
+/// The strings that stand in a table so far.
+struct Seen<'a> {
+    texts: IndexSet<&'a [u8]>,
+}
+
+impl<'a> Drop for Seen<'a> {
+    fn drop(self) {
+        let Seen { texts: _ } = self;
+    }
+}
+
 /// A length, and that many bytes.
 #[tactic(auto, unfolding(model::specs::Reading::text_at))]
 fn read_text(bytes: &[u8]) -> Result<(&[u8], &[u8]), Miss>
@@ -25,11 +36,13 @@ pub(crate) fn read_strings(alloc: Global, bytes: &[u8]) -> Result<(Seq<Bytes>, &
 {
     let (n, after) = read_count(MOST, bytes)?;
     let mut items = Vec::new(alloc);
-    let mut seen = IndexSet::new(alloc);
+    let mut seen = Seen {
+        texts: IndexSet::new(alloc),
+    };
     let mut rest = after;
     for _ in 0..n {
         let (text, behind) = read_text(rest)?;
-        if !seen.insert(text)? {
+        if !seen.texts.insert(text)? {
             return Err(ReadError::Fault(miss(FormatRule::BadTable, rest)));
         }
         items.push(Seq::from_vec(Vec::from_slice(alloc, text)?))?;

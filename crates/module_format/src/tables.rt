@@ -61,10 +61,9 @@ impl Table for Labels {
         let (string, rest) = read_u32(bytes)?;
         let (statement, rest) = read_u32(rest)?;
         match earlier.last() {
-            Some(newest) if statement <= newest.statement => Err(miss(
-                FormatRule::BadTable,
-                bytes,
-            ))?,
+            Some(newest) if statement <= newest.statement => {
+                Err(ReadError::Fault(miss(FormatRule::BadTable, bytes)))
+            }
             _ => Ok((Label { string, statement }, rest)),
         }
     }
@@ -86,7 +85,10 @@ impl Table for Statements {
     ) -> Result<(u32, &'a [u8]), ReadError> {
         let (n, rest) = read_u32(bytes)?;
         match earlier.last() {
-            Some(newest) if n <= *newest => Err(miss(FormatRule::BadTable, bytes))?,
+            Some(newest) if n <= *newest => Err(ReadError::Fault(miss(
+                FormatRule::BadTable,
+                bytes,
+            ))),
             _ => Ok((n, rest)),
         }
     }

@@ -13,9 +13,14 @@ use std::alloc::{AllocError, Global};
 use std::marker::Model;
 
 /// A set of labels.
-#[derive(Drop)]
 pub(crate) struct Labels<'a> {
     set: IndexSet<&'a [u8]>,
+}
+
+impl<'a> Drop for Labels<'a> {
+    fn drop(self) {
+        let Labels { set: _ } = self;
+    }
 }
 
 impl<'a> Model for Labels<'a> {

@@ -33,13 +33,24 @@ fn after_subject(
     ensures { Reads body_of (spec.after_subject depth (expr_of subject) cursor.old) result cursor.new }
 {
     if cursor.eat_spaced(Mark::Equal) {
-        return Ok(Body::Assign(subject, object(alloc, cursor, depth)?));
+        return match object(alloc, cursor, depth) {
+            Ok(object) => Ok(Body::Assign(subject, object)),
+            Err(stop) => {
+                drop(subject);
+                Err(stop)
+            }
+        };
     }
     if !cursor.enter() {
         return Ok(Body::Evaluate(subject));
     }
-    let pattern = whole(alloc, cursor, depth)?;
-    after_pattern(alloc, cursor, depth, subject, pattern)
+    match whole(alloc, cursor, depth) {
+        Ok(pattern) => after_pattern(alloc, cursor, depth, subject, pattern),
+        Err(stop) => {
+            drop(subject);
+            Err(stop)
+        }
+    }
 }
 
 #[tactic(auto, unfolding(model::specs::ParseStatements::after_pattern, model::specs::Parse::bind))]
@@ -55,8 +66,14 @@ fn after_pattern(
     if !cursor.eat_spaced(Mark::Equal) {
         return Ok(Body::Match(subject, pattern));
     }
-    let object = object(alloc, cursor, depth)?;
-    Ok(Body::Replace(subject, pattern, object))
+    match object(alloc, cursor, depth) {
+        Ok(object) => Ok(Body::Replace(subject, pattern, object)),
+        Err(stop) => {
+            drop(subject);
+            drop(pattern);
+            Err(stop)
+        }
+    }
 }
 
 /// `[B object]`

@@ -53,8 +53,13 @@ fn lefts(
         let Some(op) = cursor.operator(grade) else {
             return Ok(found);
         };
-        let right = graded(alloc, cursor, depth, grade - 1)?;
-        found = binary(alloc, op, found, right)?;
+        match graded(alloc, cursor, depth, grade - 1) {
+            Ok(right) => found = binary(alloc, op, found, right)?,
+            Err(stop) => {
+                drop(found);
+                return Err(stop);
+            }
+        }
     }
     Ok(found)
 }
@@ -133,6 +138,7 @@ fn bracketed(alloc: Global, cursor: &mut Cursor<'_>, depth: usize) -> Result<Exp
     if cursor.eat(Mark::Close) {
         Ok(inner)
     } else {
+        drop(inner);
         Err(Stop::NoTree)
     }
 }

@@ -30,16 +30,24 @@ fn exits(alloc: Global, cursor: &mut Cursor<'_>, depth: usize) -> Result<Goto, S
 {
     if cursor.eat_word(b"S") {
         let success = in_brackets(alloc, cursor, depth)?;
-        return match second(alloc, cursor, depth, b"F")? {
-            None => Ok(Goto::OnSuccess(success)),
-            Some(failure) => Ok(Goto::Both(success, failure)),
+        return match second(alloc, cursor, depth, b"F") {
+            Ok(None) => Ok(Goto::OnSuccess(success)),
+            Ok(Some(failure)) => Ok(Goto::Both(success, failure)),
+            Err(stop) => {
+                drop(success);
+                Err(stop)
+            }
         };
     }
     if cursor.eat_word(b"F") {
         let failure = in_brackets(alloc, cursor, depth)?;
-        return match second(alloc, cursor, depth, b"S")? {
-            None => Ok(Goto::OnFailure(failure)),
-            Some(success) => Ok(Goto::Both(success, failure)),
+        return match second(alloc, cursor, depth, b"S") {
+            Ok(None) => Ok(Goto::OnFailure(failure)),
+            Ok(Some(success)) => Ok(Goto::Both(success, failure)),
+            Err(stop) => {
+                drop(failure);
+                Err(stop)
+            }
         };
     }
     Ok(Goto::Always(in_brackets(alloc, cursor, depth)?))
@@ -75,6 +83,7 @@ fn in_brackets(alloc: Global, cursor: &mut Cursor<'_>, depth: usize) -> Result<P
     if cursor.eat(Mark::Close) {
         Ok(place)
     } else {
+        drop(place);
         Err(Stop::NoTree)
     }
 }

@@ -21,7 +21,13 @@ pub(crate) fn unary(alloc: Global, op: Unary, operand: Expr) -> Result<Expr, All
 pub(crate) fn binary(alloc: Global, op: Binary, left: Expr, right: Expr) -> Result<Expr, AllocError>
     ensures { IfOk result (λ e. expr_of e ≡ tree.Combine op (expr_of left) (expr_of right)) }
 {
-    Ok(Expr::Binary(op, Box::new(alloc, left)?, Box::new(alloc, right)?))
+    match Box::new(alloc, left) {
+        Ok(left) => Ok(Expr::Binary(op, left, Box::new(alloc, right)?)),
+        Err(failed) => {
+            drop(right);
+            Err(AllocError::from(failed))
+        }
+    }
 }
 
 /// The operands of `**` with the last, grouped to the right.

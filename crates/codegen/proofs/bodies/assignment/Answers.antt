@@ -1,17 +1,17 @@
 use Rattle.std.proofs.Common.{◌≡◌, ◌∙◌, sym, ap, option_map}
 use Rattle.model.specs.declared.instr.Instr.TheVariants as op
 use Rattle.model.specs.TreeViews.{expr_of, object_of}
-use Rattle.expr_codegen.proofs.Joins.{both, instr}
+use Rattle.expr_codegen.proofs.Joins.{both, instr, on_ok}
 use Rattle.expr_codegen.proofs.Constructs.{as_part}
 use Rattle.codegen.specs.Layout as layout
 use Rattle.codegen.proofs.bodies.assignment.Goals as goal
 
-pub returns-in_ok-key_set-in-Some-clause-emits : goal.returns-in_ok-key_set-in-Some-clause-emits
-returns-in_ok-key_set-in-Some-clause-emits c =
-    as_part (both c.in_ok-object-in-Some.ensures.emits c.in_ok-key_set-in-Some.ensures.emits)
-    (ap (λ k. layout.assignment k (expr_of c.args.subject.now) (object_of c.args.o.now)) (sym (ap (option_map (λ k. k.now)) c.in-Some.is) ∙ c.key_target.ensures))
+pub returns-in_ok-object-in-Some-clause-emits : goal.returns-in_ok-object-in-Some-clause-emits
+returns-in_ok-object-in-Some-clause-emits c =
+    on_ok _ _ _ c.key_set.ensures.emits (λ put. as_part (both c.in_ok-object-in-Some.ensures.emits put)
+    (ap (λ k. layout.assignment k (expr_of c.args.subject.now) (object_of c.args.o.now)) (sym (ap (option_map (λ k. k.now)) c.in-Some.is) ∙ c.key_target.ensures)))
 
-pub returns-in_ok-put-in-None-clause-emits : goal.returns-in_ok-put-in-None-clause-emits
-returns-in_ok-put-in-None-clause-emits c =
-    as_part (both c.in_ok-name-in-None.ensures.emits (both c.in_ok-object-in-None.ensures.emits (instr op.Assign _ _ c.in_ok-put-in-None.ensures.put)))
-    (ap (λ k. layout.assignment k (expr_of c.args.subject.now) (object_of c.args.o.now)) (sym (ap (option_map (λ k. k.now)) c.in-None.is) ∙ c.key_target.ensures))
+pub returns-in_ok-object-in-None-clause-emits : goal.returns-in_ok-object-in-None-clause-emits
+returns-in_ok-object-in-None-clause-emits c =
+    on_ok _ _ _ c.put.ensures.put (λ put. as_part (both c.in_ok-name-in-None.ensures.emits (both c.in_ok-object-in-None.ensures.emits (instr op.Assign _ _ put)))
+    (ap (λ k. layout.assignment k (expr_of c.args.subject.now) (object_of c.args.o.now)) (sym (ap (option_map (λ k. k.now)) c.in-None.is) ∙ c.key_target.ensures)))

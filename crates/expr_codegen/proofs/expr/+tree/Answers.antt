@@ -14,37 +14,42 @@ use Rattle.expr_codegen.specs.Code.{one, with_string, ◌>>◌}
 use Rattle.expr_codegen.specs.Emitting.{Countable, AllCountable, most_counted, with_instr, with_changed}
 use Rattle.expr_codegen.specs.Views as views
 use Rattle.expr_codegen.specs.Views.{gen_of}
-use Rattle.expr_codegen.proofs.Joins.{both, instr, deferred, changed, stays, nothing_put}
+use Rattle.expr_codegen.proofs.Joins.{both, instr, deferred, changed, stays, nothing_put, on_ok}
 use Rattle.expr_codegen.proofs.Constructs.{value_of_tree, name_of_tree, value_of_op, name_of_op, value_as, name_as, as_part, combined_is, last_of_five, no_name, no_target}
 use Rattle.expr_codegen.proofs.Arguments.{loop_begins, loop_step, loop_ends, next_argument, no_heavier, call_of_slice, reference_of_slice, name_weighs}
 use Rattle.expr_codegen.proofs.expr.+tree.Goals as goal
 
 -- ---- unary operators
 
-pub applied-returns-in_ok-put-in-NameOf-clause-emits : goal.applied-returns-in_ok-put-in-NameOf-clause-emits
-applied-returns-in_ok-put-in-NameOf-clause-emits t c = value_of_op c.args.op u.NameOf (expr_of c.args.x.now) c.in-NameOf.is (both c.in_ok-name-in-NameOf.ensures.emits (instr op.NameV _ _ c.in_ok-put-in-NameOf.ensures.put))
+pub applied-returns-in_ok-name-in-NameOf-clause-emits : goal.applied-returns-in_ok-name-in-NameOf-clause-emits
+applied-returns-in_ok-name-in-NameOf-clause-emits t c =
+    on_ok _ _ _ c.put.ensures.put (λ put. value_of_op c.args.op u.NameOf (expr_of c.args.x.now) c.in-NameOf.is (both c.in_ok-name-in-NameOf.ensures.emits (instr op.NameV _ _ put)))
 
-pub applied-returns-in_ok-put-in-Cursor-clause-emits : goal.applied-returns-in_ok-put-in-Cursor-clause-emits
-applied-returns-in_ok-put-in-Cursor-clause-emits t c = value_of_op c.args.op u.Cursor (expr_of c.args.x.now) c.in-Cursor.is (both c.in_ok-name-in-Cursor.ensures.emits (instr op.Cursor _ _ c.in_ok-put-in-Cursor.ensures.put))
+pub applied-returns-in_ok-name-in-Cursor-clause-emits : goal.applied-returns-in_ok-name-in-Cursor-clause-emits
+applied-returns-in_ok-name-in-Cursor-clause-emits t c =
+    on_ok _ _ _ c.put-in-Cursor.ensures.put (λ put. value_of_op c.args.op u.Cursor (expr_of c.args.x.now) c.in-Cursor.is (both c.in_ok-name-in-Cursor.ensures.emits (instr op.Cursor _ _ put)))
 
-pub applied-returns-in_ok-defer-in-Unevaluated-clause-emits : goal.applied-returns-in_ok-defer-in-Unevaluated-clause-emits
-applied-returns-in_ok-defer-in-Unevaluated-clause-emits t c = value_of_op c.args.op u.Unevaluated (expr_of c.args.x.now) c.in-Unevaluated.is (deferred _ _ _ _ refl c.in_ok-defer-in-Unevaluated.ensures.put)
+pub applied-returns-in-Unevaluated-clause-emits : goal.applied-returns-in-Unevaluated-clause-emits
+applied-returns-in-Unevaluated-clause-emits t c =
+    on_ok _ _ _ c.defer.ensures.put (λ put. value_of_op c.args.op u.Unevaluated (expr_of c.args.x.now) c.in-Unevaluated.is (deferred _ _ _ _ refl put))
 
-pub applied-returns-in_ok-put-in-Indirect-2-clause-emits : goal.applied-returns-in_ok-put-in-Indirect-2-clause-emits
-applied-returns-in_ok-put-in-Indirect-2-clause-emits t c =
-    value_of_op c.args.op u.Indirect (expr_of c.args.x.now) c.in-Indirect.is
-    (both c.in_ok-value-in-Indirect.ensures.emits (both (instr op.Indir _ _ c.in_ok-put-in-Indirect.ensures.put) (instr op.Fetch _ _ c.in_ok-put-in-Indirect-2.ensures.put)))
+pub applied-returns-in_ok-put-in-Indirect-clause-emits : goal.applied-returns-in_ok-put-in-Indirect-clause-emits
+applied-returns-in_ok-put-in-Indirect-clause-emits t c =
+    on_ok _ _ _ c.put-in-Indirect-2.ensures.put (λ put. value_of_op c.args.op u.Indirect (expr_of c.args.x.now) c.in-Indirect.is
+    (both c.in_ok-value-in-Indirect.ensures.emits (both (instr op.Indir _ _ c.in_ok-put-in-Indirect.ensures.put) (instr op.Fetch _ _ put))))
 
-pub applied-returns-in_ok-put-in-Plus-clause-emits : goal.applied-returns-in_ok-put-in-Plus-clause-emits
-applied-returns-in_ok-put-in-Plus-clause-emits t c = value_of_op c.args.op u.Plus (expr_of c.args.x.now) c.in-Plus.is (both c.in_ok-value-in-Plus.ensures.emits (instr _ _ _ c.in_ok-put-in-Plus.ensures.put))
+pub applied-returns-in_ok-value-in-Plus-clause-emits : goal.applied-returns-in_ok-value-in-Plus-clause-emits
+applied-returns-in_ok-value-in-Plus-clause-emits t c =
+    on_ok _ _ _ c.put-in-Plus.ensures.put (λ put. value_of_op c.args.op u.Plus (expr_of c.args.x.now) c.in-Plus.is (both c.in_ok-value-in-Plus.ensures.emits (instr _ _ _ put)))
 
-pub applied-returns-in_ok-put-in-Minus-clause-emits : goal.applied-returns-in_ok-put-in-Minus-clause-emits
-applied-returns-in_ok-put-in-Minus-clause-emits t c = value_of_op c.args.op u.Minus (expr_of c.args.x.now) c.in-Minus.is (both c.in_ok-value-in-Minus.ensures.emits (instr _ _ _ c.in_ok-put-in-Minus.ensures.put))
+pub applied-returns-in_ok-value-in-Minus-clause-emits : goal.applied-returns-in_ok-value-in-Minus-clause-emits
+applied-returns-in_ok-value-in-Minus-clause-emits t c =
+    on_ok _ _ _ c.put-in-Minus.ensures.put (λ put. value_of_op c.args.op u.Minus (expr_of c.args.x.now) c.in-Minus.is (both c.in_ok-value-in-Minus.ensures.emits (instr _ _ _ put)))
 
-pub applied-returns-in_ok-put-in-Interrogate-2-clause-emits : goal.applied-returns-in_ok-put-in-Interrogate-2-clause-emits
-applied-returns-in_ok-put-in-Interrogate-2-clause-emits t c =
-    value_of_op c.args.op u.Interrogate (expr_of c.args.x.now) c.in-Interrogate.is
-    (both c.in_ok-value-in-Interrogate.ensures.emits (both (instr op.Drop _ _ c.in_ok-put-in-Interrogate.ensures.put) (instr op.Null _ _ c.in_ok-put-in-Interrogate-2.ensures.put)))
+pub applied-returns-in_ok-put-in-Interrogate-clause-emits : goal.applied-returns-in_ok-put-in-Interrogate-clause-emits
+applied-returns-in_ok-put-in-Interrogate-clause-emits t c =
+    on_ok _ _ _ c.put-in-Interrogate-2.ensures.put (λ put. value_of_op c.args.op u.Interrogate (expr_of c.args.x.now) c.in-Interrogate.is
+    (both c.in_ok-value-in-Interrogate.ensures.emits (both (instr op.Drop _ _ c.in_ok-put-in-Interrogate.ensures.put) (instr op.Null _ _ put))))
 
 pub negated-change-requires : goal.negated-change-requires
 negated-change-requires t c =
@@ -59,8 +64,9 @@ negated-returns-clause-emits t c =
     c.at-target.ensures (instr op.Null _ _ c.in_ok-put-5.ensures.put)
     (c.change.ensures.put ∙ ap (λ n. with_changed n (op.Try c.at-target.result) (gen_of c.put-5.new.self)) c.len-number.ensures)
 
-pub applied_name-returns-in_ok-put-in-Indirect-clause-emits : goal.applied_name-returns-in_ok-put-in-Indirect-clause-emits
-applied_name-returns-in_ok-put-in-Indirect-clause-emits t c = name_of_op c.args.op u.Indirect (expr_of c.args.x.now) c.in-Indirect.is (both c.in_ok-value-in-Indirect.ensures.emits (instr op.Indir _ _ c.in_ok-put-in-Indirect.ensures.put))
+pub applied_name-returns-in_ok-value-in-Indirect-clause-emits : goal.applied_name-returns-in_ok-value-in-Indirect-clause-emits
+applied_name-returns-in_ok-value-in-Indirect-clause-emits t c =
+    on_ok _ _ _ c.put.ensures.put (λ put. name_of_op c.args.op u.Indirect (expr_of c.args.x.now) c.in-Indirect.is (both c.in_ok-value-in-Indirect.ensures.emits (instr op.Indir _ _ put)))
 
 -- ---- binary operators
 
@@ -121,25 +127,25 @@ element-returns-clause-emits t c =
 
 -- ---- each expression
 
-pub value-returns-in_ok-put-in-Name-clause-emits : goal.value-returns-in_ok-put-in-Name-clause-emits
-value-returns-in_ok-put-in-Name-clause-emits t c = value_of_tree c.args.e.now (e.Name c.in-Name.x) c.in-Name.is
-    (as_part (both c.in_ok-variable-in-Name.ensures.emits (instr op.Fetch _ _ c.in_ok-put-in-Name.ensures.put)) (ap (λ s. with_string op.Var s >> one op.Fetch) c.deref.ensures.value))
+pub value-returns-in_ok-variable-in-Name-clause-emits : goal.value-returns-in_ok-variable-in-Name-clause-emits
+value-returns-in_ok-variable-in-Name-clause-emits t c =
+    on_ok _ _ _ c.put.ensures.put (λ put. value_of_tree c.args.e.now (e.Name c.in-Name.x) c.in-Name.is
+    (as_part (both c.in_ok-variable-in-Name.ensures.emits (instr op.Fetch _ _ put)) (ap (λ s. with_string op.Var s >> one op.Fetch) c.deref.ensures.value)))
 
-pub value-returns-in_ok-put-in-Integer-clause-emits : goal.value-returns-in_ok-put-in-Integer-clause-emits
-value-returns-in_ok-put-in-Integer-clause-emits t c =
-    value_of_tree c.args.e.now (e.Integer c.in-Integer.z) c.in-Integer.is (instr (op.Int c.in-Integer.z) _ _ (c.in_ok-put-in-Integer.ensures.put ∙ ap (λ z. with_instr (op.Int z) (gen_of c.args.g.now)) (to_z-of_z w64 c.in-Integer.z (search rules))))
+pub value-returns-in-Integer-clause-emits : goal.value-returns-in-Integer-clause-emits
+value-returns-in-Integer-clause-emits t c =
+    on_ok _ _ _ c.put-in-Integer.ensures.put (λ put. value_of_tree c.args.e.now (e.Integer c.in-Integer.z) c.in-Integer.is (instr (op.Int c.in-Integer.z) _ _ (put ∙ ap (λ z. with_instr (op.Int z) (gen_of c.args.g.now)) (to_z-of_z w64 c.in-Integer.z (search rules)))))
 
-pub value-returns-in_ok-called-in-Call-clause-emits : goal.value-returns-in_ok-called-in-Call-clause-emits
-value-returns-in_ok-called-in-Call-clause-emits t c =
+pub value-returns-in-Call-clause-emits : goal.value-returns-in-Call-clause-emits
+value-returns-in-Call-clause-emits t c =
     let whole = ap expr_of c.in-Call.is ∙ call_of_slice c.in-Call.f c.in-Call.args c.deref-in-Call.result.now c.deref-in-Call-2.result.now c.deref-in-Call.ensures.value c.deref-in-Call-2.ensures.value in
-    value_as _ _ whole (as_part c.in_ok-called-in-Call.ensures.emits (ap (λ n. views.called false c.deref-in-Call.result.now (args_of c.deref-in-Call-2.result.now) n) (sym (count_is c.deref-in-Call-2.result.now))))
+    on_ok _ _ _ c.called.ensures.emits (λ put. value_as _ _ whole (as_part put (ap (λ n. views.called false c.deref-in-Call.result.now (args_of c.deref-in-Call-2.result.now) n) (sym (count_is c.deref-in-Call-2.result.now)))))
 
-pub value-returns-in_ok-called-in-Call-clause-size : goal.value-returns-in_ok-called-in-Call-clause-size
-value-returns-in_ok-called-in-Call-clause-size t c =
+pub value-returns-in-Call-clause-size : goal.value-returns-in-Call-clause-size
+value-returns-in-Call-clause-size t c =
     let whole = ap of_expr (ap expr_of c.in-Call.is ∙ call_of_slice c.in-Call.f c.in-Call.args c.deref-in-Call.result.now c.deref-in-Call-2.result.now c.deref-in-Call.ensures.value c.deref-in-Call-2.ensures.value) in
     let some = name_weighs c.deref-in-Call.result.now in
-    let s = c.in_ok-called-in-Call.ensures.size in
-    omega (arith, whole, some, s)
+    grind (arith, common_steps, whole, some, c.called.ensures.size)
 
 pub value-called-requires : goal.value-called-requires
 value-called-requires t c =
@@ -167,20 +173,19 @@ value-put-requires-in-Reference t c =
     let room = c.requires.room in
     omega (arith, whole, some, s, room)
 
-pub value-returns-in_ok-put-in-Reference-clause-emits : goal.value-returns-in_ok-put-in-Reference-clause-emits
-value-returns-in_ok-put-in-Reference-clause-emits t c =
+pub value-returns-in_ok-element-in-Reference-clause-emits : goal.value-returns-in_ok-element-in-Reference-clause-emits
+value-returns-in_ok-element-in-Reference-clause-emits t c =
     let whole = ap expr_of c.in-Reference.is ∙ reference_of_slice c.in-Reference.x c.in-Reference.args c.deref-in-Reference.result.now c.deref-in-Reference-2.result.now c.deref-in-Reference.ensures.value c.deref-in-Reference-2.ensures.value in
     let count = sym (count_is c.deref-in-Reference-2.result.now) in
     let first = as_part c.in_ok-element-in-Reference.ensures.emits (ap (λ n. views.element c.deref-in-Reference.result.now (args_of c.deref-in-Reference-2.result.now) n) count) in
-    value_as _ _ whole (last_of_five _ _ _ _ _ (both first (instr op.Fetch _ _ c.in_ok-put-in-Reference.ensures.put)))
+    on_ok _ _ _ c.put-in-Reference.ensures.put (λ put. value_as _ _ whole (last_of_five _ _ _ _ _ (both first (instr op.Fetch _ _ put))))
 
-pub value-returns-in_ok-put-in-Reference-clause-size : goal.value-returns-in_ok-put-in-Reference-clause-size
-value-returns-in_ok-put-in-Reference-clause-size t c =
+pub value-returns-in_ok-element-in-Reference-clause-size : goal.value-returns-in_ok-element-in-Reference-clause-size
+value-returns-in_ok-element-in-Reference-clause-size t c =
     let whole = ap of_expr (ap expr_of c.in-Reference.is ∙ reference_of_slice c.in-Reference.x c.in-Reference.args c.deref-in-Reference.result.now c.deref-in-Reference-2.result.now c.deref-in-Reference.ensures.value c.deref-in-Reference-2.ensures.value) in
     let some = name_weighs c.deref-in-Reference.result.now in
     let s = c.in_ok-element-in-Reference.ensures.size in
-    let more = c.in_ok-put-in-Reference.ensures.size in
-    omega (arith, whole, some, s, more)
+    grind (arith, common_steps, whole, some, s, c.put-in-Reference.ensures.size)
 
 -- ---- each name
 
@@ -193,17 +198,16 @@ name-called-requires t c =
     let room = c.requires.room in
     (omega (arith, weight, some, c.decreases), (countable.1, (subst (λ n. n ≤ most_counted (prim_named c.deref-in-Call.result.now)) (count_is c.deref-in-Call-2.result.now) countable.0, omega (arith, weight, some, room))))
 
-pub name-returns-in_ok-called-in-Call-clause-emits : goal.name-returns-in_ok-called-in-Call-clause-emits
-name-returns-in_ok-called-in-Call-clause-emits t c =
+pub name-returns-in-Call-clause-emits : goal.name-returns-in-Call-clause-emits
+name-returns-in-Call-clause-emits t c =
     let whole = ap expr_of c.in-Call.is ∙ call_of_slice c.in-Call.f c.in-Call.args c.deref-in-Call.result.now c.deref-in-Call-2.result.now c.deref-in-Call.ensures.value c.deref-in-Call-2.ensures.value in
-    name_as _ _ whole (as_part c.in_ok-called-in-Call.ensures.emits (ap (λ n. views.called true c.deref-in-Call.result.now (args_of c.deref-in-Call-2.result.now) n) (sym (count_is c.deref-in-Call-2.result.now))))
+    on_ok _ _ _ c.called.ensures.emits (λ put. name_as _ _ whole (as_part put (ap (λ n. views.called true c.deref-in-Call.result.now (args_of c.deref-in-Call-2.result.now) n) (sym (count_is c.deref-in-Call-2.result.now)))))
 
-pub name-returns-in_ok-called-in-Call-clause-size : goal.name-returns-in_ok-called-in-Call-clause-size
-name-returns-in_ok-called-in-Call-clause-size t c =
+pub name-returns-in-Call-clause-size : goal.name-returns-in-Call-clause-size
+name-returns-in-Call-clause-size t c =
     let whole = ap of_expr (ap expr_of c.in-Call.is ∙ call_of_slice c.in-Call.f c.in-Call.args c.deref-in-Call.result.now c.deref-in-Call-2.result.now c.deref-in-Call.ensures.value c.deref-in-Call-2.ensures.value) in
     let some = name_weighs c.deref-in-Call.result.now in
-    let s = c.in_ok-called-in-Call.ensures.size in
-    omega (arith, whole, some, s)
+    grind (arith, common_steps, whole, some, c.called.ensures.size)
 
 pub name-element-requires : goal.name-element-requires
 name-element-requires t c =
@@ -214,18 +218,17 @@ name-element-requires t c =
     let room = c.requires.room in
     (omega (arith, weight, some, c.decreases), (countable.1, (subst (λ n. n ≤ 65535) (count_is c.deref-in-Reference-2.result.now) countable.0, omega (arith, weight, some, room))))
 
-pub name-returns-in_ok-element-in-Reference-clause-emits : goal.name-returns-in_ok-element-in-Reference-clause-emits
-name-returns-in_ok-element-in-Reference-clause-emits t c =
+pub name-returns-in-Reference-clause-emits : goal.name-returns-in-Reference-clause-emits
+name-returns-in-Reference-clause-emits t c =
     let whole = ap expr_of c.in-Reference.is ∙ reference_of_slice c.in-Reference.x c.in-Reference.args c.deref-in-Reference.result.now c.deref-in-Reference-2.result.now c.deref-in-Reference.ensures.value c.deref-in-Reference-2.ensures.value in
     let count = sym (count_is c.deref-in-Reference-2.result.now) in
-    name_as _ _ whole (as_part c.in_ok-element-in-Reference.ensures.emits (ap (λ n. views.element c.deref-in-Reference.result.now (args_of c.deref-in-Reference-2.result.now) n) count))
+    on_ok _ _ _ c.element.ensures.emits (λ put. name_as _ _ whole (as_part put (ap (λ n. views.element c.deref-in-Reference.result.now (args_of c.deref-in-Reference-2.result.now) n) count)))
 
-pub name-returns-in_ok-element-in-Reference-clause-size : goal.name-returns-in_ok-element-in-Reference-clause-size
-name-returns-in_ok-element-in-Reference-clause-size t c =
+pub name-returns-in-Reference-clause-size : goal.name-returns-in-Reference-clause-size
+name-returns-in-Reference-clause-size t c =
     let whole = ap of_expr (ap expr_of c.in-Reference.is ∙ reference_of_slice c.in-Reference.x c.in-Reference.args c.deref-in-Reference.result.now c.deref-in-Reference-2.result.now c.deref-in-Reference.ensures.value c.deref-in-Reference-2.ensures.value) in
     let some = name_weighs c.deref-in-Reference.result.now in
-    let s = c.in_ok-element-in-Reference.ensures.size in
-    omega (arith, whole, some, s)
+    grind (arith, common_steps, whole, some, c.element.ensures.size)
 
 pub name-returns-in-Integer-clause-emits : goal.name-returns-in-Integer-clause-emits
 name-returns-in-Integer-clause-emits t c = no_target c.args.e.now c.in-Integer.is

@@ -1,6 +1,6 @@
 use Rattle.model.specs.declared.instr.Instr.TheVariants as op
-use Rattle.expr_codegen.proofs.Joins.{text}
+use Rattle.expr_codegen.proofs.Joins.{on_ok, text}
 use Rattle.expr_codegen.proofs.single.literal.Goals as goal
 
 pub returns-clause-emits : goal.returns-clause-emits
-returns-clause-emits c = text op.Str _ c.in_ok-number.number _ _ _ c.in_ok-number.ensures.numbered c.in_ok-put.ensures.put
+returns-clause-emits c = on_ok _ _ _ c.put.ensures.put (text op.Str _ c.in_ok-number.number _ _ _ c.in_ok-number.ensures.numbered)

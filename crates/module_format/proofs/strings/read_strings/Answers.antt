@@ -14,15 +14,15 @@ returns-in_err-text c =
 
 pub returns-then-not-branch : goal.returns-then-not-branch
 returns-then-not-branch c =
-    let old : is_new c.loop.items.items c.in_ok-text.text.now ≡ false = sym (is_new_text c.in_ok-text.text.now c.loop.seen.keys c.loop.items.items c.in_ok-insert.field-0 c.loop.invariant.seen c.in_ok-insert.ensures.added) ∙ c.if-not-branch.true in
+    let old : is_new c.loop.items.items c.in_ok-text.text.now ≡ false = sym (is_new_text c.in_ok-text.text.now c.loop.seen.texts.keys c.loop.items.items c.in_ok-insert.field-0 c.loop.invariant.seen c.in_ok-insert.ensures.added) ∙ c.if-not-branch.true in
     rw (c.miss.ensures) (ends string_at (errors.Fault _) c.loop.items.items c.in_ok-n.n c.loop.counter c.loop.rest.now (table_at string_at c.args.bytes.now) c.loop.items.items refl c.loop-test.true (text_old c.loop.items.items c.loop.rest.now (c.in_ok-text.text.now, c.in_ok-text.behind.now) c.in_ok-text.ensures old) c.loop.invariant.so_far)
 
 pub loop-preserved : goal.loop-preserved
 loop-preserved c =
-    let new : is_new c.loop.items.items c.in_ok-text.text.now ≡ true = sym (is_new_text c.in_ok-text.text.now c.loop.seen.keys c.loop.items.items c.in_ok-insert.field-0 c.loop.invariant.seen c.in_ok-insert.ensures.added) ∙ c.if-not-branch.false in
+    let new : is_new c.loop.items.items c.in_ok-text.text.now ≡ true = sym (is_new_text c.in_ok-text.text.now c.loop.seen.texts.keys c.loop.items.items c.in_ok-insert.field-0 c.loop.invariant.seen c.in_ok-insert.ensures.added) ∙ c.if-not-branch.false in
     rw (c.in_ok-push.ensures.items, c.from_vec.ensures, c.in_ok-from_slice.ensures.items) record {
       so_far = goes_on string_at c.loop.items.items c.in_ok-n.n c.loop.counter c.loop.rest.now c.in_ok-text.text.now c.in_ok-text.behind.now (table_at string_at c.args.bytes.now) c.loop.items.items refl c.loop-test.true (text_new c.loop.items.items c.loop.rest.now (c.in_ok-text.text.now, c.in_ok-text.behind.now) c.in_ok-text.ensures new) c.loop.invariant.so_far;
-      seen = with_text c.in_ok-text.text c.loop.seen.keys c.insert.new.self.keys c.loop.items.items c.in_ok-insert.field-0 c.loop.invariant.seen c.in_ok-insert.ensures.added c.in_ok-insert.ensures.keys c.if-not-branch.false;
+      seen = with_text c.in_ok-text.text c.loop.seen.texts.keys c.insert.new.self.keys c.loop.items.items c.in_ok-insert.field-0 c.loop.invariant.seen c.in_ok-insert.ensures.added c.in_ok-insert.ensures.keys c.if-not-branch.false;
     }
 
 pub returns : goal.returns

@@ -51,17 +51,17 @@ lefts-returns-in_default t c =
     e ∙ lefts_stop (graded (element c.args.depth) (c.args.grade - 1)) c.args.grade (c.len-turn-end.result - (c.loop-turn._turn + 1)) (expr_of c.loop-turn.found) c.loop-turn.cursor c.in_default.ensures.0
     ∙ ap (λ r. Some (expr_of c.loop-turn.found, r)) (sym c.in_default.ensures.1)
 
-pub lefts-returns-in_err-right : goal.lefts-returns-in_err-right
+pub lefts-returns-in-Err : goal.lefts-returns-in-Err
 unfolding spec.lefts spec.on spec.bind
-lefts-returns-in_err-right t c =
+lefts-returns-in-Err t c =
     let e = one_more (λ n. lefts (graded (element c.args.depth) (c.args.grade - 1)) c.args.grade n (expr_of c.loop-turn.found) c.loop-turn.cursor) c.len-turn-end.result c.loop-turn._turn c.loop-turn-test.true c.loop-turn.invariant in
     first_of (search rules, grind (arith, common_steps))
 
 pub lefts-loop-turn-preserved : goal.lefts-loop-turn-preserved
 lefts-loop-turn-preserved t c =
     let e = one_more (λ n. lefts (graded (element c.args.depth) (c.args.grade - 1)) c.args.grade n (expr_of c.loop-turn.found) c.loop-turn.cursor) c.len-turn-end.result c.loop-turn._turn c.loop-turn-test.true c.loop-turn.invariant in
-    e ∙ lefts_go (graded (element c.args.depth) (c.args.grade - 1)) c.args.grade (c.len-turn-end.result - (c.loop-turn._turn + 1)) (expr_of c.loop-turn.found) c.loop-turn.cursor c.in-Some.op c.operator.new.self (expr_of c.in_ok-right.right) c.graded.new.cursor c.in-Some.ensures.0 c.in-Some.ensures.1 c.in_ok-right.ensures
-    ∙ ap (λ x. lefts (graded (element c.args.depth) (c.args.grade - 1)) c.args.grade (c.len-turn-end.result - (c.loop-turn._turn + 1)) x c.graded.new.cursor) (sym c.in_ok-found.ensures)
+    e ∙ lefts_go (graded (element c.args.depth) (c.args.grade - 1)) c.args.grade (c.len-turn-end.result - (c.loop-turn._turn + 1)) (expr_of c.loop-turn.found) c.loop-turn.cursor c.in-Some.op c.operator.new.self (expr_of c.in-Ok.right) c.graded.new.cursor c.in-Some.ensures.0 c.in-Some.ensures.1 c.in-Ok.ensures
+    ∙ ap (λ x. lefts (graded (element c.args.depth) (c.args.grade - 1)) c.args.grade (c.len-turn-end.result - (c.loop-turn._turn + 1)) x c.graded.new.cursor) (sym c.in_ok-found-in-Ok.ensures)
 
 pub lefts-returns : goal.lefts-returns
 lefts-returns t c =
