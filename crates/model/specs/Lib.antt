@@ -58,6 +58,7 @@ pub mod TreeRows
 pub mod Lexed
 pub mod RulesUsed
 pub mod StepBound
+pub mod MeaningLaws
 pub mod Flow
 pub mod WellFormed
 pub mod ValueLaws

@@ -28,7 +28,9 @@ pub use format::{FormatFault, FormatRule, LoadFault, Miss, ModuleFault, ModuleRu
 pub use image::{Image, Label, PatInstr};
 pub use instr::{ArithOp, Instr, ReturnKind, SignOp};
 pub use keys::KeyId;
-pub use laws_agreement::{agreement, matches_step, meaning_stays, run_steps_are_bounded};
+pub use laws_agreement::{
+    agreement, counts_stay, matches_step, meaning_stays, queries_stay, run_steps_are_bounded,
+};
 pub use laws_bytes::{read_is_spelt, spelling_rows, spelt_is_read};
 pub use laws_cards::worked_decks;
 pub use laws_decks::{accepted_decks_fit, decks_fit, end_is_last, trees_fit};
