@@ -61,5 +61,6 @@ pub mod StepBound
 pub mod MeaningLaws
 pub mod Flow
 pub mod WellFormed
+pub mod LeastFaults
 pub mod ValueLaws
 pub mod Loading
