@@ -62,5 +62,7 @@ pub mod MeaningLaws
 pub mod Flow
 pub mod WellFormed
 pub mod LeastFaults
+pub mod WellFormedRows
+pub mod FlowRows
 pub mod ValueLaws
 pub mod Loading
