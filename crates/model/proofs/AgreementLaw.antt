@@ -7,13 +7,13 @@ use Rattle.model.specs.Trees.{Bytes, Expr}
 use Rattle.model.specs.Programs.{Program, program}
 use Rattle.model.specs.Pattern as p
 use Rattle.model.specs.Values.{Value, trees, printed_of, first_value}
-use Rattle.model.specs.Meaning.{W, Res, Done, Fails, Ends, Open, run_rule, run}
+use Rattle.model.specs.Meaning.{W, Res, Done, Fails, Ends, Open, Settled, run_rule, run}
 use Rattle.model.specs.Machine.{MW, codes_of, Module, State, Run, InMatch, Over, Stuck, to_stmt, begun, steps, world_of}
 use Rattle.model.specs.Modules.{module_of}
 use Rattle.model.specs.Placed.{Placed}
 use Rattle.model.specs.Alike.{VR, rstr, rpat, onil, WR}
 use Rattle.model.specs.Agreement.{Records, IsBeginning, seen_of, seen_at, Inputs, first_w, first_m, AgreesWherePlaced}
-use Rattle.model.proofs.MeaningGrows.{Before, before_refl, Goes_on, Settled}
+use Rattle.model.proofs.MeaningGrows.{Before, before_refl, Goes_on}
 use Rattle.model.proofs.Following.{Follows, Fits, Goes, sim_all, follow_fits, follow_goes, goes_all, steps_add, Still}
 use Rattle.model.proofs.StatementsFollow.{local}
 use Rattle.model.proofs.Asking.{from, faulted}

@@ -4,7 +4,7 @@ use Rattle.model.specs.declared.run.Ending.{Ending}
 use Rattle.model.specs.Trees.{Bytes, Expr, Call, Reference, Apply, Combine, Args, Nil, More, Absent, Given, Body, Nothing, Evaluate, Match, Assign, Replace}
 use Rattle.model.specs.Programs.{Program}
 use Rattle.model.specs.Values.{Pattern, printed_of}
-use Rattle.model.specs.Meaning.{W, Res, Done, Fails, Ends, Open, Query, QVal, QName, QArgs, QBody, QExec, QMatch, Ans, Rule, Ret, Fail, Stop, Ask, Seek, Event, sought, rule, after, meaning}
+use Rattle.model.specs.Meaning.{W, Res, Done, Fails, Ends, Open, Settled, Query, QVal, QName, QArgs, QBody, QExec, QMatch, Ans, Rule, Ret, Fail, Stop, Ask, Seek, Event, sought, rule, after, meaning}
 use Rattle.model.specs.Machine.{MVal, MW, Module, Operand, OV, ON, Matching, Frame, InCall, InEval, found_as, Handler, OnBegin, OnTry, State, Run, InMatch, Over, Stuck, fail_to, return_to, step, steps}
 use Rattle.model.specs.Placed.{CodeV, CodeN, CodeA, CodeB}
 use Rattle.model.specs.Pattern.{Running}
@@ -12,7 +12,7 @@ use Rattle.model.specs.Steps as S
 use Rattle.model.specs.Search.{Script}
 use Rattle.model.specs.Stands.{Stands, Alike}
 use Rattle.model.specs.Alike.{VR, VRs, WR}
-use Rattle.model.proofs.MeaningGrows.{at_depth, Before, before_refl, Goes_on, Later, later, Settled, stays, follow_stays}
+use Rattle.model.proofs.MeaningGrows.{at_depth, Before, before_refl, Goes_on, Later, later, stays, follow_stays}
 
 -- the newest handler's operands are there
 abbrev pub Fit : List Handler → List Operand → Type 0

@@ -3,12 +3,12 @@ use Rattle.std.proofs.Common.{◌≡◌, zero, suc, ◌+◌, [], ◌++◌, Optio
 use Rattle.model.specs.declared.run.Ending.{Ending}
 use Rattle.model.specs.Programs.{Program, program}
 use Rattle.model.specs.Values.{printed_of}
-use Rattle.model.specs.Meaning.{W, Res, Done, Fails, Ends, Open, run_rule, run, meaning}
+use Rattle.model.specs.Meaning.{W, Res, Done, Fails, Ends, Open, Settled, run_rule, run, meaning}
 use Rattle.model.specs.Agreement.{Records, IsBeginning, seen_of, first_w, mean, EndingStays, PrintedGrows}
-use Rattle.model.proofs.MeaningGrows.{before_refl, Goes_on, Later, later, Grows, same, open_to, Settled, grows, follow_grows, follow_stays, zero_and, suc_and}
+use Rattle.model.proofs.MeaningGrows.{before_refl, Goes_on, Later, later, Grows, same, open_to, grows, follow_grows, follow_stays, zero_and, suc_and}
 use Rattle.model.proofs.MeaningPrints.{on}
 
-settled_of : (r : Res (record {})) (e : Ending) → (seen_of r).ending ≡ Some e → Settled r
+pub settled_of : (r : Res (record {})) (e : Ending) → (seen_of r).ending ≡ Some e → Settled r
 settled_of (Done a w) e h = tt
 settled_of (Fails w) e h = tt
 settled_of (Ends f w) e h = tt
@@ -18,7 +18,7 @@ settled_of (Open w) e h = subst IsNone h tt
     IsNone None = Unit {0}
     IsNone (Some e) = ⊥
 
-run_on : (prog : Program) (w : W) → Goes_on w (run_rule prog w)
+pub run_on : (prog : Program) (w : W) → Goes_on w (run_rule prog w)
 run_on prog w = (before_refl w, (λ l v b. before_refl v), (λ v b. before_refl v))
 
 pub ending_stays : EndingStays

@@ -2,7 +2,7 @@
 use Rattle.std.proofs.Common.{◌≡◌, ℕ, zero, suc, ◌+◌, Option, Some, None, List, [], ◌++◌, refl, sym, ap, ◌∙◌, subst, append_assoc, append-nil, arith}
 use Rattle.model.specs.Programs.{Program}
 use Rattle.model.specs.Values.{World, printed_of}
-use Rattle.model.specs.Meaning.{W, Res, Done, Fails, Ends, Open, Query, Ans, Rule, Ret, Fail, Stop, Ask, Seek, Event, sought, rule, after, follow, meaning}
+use Rattle.model.specs.Meaning.{W, Res, Done, Fails, Ends, Open, Settled, Query, Ans, Rule, Ret, Fail, Stop, Ask, Seek, Event, sought, rule, after, follow, meaning}
 
 world_in : {A : Type 0} → Res A → W
 world_in (Done a w) = w
@@ -115,12 +115,6 @@ module _ (prog : Program) (on : (q : Query) (w : W) → Goes_on w (rule prog q w
   unfolding meaning
   grows zero q w = open_to (later 1 q w)
   grows (suc n) q w = follow_grows (suc n) (λ r v. meaning prog n r v) (λ r v. meaning prog (suc n) r v) (grows n) (later (suc n)) w (rule prog q w) (on q w)
-
-abbrev pub Settled : {A : Type 0} → Res A → Type 0
-Settled (Done a w) = Unit {0}
-Settled (Fails w) = Unit {0}
-Settled (Ends e w) = Unit {0}
-Settled (Open w) = ⊥
 
 pub grows_settled : {A : Type 0} {r s : Res A} → Grows r s → Settled r → s ≡ r
 grows_settled same h = refl

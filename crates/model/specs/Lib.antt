@@ -58,7 +58,11 @@ pub mod TreeRows
 pub mod Lexed
 pub mod RulesUsed
 pub mod StepBound
+pub mod MeaningLaws
 pub mod Flow
 pub mod WellFormed
+pub mod LeastFaults
+pub mod WellFormedRows
+pub mod FlowRows
 pub mod ValueLaws
 pub mod Loading

@@ -43,6 +43,13 @@ pub data Res (A : Type 0) : Type 0 where
   Ends : Ending → W → Res A
   Open : W → Res A
 
+-- more than nothing yet
+abbrev pub Settled : {A : Type 0} → Res A → Type 0
+Settled (Done a w) = Unit {0}
+Settled (Fails w) = Unit {0}
+Settled (Ends e w) = Unit {0}
+Settled (Open w) = ⊥
+
 -- what can be asked for
 pub data Query : Type 0 where
   QVal : Expr → Query

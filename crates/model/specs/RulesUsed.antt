@@ -114,7 +114,8 @@ match_count m (Matched b e a) n w = n
 match_count m (Asks (SayThat x v)) n w = said_count n (assign_op x (told_value v) w)
 match_count m (Asks (AskFor e k)) n w = evaluated_count n k (m (QVal e) w)
 
--- a statement that is run counts one: END doesn't, nor one that the limit keeps from being run
+-- a statement that is run counts one: END doesn't, nor one that the limit keeps from being run; a call and its return count
+-- nothing beside the statements and nodes in it
 abbrev pub stmt_count : Option Stmt → W → ℕ
 stmt_count None w = 0
 stmt_count (Some (End e)) w = 0

@@ -2,6 +2,7 @@
 
 ghost use Rattle.model.specs.Agreement.{AgreesWherePlaced, EndingStays, PrintedGrows};
 ghost use Rattle.model.specs.StepBound.{RunStepsBounded};
+ghost use Rattle.model.specs.MeaningLaws.{AnswersStay, MatchesStay, CountsStay, RulesStay};
 ghost use Rattle.model.specs.MatchLaws.{MatchRuns, MatchComes};
 
 /// A module does what its program does, wherever the code of each statement stands.
@@ -25,4 +26,16 @@ pub fn matches_step()
 pub fn meaning_stays()
     ensures ending { EndingStays }
     ensures printed { PrintedGrows }
+{}
+
+/// Going deeper, what is asked for comes to the same once it has come to anything, a match among the rest.
+pub fn queries_stay()
+    ensures answers { AnswersStay }
+    ensures matches { MatchesStay }
+{}
+
+/// Going deeper, the rules used for what has come to anything stay, and so do those of a deck whose meaning has ended.
+pub fn counts_stay()
+    ensures counts { CountsStay }
+    ensures rules { RulesStay }
 {}

@@ -11,6 +11,7 @@ mod laws_agreement;
 mod laws_bytes;
 mod laws_cards;
 mod laws_decks;
+mod laws_modules;
 mod laws_names;
 mod laws_patterns;
 mod laws_tokens;
@@ -28,10 +29,13 @@ pub use format::{FormatFault, FormatRule, LoadFault, Miss, ModuleFault, ModuleRu
 pub use image::{Image, Label, PatInstr};
 pub use instr::{ArithOp, Instr, ReturnKind, SignOp};
 pub use keys::KeyId;
-pub use laws_agreement::{agreement, matches_step, meaning_stays, run_steps_are_bounded};
+pub use laws_agreement::{
+    agreement, counts_stay, matches_step, meaning_stays, queries_stay, run_steps_are_bounded,
+};
 pub use laws_bytes::{read_is_spelt, spelling_rows, spelt_is_read};
 pub use laws_cards::worked_decks;
 pub use laws_decks::{accepted_decks_fit, decks_fit, end_is_last, trees_fit};
+pub use laws_modules::{least_fault_is_told, worked_images};
 pub use laws_names::{key_names, prim_names};
 pub use laws_patterns::{
     answers_come_later, answers_stay, code_means_its_pattern, ends_are_permitted,

@@ -1,0 +1,18 @@
+//! Laws of well-formed modules: functions that do nothing, each with a contract that says the law.
+
+ghost use Rattle.model.specs.FlowRows.{FlowRows};
+ghost use Rattle.model.specs.LeastFaults.{LeastIsTold, OneIsTold};
+ghost use Rattle.model.specs.WellFormedRows.{PartsMeetCases};
+
+/// Of all faults that an image has, the one of least offset is told, and of these the one of least number; none is told
+/// where it has none.
+pub fn least_fault_is_told()
+    ensures least { LeastIsTold }
+    ensures one { OneIsTold }
+{}
+
+/// The worked cases of well-formedness: the first fault of the parts of each image, and where the flow is kept or broken.
+pub fn worked_images()
+    ensures parts { PartsMeetCases }
+    ensures flow { FlowRows }
+{}
