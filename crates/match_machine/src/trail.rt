@@ -1,6 +1,6 @@
 //! Where the attempt under way stands, and the choices that are gone back to.
 
-ghost use Rattle.std.specs.Prelude.{◌≡◌, ◌∷◌, ◌++◌, List, [], true, false, Bool, IfOk, OnOk, OnErr, MatchOption, length, reverse, Some, None, option_copied, if◌then◌else◌};
+ghost use Rattle.std.specs.Prelude.{◌≡◌, ◌∷◌, ◌++◌, List, [], true, false, Bool, IfOk, OnOk, OnErr, MatchOption, length, reverse, take, Some, None, option_copied, if◌then◌else◌};
 ghost use Rattle.model.specs.Steps as s;
 ghost use Rattle.model.specs.Steps.{Code};
 ghost use Rattle.model.specs.Pattern.{Pending};
@@ -244,12 +244,12 @@ impl Trail {
     {
         match self.choices.pop() {
             Some(choice) => {
+                let stored = self.stored;
                 self.stored = false;
-                self.codes.truncate(choice.codes);
                 self.head = choice.head;
                 self.log.truncate(choice.log);
                 self.pending.truncate(choice.pending);
-                self.code = last_of(self.codes.as_slice())?;
+                cut_codes(&mut self.code, stored, &mut self.codes, choice.codes)?;
                 self.stored = true;
                 Ok(Some(choice))
             }
@@ -338,6 +338,25 @@ fn store(code: &PatCode, stored: bool, codes: &mut Vec<PatCode>) -> Result<(), A
         let copy = code.clone()?;
         codes.push(copy)?;
     }
+    Ok(())
+}
+
+/// The codes cut to a length, and the last that is left. Where nothing is cut off, the stored code stays.
+fn cut_codes(
+    code: &mut PatCode,
+    stored: bool,
+    codes: &mut Vec<PatCode>,
+    len: usize,
+) -> Result<(), AllocError>
+    requires { stored ≡ true → last_code codes.old.items ≡ code.old }
+    ensures codes { codes.new.items ≡ take len codes.old.items }
+    ensures code { OnOk result (code.new ≡ last_code (take len codes.old.items)) }
+{
+    if stored && codes.len() <= len {
+        return Ok(());
+    }
+    codes.truncate(len);
+    *code = last_of(codes.as_slice())?;
     Ok(())
 }
 
