@@ -5,7 +5,7 @@ DECK ?= examples/hello.sno
 INPUT ?=
 
 PROGRAM := crates/sno
-BENCHES := $(wildcard crates/*_bench)
+BENCHES := $(wildcard crates/bench_*)
 # What a proof reads, folders too, so that a file that goes is noticed.
 SOURCES := crates.txt $(shell find crates/*/src crates/*/specs crates/*/proofs 2>/dev/null)
 # Whether the program's words name files for units.
@@ -61,7 +61,7 @@ check: toolchain ## prove every crate over what earlier checks kept
 	@$(RT) all check
 
 bench: toolchain ## prove, build and run the benchmark programs
-	@: $(if $(BENCHES),,$(error there are no benchmark programs yet: no crate crates/*_bench))
+	@: $(if $(BENCHES),,$(error there are no benchmark programs yet: no crate crates/bench_*))
 	@for crate in $(BENCHES); do echo "bench: $$crate"; (cd $$crate && $(RT) run -- time < /dev/null) || exit 1; done
 
 fmt: toolchain ## lay out every crate's files
