@@ -6,7 +6,7 @@ INPUT ?=
 CRATE ?=
 
 PROGRAM := crates/sno
-BENCHES := $(wildcard crates/*_bench)
+BENCHES := $(wildcard crates/bench_*)
 export RT
 # The program as the gate leaves it: as LLVM built it, and as Rattle's own compiler did.
 BUILT := $(PROGRAM)/out/sno $(PROGRAM)/out/sno.by-rattle
@@ -77,7 +77,7 @@ check: toolchain ## prove every crate over what earlier checks kept
 	@$(RT) all check
 
 bench: toolchain ## prove, build and run the benchmark programs
-	@: $(if $(BENCHES),,$(error there are no benchmark programs yet: no crate crates/*_bench))
+	@: $(if $(BENCHES),,$(error there are no benchmark programs yet: no crate crates/bench_*))
 	@for crate in $(BENCHES); do echo "bench: $$crate"; (cd $$crate && $(RT) run -- time < /dev/null) || exit 1; done
 
 fmt: toolchain ## lay out every crate's files
