@@ -1,8 +1,8 @@
 //! Instructions as bytes.
 
-ghost use Rattle.std.specs.Prelude.{◌≡◌, [], ◌∷◌, ◌++◌, OnOk, OnErr};
+ghost use Rattle.std.specs.Prelude.{◌≡◌, ◌⊎◌, [], ◌∷◌, ◌++◌, OnOk, OnErr, slice_get};
 ghost use Rattle.model.specs.Spelling.{instr, u16 as u16_bytes, u32 as u32_bytes};
-ghost use Rattle.model.specs.Reading.{Finds, instr_of};
+ghost use Rattle.model.specs.Reading.{Finds, instr_of, readers, ◌>>>◌};
 ghost use Rattle.code_format.specs.Places.{instr_at};
 
 use crate::codes::{ARITH_OPS, RETURN_KINDS, SIGN_OPS, coded};
@@ -11,113 +11,110 @@ use byteorder::{BigEndian, ByteOrder};
 use model::{FormatFault, FormatRule, Instr, KeyId, PrimId};
 use std::alloc::AllocError;
 
+/// The instruction with a number of 4 bytes that has this code, and what is behind it.
+#[tactic(auto, unfolding(model::specs::Reading::readers, model::specs::Reading::wide))]
+fn wide(code: u8, bytes: &[u8]) -> Option<(Instr, &[u8])>
+    requires { (code ≡ 1) ⊎ (code ≡ 3) ⊎ (code ≡ 7) ⊎ (code ≡ 10) ⊎ (code ≡ 18) ⊎ (code ≡ 24) ⊎ (code ≡ 34) }
+    ensures { Finds (λ x. (x.0, x.1.now)) result (slice_get readers code >>> λ r. r bytes.now) }
+{
+    let (n, rest) = first_u32(bytes)?;
+    match code {
+        1 => Some((Instr::Begin(n), rest)),
+        3 => Some((Instr::Goto(n), rest)),
+        7 => Some((Instr::Str(n), rest)),
+        10 => Some((Instr::Var(n), rest)),
+        18 => Some((Instr::Expr(n), rest)),
+        24 => Some((Instr::Try(n), rest)),
+        _ => Some((Instr::Pat(n), rest)),
+    }
+}
+
+/// The instruction with a choice that has this code, and what is behind it.
+#[tactic(auto, unfolding(model::specs::Reading::readers, model::specs::Reading::choice))]
+fn choice(code: u8, bytes: &[u8]) -> Option<(Instr, &[u8])>
+    requires { (code ≡ 4) ⊎ (code ≡ 12) ⊎ (code ≡ 13) ⊎ (code ≡ 27) ⊎ (code ≡ 28) }
+    ensures { Finds (λ x. (x.0, x.1.now)) result (slice_get readers code >>> λ r. r bytes.now) }
+{
+    let (x, rest) = first_byte(bytes)?;
+    match code {
+        4 => Some((Instr::Return(coded(&RETURN_KINDS, x)?), rest)),
+        12 => Some((Instr::KeyGet(coded(&KeyId::ALL, x)?), rest)),
+        13 => Some((Instr::KeySet(coded(&KeyId::ALL, x)?), rest)),
+        27 => Some((Instr::Sign(coded(&SIGN_OPS, x)?), rest)),
+        _ => Some((Instr::Arith(coded(&ARITH_OPS, x)?), rest)),
+    }
+}
+
+/// The call that has this code, and what is behind it.
+#[tactic(auto, unfolding(model::specs::Reading::readers, model::specs::Reading::call))]
+fn call(code: u8, bytes: &[u8]) -> Option<(Instr, &[u8])>
+    requires { (code ≡ 19) ⊎ (code ≡ 20) }
+    ensures { Finds (λ x. (x.0, x.1.now)) result (slice_get readers code >>> λ r. r bytes.now) }
+{
+    let (name, rest) = first_u32(bytes)?;
+    let (n, rest) = first_u16(rest)?;
+    match code {
+        19 => Some((Instr::CallV(name, n), rest)),
+        _ => Some((Instr::CallN(name, n), rest)),
+    }
+}
+
+/// The call of a primitive that has this code, and what is behind it.
+#[tactic(auto, unfolding(model::specs::Reading::readers, model::specs::Reading::prim))]
+fn prim(code: u8, bytes: &[u8]) -> Option<(Instr, &[u8])>
+    requires { (code ≡ 21) ⊎ (code ≡ 22) }
+    ensures { Finds (λ x. (x.0, x.1.now)) result (slice_get readers code >>> λ r. r bytes.now) }
+{
+    let (p, rest) = first_byte(bytes)?;
+    let p = coded(&PrimId::ALL, p)?;
+    let (n, rest) = first_byte(rest)?;
+    match code {
+        21 => Some((Instr::PrimV(p, n), rest)),
+        _ => Some((Instr::PrimN(p, n), rest)),
+    }
+}
+
 /// The instruction in front, and what is behind it; none if it is in no table or is cut.
-#[tactic(auto, unfolding(model::specs::Reading::instr_of, model::specs::Reading::readers, model::specs::Reading::alone, model::specs::Reading::wide, model::specs::Reading::short, model::specs::Reading::whole, model::specs::Reading::call, model::specs::Reading::choice, model::specs::Reading::prim))]
+#[tactic(auto, unfolding(model::specs::Reading::instr_of, model::specs::Reading::readers, model::specs::Reading::alone, model::specs::Reading::short, model::specs::Reading::whole))]
 pub fn first_instr(bytes: &[u8]) -> Option<(Instr, &[u8])>
     ensures { Finds (λ x. (x.0, x.1.now)) result (instr_of bytes.now) }
 {
     let (code, rest) = first_byte(bytes)?;
     match code {
         0 => Some((Instr::End, rest)),
-        1 => {
-            let (n, rest) = first_u32(rest)?;
-            Some((Instr::Begin(n), rest))
-        }
         2 => Some((Instr::Body, rest)),
-        3 => {
-            let (n, rest) = first_u32(rest)?;
-            Some((Instr::Goto(n), rest))
-        }
-        4 => {
-            let (x, rest) = first_byte(rest)?;
-            Some((Instr::Return(coded(&RETURN_KINDS, x)?), rest))
-        }
         5 => Some((Instr::GotoV, rest)),
         6 => Some((Instr::NoLabel, rest)),
-        7 => {
-            let (n, rest) = first_u32(rest)?;
-            Some((Instr::Str(n), rest))
-        }
-        8 => {
-            let (n, rest) = first_u64(rest)?;
-            Some((Instr::Int(n.cast_signed()), rest))
-        }
         9 => Some((Instr::Null, rest)),
-        10 => {
-            let (n, rest) = first_u32(rest)?;
-            Some((Instr::Var(n), rest))
-        }
         11 => Some((Instr::Fetch, rest)),
-        12 => {
-            let (x, rest) = first_byte(rest)?;
-            Some((Instr::KeyGet(coded(&KeyId::ALL, x)?), rest))
-        }
-        13 => {
-            let (x, rest) = first_byte(rest)?;
-            Some((Instr::KeySet(coded(&KeyId::ALL, x)?), rest))
-        }
         14 => Some((Instr::Indir, rest)),
-        15 => {
-            let (n, rest) = first_u16(rest)?;
-            Some((Instr::Elem(n), rest))
-        }
         16 => Some((Instr::Assign, rest)),
         17 => Some((Instr::NameV, rest)),
-        18 => {
-            let (n, rest) = first_u32(rest)?;
-            Some((Instr::Expr(n), rest))
-        }
-        19 => {
-            let (s, rest) = first_u32(rest)?;
-            let (n, rest) = first_u16(rest)?;
-            Some((Instr::CallV(s, n), rest))
-        }
-        20 => {
-            let (s, rest) = first_u32(rest)?;
-            let (n, rest) = first_u16(rest)?;
-            Some((Instr::CallN(s, n), rest))
-        }
-        21 => {
-            let (p, rest) = first_byte(rest)?;
-            let p = coded(&PrimId::ALL, p)?;
-            let (n, rest) = first_byte(rest)?;
-            Some((Instr::PrimV(p, n), rest))
-        }
-        22 => {
-            let (p, rest) = first_byte(rest)?;
-            let p = coded(&PrimId::ALL, p)?;
-            let (n, rest) = first_byte(rest)?;
-            Some((Instr::PrimN(p, n), rest))
-        }
         23 => Some((Instr::Drop, rest)),
-        24 => {
-            let (n, rest) = first_u32(rest)?;
-            Some((Instr::Try(n), rest))
-        }
         25 => Some((Instr::Untry, rest)),
         26 => Some((Instr::Fail, rest)),
-        27 => {
-            let (x, rest) = first_byte(rest)?;
-            Some((Instr::Sign(coded(&SIGN_OPS, x)?), rest))
-        }
-        28 => {
-            let (x, rest) = first_byte(rest)?;
-            Some((Instr::Arith(coded(&ARITH_OPS, x)?), rest))
-        }
         29 => Some((Instr::Cat, rest)),
         30 => Some((Instr::Alt, rest)),
         31 => Some((Instr::Cond, rest)),
         32 => Some((Instr::Imm, rest)),
         33 => Some((Instr::Cursor, rest)),
-        34 => {
-            let (n, rest) = first_u32(rest)?;
-            Some((Instr::Pat(n), rest))
-        }
         35 => Some((Instr::FetchK, rest)),
         36 => Some((Instr::Match, rest)),
         37 => Some((Instr::MatchR, rest)),
         38 => Some((Instr::Splice, rest)),
         39 => Some((Instr::Ret, rest)),
+        8 => {
+            let (n, rest) = first_u64(rest)?;
+            Some((Instr::Int(n.cast_signed()), rest))
+        }
+        15 => {
+            let (n, rest) = first_u16(rest)?;
+            Some((Instr::Elem(n), rest))
+        }
+        1 | 3 | 7 | 10 | 18 | 24 | 34 => wide(code, rest),
+        4 | 12 | 13 | 27 | 28 => choice(code, rest),
+        19 | 20 => call(code, rest),
+        21 | 22 => prim(code, rest),
         _ => None,
     }
 }

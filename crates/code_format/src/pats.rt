@@ -1,69 +1,57 @@
 //! Instructions of patterns as bytes.
 
-ghost use Rattle.std.specs.Prelude.{◌≡◌, [], ◌++◌, OnOk, OnErr};
+ghost use Rattle.std.specs.Prelude.{◌≡◌, ◌⊎◌, [], ◌++◌, OnOk, OnErr, slice_get};
 ghost use Rattle.model.specs.Spelling.{pat_instr};
-ghost use Rattle.model.specs.Reading.{Reads, pat_instr_at};
+ghost use Rattle.model.specs.Reading.{Reads, pat_instr_at, pat_readers, required, ◌>>>◌};
 ghost use Rattle.code_format.specs.Places.{pat_at};
 
 use crate::numbers::{put_whole, put_wide, read_byte, read_u32, read_u64};
 use model::{FormatFault, FormatRule, Miss, PatInstr};
 use std::alloc::AllocError;
 
+/// The instruction with 4 bytes that has this kind, and what is behind it.
+#[tactic(auto, unfolding(model::specs::Reading::pat_readers, model::specs::Reading::wide, model::specs::Reading::distance, model::specs::Reading::number_at))]
+fn wide(kind: u8, bytes: &[u8]) -> Result<(PatInstr, &[u8]), Miss>
+    requires { (kind ≡ 0) ⊎ (kind ≡ 1) ⊎ (kind ≡ 2) ⊎ (kind ≡ 8) ⊎ (kind ≡ 9) ⊎ (kind ≡ 10) ⊎ (kind ≡ 11) }
+    ensures { Reads (λ x. (x.0, x.1.now)) result (required (slice_get pat_readers kind >>> λ r. r bytes.now)) }
+{
+    let (n, rest) = read_u32(bytes)?;
+    match kind {
+        0 => Ok((PatInstr::Lit(n), rest)),
+        1 => Ok((PatInstr::Split(n.cast_signed()), rest)),
+        2 => Ok((PatInstr::Jmp(n.cast_signed()), rest)),
+        8 => Ok((PatInstr::Any(n), rest)),
+        9 => Ok((PatInstr::NotAny(n), rest)),
+        10 => Ok((PatInstr::Span(n), rest)),
+        _ => Ok((PatInstr::Break(n), rest)),
+    }
+}
+
+/// The instruction with 8 bytes that has this kind, and what is behind it.
+#[tactic(auto, unfolding(model::specs::Reading::pat_readers, model::specs::Reading::long, model::specs::Reading::number_at))]
+fn long(kind: u8, bytes: &[u8]) -> Result<(PatInstr, &[u8]), Miss>
+    requires { (kind ≡ 3) ⊎ (kind ≡ 4) ⊎ (kind ≡ 5) ⊎ (kind ≡ 6) ⊎ (kind ≡ 7) }
+    ensures { Reads (λ x. (x.0, x.1.now)) result (required (slice_get pat_readers kind >>> λ r. r bytes.now)) }
+{
+    let (n, rest) = read_u64(bytes)?;
+    match kind {
+        3 => Ok((PatInstr::Len(n), rest)),
+        4 => Ok((PatInstr::Pos(n), rest)),
+        5 => Ok((PatInstr::RPos(n), rest)),
+        6 => Ok((PatInstr::Tab(n), rest)),
+        _ => Ok((PatInstr::RTab(n), rest)),
+    }
+}
+
 /// The instruction in front, and what is behind it.
-#[tactic(auto, unfolding(model::specs::Reading::pat_instr_at, model::specs::Reading::pat_readers, model::specs::Reading::wide, model::specs::Reading::long, model::specs::Reading::distance, model::specs::Reading::number_at))]
+#[tactic(auto, unfolding(model::specs::Reading::pat_instr_at, model::specs::Reading::pat_readers))]
 pub fn first_pat_instr(bytes: &[u8]) -> Result<(PatInstr, &[u8]), Miss>
     ensures { Reads (λ x. (x.0, x.1.now)) result (pat_instr_at [] bytes.now) }
 {
     let (kind, rest) = read_byte(bytes)?;
     match kind {
-        0 => {
-            let (n, rest) = read_u32(rest)?;
-            Ok((PatInstr::Lit(n), rest))
-        }
-        1 => {
-            let (n, rest) = read_u32(rest)?;
-            Ok((PatInstr::Split(n.cast_signed()), rest))
-        }
-        2 => {
-            let (n, rest) = read_u32(rest)?;
-            Ok((PatInstr::Jmp(n.cast_signed()), rest))
-        }
-        3 => {
-            let (n, rest) = read_u64(rest)?;
-            Ok((PatInstr::Len(n), rest))
-        }
-        4 => {
-            let (n, rest) = read_u64(rest)?;
-            Ok((PatInstr::Pos(n), rest))
-        }
-        5 => {
-            let (n, rest) = read_u64(rest)?;
-            Ok((PatInstr::RPos(n), rest))
-        }
-        6 => {
-            let (n, rest) = read_u64(rest)?;
-            Ok((PatInstr::Tab(n), rest))
-        }
-        7 => {
-            let (n, rest) = read_u64(rest)?;
-            Ok((PatInstr::RTab(n), rest))
-        }
-        8 => {
-            let (n, rest) = read_u32(rest)?;
-            Ok((PatInstr::Any(n), rest))
-        }
-        9 => {
-            let (n, rest) = read_u32(rest)?;
-            Ok((PatInstr::NotAny(n), rest))
-        }
-        10 => {
-            let (n, rest) = read_u32(rest)?;
-            Ok((PatInstr::Span(n), rest))
-        }
-        11 => {
-            let (n, rest) = read_u32(rest)?;
-            Ok((PatInstr::Break(n), rest))
-        }
+        0 | 1 | 2 | 8 | 9 | 10 | 11 => wide(kind, rest),
+        3 | 4 | 5 | 6 | 7 => long(kind, rest),
         _ => Err(Miss {
             left: bytes.len(),
             rule: FormatRule::UnknownInstruction,
