@@ -14,7 +14,7 @@ use Rattle.model.specs.declared.instr.Instr.TheVariants as op
 use Rattle.model.specs.Modules.{bytes, total}
 use Rattle.model.specs.Flow.{BreaksFlow, IsLeast}
 use Rattle.model.specs.WellFormed.{first, rule, told, scan, entry_at, labels_at, statements_at, expressions_at, patterns_at, code_at, entry_rule, label_rule, statement_rule, expression_rule, pat_rule, pat_bytes, pattern_bytes, pattern_fault, instr_fault, part_fault, indices_fit, place_fits, is_last_instr, is_end, begins_last, number_of, comes_first, lesser, flow_fault}
-use Rattle.model.specs.LeastFaults.{IsAt, Among, InInstr, InPattern, Has, InEntry, InLabels, InStatements, InExpressions, InPatterns, InCode, InFlow, NotAfter, IsLeastOf, LeastIsTold, OneIsTold}
+use Rattle.model.specs.LeastFaults.{IsAt, Among, InInstr, InPattern, Has, InEntry, InLabels, InStatements, InExpressions, InPatterns, InCode, InFlow, NotAfter, IsLeastOf, LeastIsTold, OneIsTold, WellFormedHasNone, NoneIsWellFormed}
 
 abbrev Faults : Type 1
 Faults = ModuleFault → Type 0
@@ -307,28 +307,42 @@ least_lesser P Q (Some f) (Some g) h k = elim (chosen f g) [
   | inr (e, n) ↦ rw e (inl h.0, λ i s. elim s [ inl p ↦ h.1 i p | inr q ↦ not_after f g i n (k.1 i q) ])
 ]
 
+module _ (im : Image) where
+  to_has : (f : ModuleFault) → Parts im f ⊎ InFlowAt im f → Has im f
+  to_has f (inl (inl h)) = InEntry h
+  to_has f (inl (inr (inl h))) = InLabels h
+  to_has f (inl (inr (inr (inl h)))) = InStatements h
+  to_has f (inl (inr (inr (inr (inl h))))) = InExpressions h
+  to_has f (inl (inr (inr (inr (inr (inl h)))))) = InPatterns h
+  to_has f (inl (inr (inr (inr (inr (inr h)))))) = InCode h
+  to_has f (inr (at, b, q)) = InFlow at b q
+
+  of_has : (f : ModuleFault) → Has im f → Parts im f ⊎ InFlowAt im f
+  of_has f (InEntry h) = inl (inl h)
+  of_has f (InLabels h) = inl (inr (inl h))
+  of_has f (InStatements h) = inl (inr (inr (inl h)))
+  of_has f (InExpressions h) = inl (inr (inr (inr (inl h))))
+  of_has f (InPatterns h) = inl (inr (inr (inr (inr (inl h)))))
+  of_has f (InCode h) = inl (inr (inr (inr (inr (inr h)))))
+  of_has f (InFlow at b q) = inr (at, b, q)
+
 pub least_is_told : LeastIsTold
 least_is_told im fault (flow, least, e) =
     subst (IsLeastOf (Has im)) (sym e)
-    (least_same _ (Has im) (lesser (part_fault im) (flow_fault im flow)) to from (least_lesser _ (InFlowAt im) (part_fault im) (flow_fault im flow) (least_parts im) (least_flow im flow least)))
-  where
-    to : (f : ModuleFault) → Parts im f ⊎ InFlowAt im f → Has im f
-    to f (inl (inl h)) = InEntry h
-    to f (inl (inr (inl h))) = InLabels h
-    to f (inl (inr (inr (inl h)))) = InStatements h
-    to f (inl (inr (inr (inr (inl h))))) = InExpressions h
-    to f (inl (inr (inr (inr (inr (inl h)))))) = InPatterns h
-    to f (inl (inr (inr (inr (inr (inr h)))))) = InCode h
-    to f (inr (at, b, q)) = InFlow at b q
+    (least_same _ (Has im) (lesser (part_fault im) (flow_fault im flow)) (to_has im) (of_has im) (least_lesser _ (InFlowAt im) (part_fault im) (flow_fault im flow) (least_parts im) (least_flow im flow least)))
 
-    from : (f : ModuleFault) → Has im f → Parts im f ⊎ InFlowAt im f
-    from f (InEntry h) = inl (inl h)
-    from f (InLabels h) = inl (inr (inl h))
-    from f (InStatements h) = inl (inr (inr (inl h)))
-    from f (InExpressions h) = inl (inr (inr (inr (inl h))))
-    from f (InPatterns h) = inl (inr (inr (inr (inr (inl h)))))
-    from f (InCode h) = inl (inr (inr (inr (inr (inr h)))))
-    from f (InFlow at b q) = inr (at, b, q)
+pub well_formed_has_none : WellFormedHasNone
+well_formed_has_none im w = least_is_told im None (None, w.flow, rw (w.parts) refl)
+
+none_least : (P : Faults) (o : Option ModuleFault) → IsLeastOf P o → ((f : ModuleFault) → P f → ⊥) → o ≡ None
+none_least P None h free = refl
+none_least P (Some f) h free = absurd (free f h.0)
+
+pub none_is_well_formed : NoneIsWellFormed
+none_is_well_formed im free = record {
+  parts = none_least (Parts im) (part_fault im) (least_parts im) (λ f p. free f (to_has im f (inl p)));
+  flow = λ at b. free (record { offset = code_at im + at; rule = BadFlow }) (InFlow at b refl);
+}
 
 -- ---- one alone
 

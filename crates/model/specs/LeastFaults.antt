@@ -9,7 +9,7 @@ use Rattle.model.specs.declared.image.PatInstr.{PatInstr}
 use Rattle.model.specs.declared.instr.Instr.{Instr}
 use Rattle.model.specs.Modules.{bytes, total}
 use Rattle.model.specs.Flow.{BreaksFlow}
-use Rattle.model.specs.WellFormed.{rule, entry_at, labels_at, statements_at, expressions_at, patterns_at, code_at, entry_rule, label_rule, statement_rule, expression_rule, pat_rule, pat_bytes, pattern_bytes, indices_fit, place_fits, is_last_instr, is_end, begins_last, number_of, IsTold}
+use Rattle.model.specs.WellFormed.{rule, entry_at, labels_at, statements_at, expressions_at, patterns_at, code_at, entry_rule, label_rule, statement_rule, expression_rule, pat_rule, pat_bytes, pattern_bytes, indices_fit, place_fits, is_last_instr, is_end, begins_last, number_of, IsWellFormed, IsTold}
 
 -- a broken rule, told at an offset
 abbrev pub IsAt : ℕ → Option ModuleRule → ModuleFault → Type 0
@@ -61,3 +61,10 @@ LeastIsTold = (im : Image) (fault : Option ModuleFault) → IsTold im fault → 
 
 abbrev pub OneIsTold : Type 0
 OneIsTold = (im : Image) (fault other : Option ModuleFault) → IsTold im fault → IsTold im other → fault ≡ other
+
+-- an image without any is well-formed, and no other is
+abbrev pub WellFormedHasNone : Type 0
+WellFormedHasNone = (im : Image) → IsWellFormed im → (f : ModuleFault) → Has im f → ⊥
+
+abbrev pub NoneIsWellFormed : Type 0
+NoneIsWellFormed = (im : Image) → ((f : ModuleFault) → Has im f → ⊥) → IsWellFormed im

@@ -1,7 +1,7 @@
 //! Laws of well-formed modules: functions that do nothing, each with a contract that says the law.
 
 ghost use Rattle.model.specs.FlowRows.{FlowRows};
-ghost use Rattle.model.specs.LeastFaults.{LeastIsTold, OneIsTold};
+ghost use Rattle.model.specs.LeastFaults.{LeastIsTold, NoneIsWellFormed, OneIsTold, WellFormedHasNone};
 ghost use Rattle.model.specs.WellFormedRows.{PartsMeetCases};
 
 /// Of all faults that an image has, the one of least offset is told, and of these the one of least number; none is told
@@ -15,4 +15,10 @@ pub fn least_fault_is_told()
 pub fn worked_images()
     ensures parts { PartsMeetCases }
     ensures flow { FlowRows }
+{}
+
+/// An image is well-formed exactly if it has none of all faults.
+pub fn faultless_is_well_formed()
+    ensures none { WellFormedHasNone }
+    ensures formed { NoneIsWellFormed }
 {}
