@@ -1,0 +1,3 @@
+compile deck.sno a.module
+< deck.sno
+compile /dev/null b.module

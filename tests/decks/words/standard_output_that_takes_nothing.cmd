@@ -1,0 +1,2 @@
+check hello.module > /dev/full
+show hello.module > /dev/full

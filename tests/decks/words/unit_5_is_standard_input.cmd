@@ -1,0 +1,3 @@
+compile deck.sno a.module
+run a.module < deck.sno
+run a.module < /dev/null

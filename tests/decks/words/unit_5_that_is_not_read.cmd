@@ -1,0 +1,2 @@
+compile deck.sno a.module
+run a.module < .

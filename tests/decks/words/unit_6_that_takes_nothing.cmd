@@ -1,0 +1,2 @@
+run hello.module > /dev/full
+> /dev/full
