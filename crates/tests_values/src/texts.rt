@@ -17,10 +17,6 @@ enum Left<'a> {
     Part,
 }
 
-fn letters(alloc: Global) -> Result<Text, StrFault> {
-    Text::from_slice(alloc, LETTERS.as_bytes())
-}
-
 fn grown(alloc: Global, left: Left<'_>, right: &Text, limit: usize) -> Result<Text, StrFault> {
     match left {
         Left::All(bytes) => {
@@ -28,10 +24,13 @@ fn grown(alloc: Global, left: Left<'_>, right: &Text, limit: usize) -> Result<Te
             Text::append(alloc, text, right, limit)
         }
         Left::Shared => {
-            let all = letters(alloc)?;
+            let all = Text::from_slice(alloc, LETTERS.as_bytes())?;
             Text::append(alloc, all.clone()?, right, limit)
         }
-        Left::Part => Text::append(alloc, letters(alloc)?.sub(1, 25)?, right, limit),
+        Left::Part => {
+            let part = Text::from_slice(alloc, b"ABCDEFGHIJKLMNOPQRSTUVWXYZ")?.sub(1, 25)?;
+            Text::append(alloc, part, right, limit)
+        }
     }
 }
 
