@@ -12,7 +12,7 @@ use Rattle.model.specs.Names.{prim_named, key_named, named}
 use Rattle.model.specs.Meaning.{meaning}
 use Rattle.model.specs.Agreement.{mean, mach}
 use Rattle.model.specs.RulesUsed.{count, rules_used}
-use Rattle.model.proofs.RowDecks.{deck, args, num, does, at, set, out, no_inputs, runs, ends_normally, ends_with, ends_at_limit}
+use Rattle.model.proofs.RowDecks.{deck, args, num, OUTPUT, does, at, sets, set, out, no_inputs, runs, ends_normally, ends_with, ends_at_limit}
 
 -- ` OUTPUT = 'HI'`: a statement and two nodes; 6 steps
 one_line : rules_used 10 (deck (out (Literal (codes "HI")) ∷ [])) no_inputs ≡ 3
@@ -33,6 +33,26 @@ one_call = refl
 one_fence : rules_used 20 (deck (does (Match (Literal (codes "AB")) (Combine b.Concatenate (Call (codes "FENCE") (args (Literal (codes "A") ∷ []))) (Literal (codes "B")))) Next ∷ [])) no_inputs ≡ 13
 unfolding meaning count prim_named named
 one_fence = refl
+
+-- ` DEFINE('F()')`, ` OUTPUT = F() :(END)`, `F F = 1 :(RETURN)`: three statements, 2, 2 and 2 nodes, and nothing for the return
+one_return : rules_used 40 (deck (does (Evaluate (Call (codes "DEFINE") (args (Literal (codes "F()") ∷ [])))) Next ∷ does (sets OUTPUT (Call (codes "F") (args []))) (Always (Label (codes "END"))) ∷ at (codes "F") (sets (Name (codes "F")) (num 1)) (Always (Label (codes "RETURN"))) ∷ [])) no_inputs ≡ 9
+unfolding meaning count prim_named named
+one_return = refl
+
+-- ` 'AB' 'A' *'B'`: a statement, 4 nodes and one of the expression, its answer, a start, and five rules of the search under it
+one_answer : rules_used 40 (deck (does (Match (Literal (codes "AB")) (Combine b.Concatenate (Literal (codes "A")) (Apply u.Unevaluated (Literal (codes "B"))))) Next ∷ [])) no_inputs ≡ 13
+unfolding meaning count
+one_answer = refl
+
+-- ` 'AB' LEN(1) $ X 'B'`: a statement, 7 nodes, an answer, a start, and six rules of the search, the end of `$` among them
+one_told : rules_used 40 (deck (does (Match (Literal (codes "AB")) (Combine b.Concatenate (Combine b.Immediate (Call (codes "LEN") (args (num 1 ∷ []))) (Name (codes "X"))) (Literal (codes "B")))) Next ∷ [])) no_inputs ≡ 16
+unfolding meaning count prim_named named
+one_told = refl
+
+-- ` 'AAB' POS(0) ARBNO('A') 'B'`: a statement, 8 nodes, a start, and twenty rules of the search: three times four for ARBNO, twice two for 'A' joined to it, and four around
+turns : rules_used 40 (deck (does (Match (Literal (codes "AAB")) (Combine b.Concatenate (Combine b.Concatenate (Call (codes "POS") (args (num 0 ∷ []))) (Call (codes "ARBNO") (args (Literal (codes "A") ∷ [])))) (Literal (codes "B")))) Next ∷ [])) no_inputs ≡ 30
+unfolding meaning count prim_named named
+turns = refl
 
 -- ` 'AA' LEN(*'X')`: a statement, five nodes, a start and the row of LEN, under the script at the question whose answer is no count
 no_count : rules_used 20 (deck (does (Match (Literal (codes "AA")) (Call (codes "LEN") (args (Apply u.Unevaluated (Literal (codes "X")) ∷ [])))) Next ∷ [])) no_inputs ≡ 7
