@@ -38,7 +38,7 @@ is_run deck given bytes bound status before after same m run = record {
 -- ---- in the deck's own words
 
 seen_of : (ss : List Stmt) (image : Image) (inputs : Inputs) (bound : ℕ) (ending : Option Ending) (seen : Seen) → Agrees ss image → seen ≡ mach image inputs bound → seen.ending ≡ ending → (n : ℕ) × IsSeenOf ending seen.printed (mean n ss inputs)
-seen_of ss image inputs bound None seen a s e = let p = a.prints_only inputs bound in (p.0, p.1.0, p.1.1 ∙ ap (λ x. x.printed ++ p.1.0) (sym s))
+seen_of ss image inputs bound None seen a s e = let p = a.prints_only inputs bound in (p.0, (p.1.0, p.1.1 ∙ ap (λ (x : Seen). x.printed ++ p.1.0) (sym s)))
 seen_of ss image inputs bound (Some x) seen a s e = let m = a.ends_only inputs bound x (ap (λ y. y.ending) (sym s) ∙ e) in (m.0, m.1 ∙ sym s ∙ ap (λ o. record { ending = o; printed = seen.printed }) e)
 
 same_trees : (v : Verdict) (ss ts : List Stmt) → v ≡ Accepted ss → v ≡ Accepted ts → ss ≡ ts
