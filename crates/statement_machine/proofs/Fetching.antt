@@ -1,5 +1,5 @@
 -- Instructions that fetch names and assign to them.
-use Rattle.std.proofs.Common.{◌≡◌, ℕ, List, [], ◌∷◌, Option, Result, Ok, Err, ◌⊎◌, inl, inr}
+use Rattle.std.proofs.Common.{◌≡◌, ℕ, List, [], ◌∷◌, Option, Result}
 use Rattle.std.specs.Prelude.{OnOk}
 use Rattle.model.specs.declared.image.Image.{Image}
 use Rattle.model.specs.declared.instr.Instr.TheVariants as op
@@ -14,20 +14,15 @@ use Rattle.pattern_compiler.specs.declared.instr.Name.{Name}
 use Rattle.frames.specs.declared.operand.Operand.{Operand}
 use Rattle.frames.specs.declared.operand.Operand.TheVariants as operand
 use Rattle.frames.specs.View.{operands_of, handlers_of}
-use Rattle.world.specs.Answers.{Answers, AnswersOrFails, IfStopped, IsStop}
+use Rattle.world.specs.Answers.{Answers, AnswersOrFails}
 use Rattle.world.specs.Held.{Held, world_of}
 use Rattle.world.specs.Values.{value_of}
 use Rattle.world.specs.declared.value.Value.{Value}
 use Rattle.world.specs.declared.world_operators.Span.{Span}
 use Rattle.world.specs.declared.fault.Fault.{Fault}
-use Rattle.world.specs.declared.fault.Fault.TheVariants as fault
-use Rattle.model.specs.declared.run.Stop.{Stop}
-use Rattle.model.specs.declared.run.Stop.TheVariants as stop
 use Rattle.statement_machine.specs.Held.{IsSound, Left, Meets, after}
 use Rattle.statement_machine.specs.declared.state.State.{State}
 use Rattle.statement_machine.specs.declared.status.Halt.{Halt}
-use Rattle.statement_machine.specs.declared.status.Halt.TheVariants as halt
-use Rattle.statement_machine.specs.Stopped.{IfHalted}
 use Rattle.machine_laws.specs.Standing.{StateStands}
 use Rattle.statement_machine.proofs.Flowing.{seen, fetch_stands, fetch_above_stands, assign_stands, splice_stands}
 use Rattle.statement_machine.proofs.Operations.{some_answer, some_answer_or_failure}
@@ -104,20 +99,3 @@ module _ (im : Image) (q : ℕ) (s new : State) (mid : Held) (r : Result (Unit {
       let o = some_answer answer (world_of mid no_records) in
       let stands : StateStands im (pop (operands_of s.operands) w0 (λ v r1. pop_span r1 w0 (λ t b d r2. pop_name r2 w0 (λ n rest. after_op o.0 hs rest [] (λ u w. Run q rest hs [] w))))) = splice_stands im h.0 s.at q (operands_of s.operands) hs h.1 (λ n t b d v. o.0) w0 h.2 in
       seen im r new no_records _ (g no_records o.0 o.1) (rw e at stands)
-
--- ---- why it stopped
-
--- a stop of the operation stops the run
-pub stopped_by : (r : Result (Unit {0}) Halt) (P Q : Stop → Type 0) → IfHalted r P → ((x : Stop) → P x → Q x) → IfHalted r Q
-stopped_by (Ok u) P Q h f = tt
-stopped_by (Err (halt.Ended e)) P Q h f = tt
-stopped_by (Err (halt.Stopped x)) P Q h f = f x h
-
-pub stop_of_operation : {A : Type 0} (r : Result (Unit {0}) Halt) (answer : Result A Fault) (P : Stop → Type 0) → IfHalted r (λ x. answer ≡ Err (fault.Stop x)) → IfStopped answer P → IfHalted r P
-stop_of_operation {A} r answer P h f = stopped_by r _ P h (λ x e. let g : IfStopped {A = A} (Err (fault.Stop x)) P = rw e at f in g)
-
-pub stop_or_no_memory : {A : Type 0} (r : Result (Unit {0}) Halt) (answer : Result A Fault) (old new : ℕ → ℕ) → IfHalted r (λ x. (x ≡ stop.NoMemory) ⊎ (answer ≡ Err (fault.Stop x))) → IfStopped answer (λ x. IsStop x old new) → IfHalted r (λ x. IsStop x old new)
-stop_or_no_memory {A} r answer old new h f = stopped_by r _ _ h (λ x e. elim e [
-  | inl none ↦ rw none tt
-  | inr is ↦ let g : IfStopped {A = A} (Err (fault.Stop x)) (λ x. IsStop x old new) = rw is at f in g
-])

@@ -1,5 +1,5 @@
 -- What an operation comes to: a value, a failure or an error.
-use Rattle.std.proofs.Common.{◌≡◌, ℕ, List, [], ◌∷◌, Option, Some, None, Result, Ok, Err, refl, sym, subst, ◌⊎◌, inl, inr}
+use Rattle.std.proofs.Common.{◌≡◌, List, [], Option, Some, None, Result, Ok, Err, refl, sym, subst}
 use Rattle.model.specs.Io.{Io}
 use Rattle.model.specs.Conversions.{Op, Gives, Refuses, Faults}
 use Rattle.model.specs.Machine as m
@@ -8,12 +8,10 @@ use Rattle.world.specs.Answers.{Answers, AnswersOrFails}
 use Rattle.world.specs.Held.{world_of}
 use Rattle.world.specs.declared.fault.Fault.{Fault}
 use Rattle.world.specs.declared.fault.Fault.TheVariants as fault
-use Rattle.model.specs.declared.run.Stop.{Stop}
 use Rattle.statement_machine.specs.Held.{Left}
-use Rattle.statement_machine.specs.Stopped.{IfHalted, halt_of}
+use Rattle.statement_machine.specs.Stopped.{halt_of}
 use Rattle.statement_machine.specs.declared.state.State.{State}
 use Rattle.statement_machine.specs.declared.status.Halt.{Halt}
-use Rattle.statement_machine.specs.declared.status.Halt.TheVariants as halt
 use Rattle.statement_machine.proofs.Keys.{halts}
 
 -- on with what it gives

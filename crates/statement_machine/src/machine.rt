@@ -9,6 +9,7 @@ ghost use Rattle.model.specs.Machine.{begun, steps};
 ghost use Rattle.model.specs.Modules.{module_of};
 ghost use Rattle.statement_machine.specs.Runs.{Holds};
 ghost use Rattle.statement_machine.specs.Stopped.{IfRan, IfStopped, ending_of, status_at};
+ghost use Rattle.unit_io.specs.Counts.{Same};
 ghost use Rattle.world.specs.Answers.{IsStop};
 ghost use Rattle.statement_machine.specs.declared.status.Halt.{Halt as RustHalt};
 
@@ -59,6 +60,7 @@ impl<'m> Machine<'m> {
         ensures status { result ≡ status_at self.new.halt }
         ensures ran { IfRan result (IfTold (U.told units.old) (U.told units.new) (λ io io'.
             (st : m.State) → Holds self.old io st → Holds self.new io' (steps (module_of self.old.image) bound st))) }
+        ensures kept { IfRan result (Same (U.failures units.old) (U.failures units.new)) }
         ensures stop { self.old.halt ≡ None → IfStopped result (λ stop. IsStop stop (U.failures units.old) (U.failures units.new)) }
         ensures again { (halt : RustHalt) → self.old.halt ≡ Some halt → (self.new ≡ self.old) × (units.new ≡ units.old) }
     {
@@ -84,6 +86,7 @@ pub fn run_from_entry<U: Units>(
 ) -> Status
     ensures run { IfRan result (IfTold (U.told units.old) (U.told units.new) (λ io io'. io.printed ≡ [] →
         record { ending = ending_of result; printed = io'.printed } ≡ mach program.now io.left bound)) }
+    ensures kept { IfRan result (Same (U.failures units.old) (U.failures units.new)) }
     ensures stop { IfStopped result (λ stop. IsStop stop (U.failures units.old) (U.failures units.new)) }
 {
     match Machine::new(alloc, program) {

@@ -1,6 +1,6 @@
 //! What a match does to the state around it.
 
-ghost use Rattle.std.specs.Prelude.{◌≡◌, ◌≤◌, ℕ, [], OnOk, IfOk};
+ghost use Rattle.std.specs.Prelude.{◌≡◌, [], OnOk, IfOk};
 ghost use Rattle.frames.specs.Kinds.{kinds_of};
 ghost use Rattle.frames.specs.Matches.{matching_of};
 ghost use Rattle.frames.specs.View.{operands_of, handlers_of};
@@ -15,8 +15,8 @@ ghost use Rattle.model.specs.declared.image.Image.{Image};
 ghost use Rattle.model.specs.declared.run.Stop.TheVariants.{NoMemory};
 ghost use Rattle.statement_machine.specs.Held.{Left};
 ghost use Rattle.statement_machine.specs.Runs.{found_kinds};
-ghost use Rattle.statement_machine.specs.Stopped.{IfHalted};
-ghost use Rattle.world.specs.Answers.{Answers, IfStopped, IsStop, done};
+ghost use Rattle.statement_machine.specs.Stopped.{StepKeepsCounts};
+ghost use Rattle.world.specs.Answers.{Answers, KeepsCounts, done};
 ghost use Rattle.world.specs.Held.{world_of};
 ghost use Rattle.world.specs.Values.{value_of};
 
@@ -37,8 +37,7 @@ fn assign_all<U: Units>(
 ) -> Result<(), Fault>
     ensures assigned { IfTold (U.told units.old) (U.told units.new) (λ io io'.
         Answers (done result) (world_of world.new io') (assign_all (pending_of pending.now) (world_of world.old io))) }
-    ensures stop { IfStopped result (λ stop. IsStop stop (U.failures units.old) (U.failures units.new)) }
-    ensures grows { (u : ℕ) → U.failures units.old u ≤ U.failures units.new u }
+    ensures counts { KeepsCounts result (U.failures units.old) (U.failures units.new) }
 {
     for assignment in pending {
         let value = Value::String(assignment.value.clone()?);
@@ -73,8 +72,7 @@ impl State {
         ensures left { (im : Image) → IfTold (U.told units.old) (U.told units.new) (λ io io'. Left result self.new io'
             (on_event (module_of im) (Matched start end (pending_of pending.items)) (matching_of matching (operands_of self.old.operands) (handlers_of self.old.handlers)) matching.search.state [] (world_of self.old.world io))) }
         ensures shape { OnOk result ((self.new.at ≡ matching.place) × (self.new.handlers ≡ self.old.handlers) × (kinds_of self.new.operands ≡ found_kinds matching.keep (kinds_of self.old.operands))) }
-        ensures stop { IfHalted result (λ stop. IsStop stop (U.failures units.old) (U.failures units.new)) }
-        ensures grows { (u : ℕ) → U.failures units.old u ≤ U.failures units.new u }
+        ensures counts { StepKeepsCounts result (U.failures units.old) (U.failures units.new) }
     {
         if let Err(fault) = assign_all(self.alloc, &mut self.world, units, pending.as_slice()) {
             return Err(self.halted(fault));

@@ -1,21 +1,19 @@
 //! Instructions that may read from a unit or write to one, by a variable that has it.
 
-ghost use Rattle.std.specs.Prelude.{◌≡◌, ◌≤◌, ℕ, ◌∷◌, [], ◌⊎◌, Err, OnOk, option_map};
+ghost use Rattle.std.specs.Prelude.{ℕ, ◌∷◌, [], OnOk, option_map};
 ghost use Rattle.model.specs.Conversions.{Op};
 ghost use Rattle.model.specs.Flow.{V, N, R};
 ghost use Rattle.model.specs.Io.{Io};
 ghost use Rattle.model.specs.Machine.{MVal, MW, OV, Run, after_op};
 ghost use Rattle.model.specs.Told.{IfTold};
 ghost use Rattle.model.specs.declared.image.Image.{Image};
-ghost use Rattle.model.specs.declared.run.Stop.TheVariants.{NoMemory};
 ghost use Rattle.frames.specs.Kinds.{AreOnTop};
 ghost use Rattle.frames.specs.View.{operands_of, handlers_of};
-ghost use Rattle.world.specs.Answers.{Answers, AnswersOrFails, IsStop, answer_map, done};
+ghost use Rattle.world.specs.Answers.{Answers, AnswersOrFails, KeepsCounts, answer_map, done};
 ghost use Rattle.world.specs.Held.{world_of};
 ghost use Rattle.world.specs.Values.{value_of};
-ghost use Rattle.world.specs.declared.fault.Fault.TheVariants.{Stop as Stopped};
 ghost use Rattle.statement_machine.specs.Held.{IsSound, Left, Meets, after};
-ghost use Rattle.statement_machine.specs.Stopped.{IfHalted};
+ghost use Rattle.statement_machine.specs.Stopped.{StepKeepsCounts};
 
 use crate::state::State;
 use crate::status::Halt;
@@ -29,7 +27,7 @@ impl State {
     fn went(&mut self, answer: Result<(), Fault>, next: u32) -> Result<(), Halt>
         ensures left { (io : Io) (o : Op MW (record {})) → Answers (done answer) (world_of self.old.world io) o →
             Left result self.new io (after_op o (handlers_of self.old.handlers) (operands_of self.old.operands) [] (λ _ w. Run next (operands_of self.old.operands) (handlers_of self.old.handlers) [] w)) }
-        ensures stop { IfHalted result (λ stop. answer ≡ Err (Stopped stop)) }
+        ensures counts { (old new : ℕ → ℕ) → KeepsCounts answer old new → StepKeepsCounts result old new }
     {
         match answer {
             Ok(()) => {
@@ -44,7 +42,7 @@ impl State {
     fn gave(&mut self, answer: Result<Option<Value>, Fault>, next: u32) -> Result<(), Halt>
         ensures left { (io : Io) (o : Op MW MVal) → AnswersOrFails (answer_map (option_map value_of) answer) (world_of self.old.world io) o →
             Left result self.new io (after_op o (handlers_of self.old.handlers) (operands_of self.old.operands) [] (λ v w. Run next (OV v ∷ operands_of self.old.operands) (handlers_of self.old.handlers) [] w)) }
-        ensures stop { IfHalted result (λ stop. (stop ≡ NoMemory) ⊎ (answer ≡ Err (Stopped stop))) }
+        ensures counts { (old new : ℕ → ℕ) → KeepsCounts answer old new → StepKeepsCounts result old new }
     {
         match answer {
             Ok(Some(value)) => self.put(value, next),
@@ -58,8 +56,7 @@ impl State {
         requires { AreOnTop (V ∷ N ∷ []) self.old.operands }
         ensures left { (im : Image) → IfTold (U.told units.old) (U.told units.new) (λ io io'. Left result self.new io' (after im Instr.Assign next self.old io)) }
         ensures sound { (im : Image) → Meets im Instr.Assign next self.old → OnOk result (IsSound im self.new) }
-        ensures stop { IfHalted result (λ stop. IsStop stop (U.failures units.old) (U.failures units.new)) }
-        ensures grows { (u : ℕ) → U.failures units.old u ≤ U.failures units.new u }
+        ensures counts { StepKeepsCounts result (U.failures units.old) (U.failures units.new) }
     {
         let value = pop_value(&mut self.operands);
         let name = pop_name(&mut self.operands);
@@ -72,8 +69,7 @@ impl State {
         requires { AreOnTop (N ∷ []) self.old.operands }
         ensures left { (im : Image) → IfTold (U.told units.old) (U.told units.new) (λ io io'. Left result self.new io' (after im Instr.Fetch next self.old io)) }
         ensures sound { (im : Image) → Meets im Instr.Fetch next self.old → OnOk result (IsSound im self.new) }
-        ensures stop { IfHalted result (λ stop. IsStop stop (U.failures units.old) (U.failures units.new)) }
-        ensures grows { (u : ℕ) → U.failures units.old u ≤ U.failures units.new u }
+        ensures counts { StepKeepsCounts result (U.failures units.old) (U.failures units.new) }
     {
         let name = pop_name(&mut self.operands);
         let answer = self.world.fetch(units, &name);
@@ -85,8 +81,7 @@ impl State {
         requires { AreOnTop (N ∷ []) self.old.operands }
         ensures left { (im : Image) → IfTold (U.told units.old) (U.told units.new) (λ io io'. Left result self.new io' (after im Instr.FetchK next self.old io)) }
         ensures sound { (im : Image) → Meets im Instr.FetchK next self.old → OnOk result (IsSound im self.new) }
-        ensures stop { IfHalted result (λ stop. IsStop stop (U.failures units.old) (U.failures units.new)) }
-        ensures grows { (u : ℕ) → U.failures units.old u ≤ U.failures units.new u }
+        ensures counts { StepKeepsCounts result (U.failures units.old) (U.failures units.new) }
     {
         let answer = self.world.fetch(units, top_name(&self.operands));
         self.gave(answer, next)
@@ -97,8 +92,7 @@ impl State {
         requires { AreOnTop (V ∷ R ∷ N ∷ []) self.old.operands }
         ensures left { (im : Image) → IfTold (U.told units.old) (U.told units.new) (λ io io'. Left result self.new io' (after im Instr.Splice next self.old io)) }
         ensures sound { (im : Image) → Meets im Instr.Splice next self.old → OnOk result (IsSound im self.new) }
-        ensures stop { IfHalted result (λ stop. IsStop stop (U.failures units.old) (U.failures units.new)) }
-        ensures grows { (u : ℕ) → U.failures units.old u ≤ U.failures units.new u }
+        ensures counts { StepKeepsCounts result (U.failures units.old) (U.failures units.new) }
     {
         let value = pop_value(&mut self.operands);
         let span = pop_span(&mut self.operands);

@@ -1,5 +1,5 @@
 -- Units that don't tell their records meet every read and every write.
-use Rattle.std.proofs.Common.{◌≡◌, ℕ, List, [], ◌∷◌, Option, Some, None, refl}
+use Rattle.std.proofs.Common.{ℕ, List, [], ◌∷◌, Option, Some, None, refl}
 use Rattle.model.specs.Units.{Reads, Writes}
 
 pub untold_read : (unit : ℕ) (got : Option (List ℕ)) → Reads unit got None None

@@ -1,5 +1,5 @@
 -- What units in memory hold.
-use Rattle.std.specs.Prelude.{◌≡◌, ℕ, ◌+◌, List, [], ◌∷◌, ◌++◌, Option, Some, None, length, map, nat_eq, ◌⊎◌, slice_index_or, set, if◌then◌else◌}
+use Rattle.std.specs.Prelude.{◌≡◌, ℕ, ◌+◌, List, [], ◌∷◌, ◌++◌, Option, Some, None, length, map, nat_eq, ◌⊎◌, set, if◌then◌else◌}
 use Rattle.model.specs.Io.{Io}
 use Rattle.unit_io.specs.Counts.{count_of, one_more}
 use Rattle.model.specs.Units.{bytes_on, first_of, rest_of}

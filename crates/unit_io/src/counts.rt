@@ -2,7 +2,7 @@
 
 ghost use Rattle.std.specs.Prelude.{◌≡◌, ◌≤◌, ℕ, replicate, set};
 ghost use Rattle.model.specs.Units.{HasGrown};
-ghost use Rattle.unit_io.specs.Counts.{count_of, one_more};
+ghost use Rattle.unit_io.specs.Counts.{count_of, one_more, SameBut};
 
 use std::marker::Model;
 
@@ -35,6 +35,7 @@ impl Counts {
         ensures value { self.new ≡ set self.old unit (one_more (count_of self.old unit)) }
         ensures grown { HasGrown (count_of self.old unit) (count_of self.new unit) }
         ensures grows { (u : ℕ) → count_of self.old u ≤ count_of self.new u }
+        ensures others { SameBut unit (count_of self.old) (count_of self.new) }
     {
         let k = unit as usize;
         self.counts[k] = self.counts[k].saturating_add(1);

@@ -2,8 +2,8 @@
 
 ghost use Rattle.std.specs.Prelude.{◌≡◌, ◌≢◌, ◌↔◌, ◌≤◌, ◌-◌, ℕ, IsTrue, Err, IfErr, IfOk, OnOk, OnErr, replicate};
 ghost use Rattle.model.specs.Units.{Reads, Writes, IsCounted, HasGrown};
-ghost use Rattle.unit_io.specs.Counts.{count_of, one_more};
-ghost use Rattle.unit_io.specs.Failing.{failures_with};
+ghost use Rattle.unit_io.specs.Counts.{count_of, one_more, Same, SameBut, IfNoneFailed};
+ghost use Rattle.unit_io.specs.Failing.{failures_with, failures_in};
 
 use crate::counts::Counts;
 use crate::units::Units;
@@ -47,6 +47,7 @@ impl<U: Units> FailAt<U> {
         ensures counted { IsTrue result → HasGrown (count_of self.old.counts unit) (count_of self.new.counts unit) }
         ensures grows { (u : ℕ) → count_of self.old.counts u ≤ count_of self.new.counts u }
         ensures spared { self.old.left ≢ 1 → self.new.counts ≡ self.old.counts }
+        ensures others { SameBut unit (count_of self.old.counts) (count_of self.new.counts) }
     {
         if self.left == 0 {
             return false;
@@ -73,6 +74,12 @@ impl<U: Units> Units for FailAt<U> {
         ensures err { OnErr result (U.told self.new.units ≡ U.told self.old.units) }
         ensures counted { IfErr result (λ fault. IsCounted fault (failures_with (U.failures self.old.units unit) (count_of self.old.counts unit)) (failures_with (U.failures self.new.units unit) (count_of self.new.counts unit))) }
         ensures grows { (u : ℕ) → failures_with (U.failures self.old.units u) (count_of self.old.counts u) ≤ failures_with (U.failures self.new.units u) (count_of self.new.counts u) }
+        ensures kept { IfNoneFailed result (Same
+            (failures_in (U.failures self.old.units) self.old.counts)
+            (failures_in (U.failures self.new.units) self.new.counts)) }
+        ensures others { SameBut unit
+            (failures_in (U.failures self.old.units) self.old.counts)
+            (failures_in (U.failures self.new.units) self.new.counts) }
         ensures left { self.new.left ≡ self.old.left - 1 }
         ensures fails { self.old.left ≡ 1 → (result ≡ Err UnitFault.ReadFailed) × (self.new.units ≡ self.old.units) }
         ensures spared { self.old.left ≢ 1 → (self.new.counts ≡ self.old.counts) × IfErr result (λ fault. IsCounted fault (U.failures self.old.units unit) (U.failures self.new.units unit)) }
@@ -88,6 +95,12 @@ impl<U: Units> Units for FailAt<U> {
         ensures err { OnErr result (U.told self.new.units ≡ U.told self.old.units) }
         ensures counted { IfErr result (λ fault. IsCounted fault (failures_with (U.failures self.old.units unit) (count_of self.old.counts unit)) (failures_with (U.failures self.new.units unit) (count_of self.new.counts unit))) }
         ensures grows { (u : ℕ) → failures_with (U.failures self.old.units u) (count_of self.old.counts u) ≤ failures_with (U.failures self.new.units u) (count_of self.new.counts u) }
+        ensures kept { IfNoneFailed result (Same
+            (failures_in (U.failures self.old.units) self.old.counts)
+            (failures_in (U.failures self.new.units) self.new.counts)) }
+        ensures others { SameBut unit
+            (failures_in (U.failures self.old.units) self.old.counts)
+            (failures_in (U.failures self.new.units) self.new.counts) }
         ensures left { self.new.left ≡ self.old.left - 1 }
         ensures fails { self.old.left ≡ 1 → (result ≡ Err UnitFault.WriteFailed) × (self.new.units ≡ self.old.units) }
         ensures spared { self.old.left ≢ 1 → (self.new.counts ≡ self.old.counts) × IfErr result (λ fault. IsCounted fault (U.failures self.old.units unit) (U.failures self.new.units unit)) }

@@ -2,7 +2,7 @@
 
 ghost use Rattle.std.specs.Prelude.{◌≡◌, ◌≤◌, ℕ, IfOk, IfErr, replicate};
 ghost use Rattle.model.specs.Units.{IsCounted};
-ghost use Rattle.unit_io.specs.Counts.{count_of};
+ghost use Rattle.unit_io.specs.Counts.{count_of, Same, SameBut, IfMemory};
 
 use crate::counts::Counts;
 use crate::given::GivenFile;
@@ -93,6 +93,8 @@ impl<'a, R: Files + Input + Print> FileUnits<'a, R> {
         ensures same { result ≡ fault }
         ensures counted { IsCounted fault (count_of self.old.counts unit) (count_of self.new.counts unit) }
         ensures grows { (u : ℕ) → count_of self.old.counts u ≤ count_of self.new.counts u }
+        ensures kept { IfMemory fault (Same (count_of self.old.counts) (count_of self.new.counts)) }
+        ensures others { SameBut unit (count_of self.old.counts) (count_of self.new.counts) }
     {
         if fault != UnitFault::Memory {
             self.counts.add(unit);

@@ -2,6 +2,7 @@
 
 ghost use Rattle.std.specs.Prelude.{◌≡◌, ◌↔◌, ◌≤◌, ◌⊎◌, ℕ, [], ◌∷◌, ◌++◌, Some, None, Err, replicate, option_copied, set, IfOk, OnOk, IfErr, OnErr};
 ghost use Rattle.model.specs.Units.{records_of, Reads, Writes, IsCounted};
+ghost use Rattle.unit_io.specs.Counts.{Same, SameBut, IfNoneFailed};
 ghost use Rattle.unit_io.specs.Held.{side_at, output_of, place_of, written_to, io_of, failures_of, refused, IsRead, IsWritten, IsReadable, IsWritable, IsOfMemUnits};
 ghost use Rattle.unit_io.specs.declared.mem.Side.TheVariants.{Input, Output};
 
@@ -145,6 +146,8 @@ impl Units for MemUnits {
         ensures err { OnErr result (Some (io_of self.new) ≡ Some (io_of self.old)) }
         ensures counted { IfErr result (λ fault. IsCounted fault (failures_of self.old unit) (failures_of self.new unit)) }
         ensures grows { (u : ℕ) → failures_of self.old u ≤ failures_of self.new u }
+        ensures kept { IfNoneFailed result (Same (failures_of self.old) (failures_of self.new)) }
+        ensures others { SameBut unit (failures_of self.old) (failures_of self.new) }
         ensures read { IfOk result (λ got. IsRead unit got self.old self.new) }
         ensures refused { IfErr result (λ fault. self.new ≡ refused fault unit self.old) }
         ensures unopened { (result ≡ Err UnitFault.NotOpen) ↔ ¬ IsReadable (side_at unit self.old.opened) }
@@ -168,6 +171,8 @@ impl Units for MemUnits {
         ensures err { OnErr result (Some (io_of self.new) ≡ Some (io_of self.old)) }
         ensures counted { IfErr result (λ fault. IsCounted fault (failures_of self.old unit) (failures_of self.new unit)) }
         ensures grows { (u : ℕ) → failures_of self.old u ≤ failures_of self.new u }
+        ensures kept { IfNoneFailed result (Same (failures_of self.old) (failures_of self.new)) }
+        ensures others { SameBut unit (failures_of self.old) (failures_of self.new) }
         ensures written { OnOk result (IsWritten unit bytes.now self.old self.new) }
         ensures refused { IfErr result (λ fault. self.new ≡ refused fault unit self.old) }
         ensures unopened { (result ≡ Err UnitFault.NotOpen) ↔ ¬ IsWritable (side_at unit self.old.opened) }

@@ -1,13 +1,12 @@
 -- The world that a run begins with.
-use Rattle.std.proofs.Common.{◌≡◌, ℕ, List, [], ◌∷◌, ◌++◌, Bool, true, false, cond, Option, Some, None, refl, sym, ap, ◌∙◌, bytes_eq, codes}
+use Rattle.std.proofs.Common.{◌≡◌, List, [], ◌∷◌, ◌++◌, Bool, true, false, cond, Option, Some, None, refl, sym, ap, ◌∙◌, bytes_eq, codes}
 use Rattle.std.proofs.lemmas.Slice.Eq.{bytes_eq-Decides}
 use Rattle.model.specs.Trees.{Bytes}
 use Rattle.model.specs.Io.{Io}
 use Rattle.model.specs.Keywords.{first_keys}
 use Rattle.model.specs.Values.{Str, first_value}
-use Rattle.model.specs.Machine.{MVal, MW, codes_of}
+use Rattle.model.specs.Machine.{codes_of}
 use Rattle.model.specs.Agreement.{first_m}
-use Rattle.world.specs.Values.{value_of}
 use Rattle.world.specs.Held.{Held, variable_at, value_in, input_in, output_in, world_of, null_variable, first_patterns, first_variables}
 use Rattle.world.specs.declared.world.Variable.{Variable}
 

@@ -1,11 +1,11 @@
 -- Integers of 64 bits, and the texts that stand for them.
-use Rattle.std.proofs.Common.{◌≡◌, ◌<◌, ℕ, List, [], ◌∷◌, length, ℤ, Bool, false, refl, sym, ap, ◌∙◌, arith, FitsSigned, nat_eq, w64, to_z, of_z, to_z-of_z}
+use Rattle.std.proofs.Common.{◌≡◌, [], ◌∷◌, length, ℤ, false, sym, ap, ◌∙◌, FitsSigned, w64, to_z, of_z, to_z-of_z}
 use Rattle.std.specs.Prelude.{◌==◌}
 use Rattle.std.specs.Str.Parse.{signed_digits_value}
 use Rattle.model.specs.declared.run.ErrorCode.TheVariants as error
 use Rattle.model.specs.Trees.{Bytes}
 use Rattle.model.specs.Strings.{IsIntText}
-use Rattle.model.specs.Conversions.{Conv, Got, Bad, read_integer}
+use Rattle.model.specs.Conversions.{Got, Bad, read_integer}
 use Rattle.model.proofs.IntegerLaws.{reads_integers, refuses_other_texts}
 
 pub same_in_64 : (n : ℤ) → FitsSigned w64 n → to_z w64 (of_z w64 n) ≡ n

@@ -9,7 +9,7 @@ use Rattle.model.specs.Io.{Io}
 use Rattle.model.specs.Keywords.{Keys, allows, put_key}
 use Rattle.model.specs.Names.{is_protected}
 use Rattle.model.specs.Values.{set_keys, keys_of}
-use Rattle.model.specs.Conversions.{Conv, Got, Op, Gives, Faults, conv, to_integer}
+use Rattle.model.specs.Conversions.{Got, Op, Gives, Faults, conv, to_integer}
 use Rattle.model.specs.Operators.{keyset_op}
 use Rattle.model.specs.Machine.{MVal, MW}
 use Rattle.keywords.specs.Answers.{set_answer}

@@ -10,7 +10,7 @@ use Rattle.model.specs.Units.{Reads, after_read, first_of, rest_of}
 use Rattle.model.specs.Keywords.{IsInteger, KeyValue, is_zero}
 use Rattle.model.specs.Values.{Str, set_var, keys_of}
 use Rattle.model.specs.Conversions.{Op, Gives, Refuses, Faults, to_text}
-use Rattle.model.specs.Operators.{as_read, limited, take_record, fetch_var, fetch_op, assign_op, write_var, print_text}
+use Rattle.model.specs.Operators.{as_read, take_record, fetch_var, fetch_op, assign_op, write_var, print_text}
 use Rattle.model.specs.Machine.{MVal, MW}
 use Rattle.pattern_compiler.specs.View.{name_of}
 use Rattle.pattern_compiler.specs.declared.instr.Name.{Name}

@@ -1,6 +1,6 @@
 //! Names that are fetched and assigned to. A variable may read its value from a unit, or write it to one.
 
-ghost use Rattle.std.specs.Prelude.{◌≡◌, ◌≤◌, ℕ, Some, length, option_map, IfOk, IfErr, OnOk, OnErr};
+ghost use Rattle.std.specs.Prelude.{◌≡◌, Some, length, option_map, IfOk, IfErr, OnOk, OnErr};
 ghost use Rattle.model.specs.Io.{Io};
 ghost use Rattle.model.specs.Told.{IfTold};
 ghost use Rattle.model.specs.Operators.{fetch_op, take_record, as_read, assign_op, splice_op, write_var, print_text};
@@ -9,7 +9,7 @@ ghost use Rattle.model.specs.declared.run.Stop.TheVariants.{NoMemory};
 ghost use Rattle.pattern_compiler.specs.View.{name_of};
 ghost use Rattle.world.specs.Values.{value_of};
 ghost use Rattle.world.specs.Held.{Held, world_of, taken, variable_at, value_in};
-ghost use Rattle.world.specs.Answers.{answer_map, Answers, AnswersOrFails, done, IfStopped, IsStop, stop_of};
+ghost use Rattle.world.specs.Answers.{answer_map, Answers, AnswersOrFails, done, IfStopped, KeepsCounts, stop_of};
 
 use crate::fault::Fault;
 use crate::value::Value;
@@ -26,8 +26,7 @@ impl World {
     pub fn fetch<U: Units>(&mut self, units: &mut U, name: &Name) -> Result<Option<Value>, Fault>
         ensures fetched { IfTold (U.told units.old) (U.told units.new) (λ io io'.
             AnswersOrFails (answer_map (option_map value_of) result) (world_of self.new io') (fetch_op (name_of name.now) (world_of self.old io))) }
-        ensures stop { IfStopped result (λ stop. IsStop stop (U.failures units.old) (U.failures units.new)) }
-        ensures grows { (u : ℕ) → U.failures units.old u ≤ U.failures units.new u }
+        ensures counts { KeepsCounts result (U.failures units.old) (U.failures units.new) }
     {
         let Name::Variable(name) = name else {
             return Err(Fault::Error(ErrorCode::WrongType));
@@ -47,8 +46,7 @@ impl World {
     ) -> Result<Option<Value>, Fault>
         ensures fetched { IfTold (U.told units.old) (U.told units.new) (λ io io'.
             AnswersOrFails (answer_map (option_map value_of) result) (world_of self.new io') (take_record name.now unit (io.left unit) (world_of self.old io))) }
-        ensures stop { IfStopped result (λ stop. IsStop stop (U.failures units.old) (U.failures units.new)) }
-        ensures grows { (u : ℕ) → U.failures units.old u ≤ U.failures units.new u }
+        ensures counts { KeepsCounts result (U.failures units.old) (U.failures units.new) }
     {
         match units.read_record(unit) {
             Ok(Some(line)) => self.take(name, line),
@@ -93,8 +91,7 @@ impl World {
     ) -> Result<(), Fault>
         ensures assigned { IfTold (U.told units.old) (U.told units.new) (λ io io'.
             Answers (done result) (world_of self.new io') (assign_op (name_of name.now) (value_of value) (world_of self.old io))) }
-        ensures stop { IfStopped result (λ stop. IsStop stop (U.failures units.old) (U.failures units.new)) }
-        ensures grows { (u : ℕ) → U.failures units.old u ≤ U.failures units.new u }
+        ensures counts { KeepsCounts result (U.failures units.old) (U.failures units.new) }
     {
         let Name::Variable(name) = name else {
             return Err(Fault::Error(ErrorCode::WrongType));
@@ -116,8 +113,7 @@ impl World {
     ) -> Result<(), Fault>
         ensures assigned { IfTold (U.told units.old) (U.told units.new) (λ io io'.
             Answers (done result) (world_of self.new io') (splice_op (name_of name.now) span.now.subject span.now.start span.now.end (value_of value.now) (world_of self.old io))) }
-        ensures stop { IfStopped result (λ stop. IsStop stop (U.failures units.old) (U.failures units.new)) }
-        ensures grows { (u : ℕ) → U.failures units.old u ≤ U.failures units.new u }
+        ensures counts { KeepsCounts result (U.failures units.old) (U.failures units.new) }
     {
         let whole = self.replaced(alloc, span, value)?;
         self.assign(alloc, units, name, whole)
@@ -133,8 +129,7 @@ impl World {
     ) -> Result<(), Fault>
         ensures written { IfTold (U.told units.old) (U.told units.new) (λ io io'.
             Answers (done result) (world_of self.now io') (write_var (Some unit) (value_in (variable_at name.now self.now.variables)) (world_of self.now io))) }
-        ensures stop { IfStopped result (λ stop. IsStop stop (U.failures units.old) (U.failures units.new)) }
-        ensures grows { (u : ℕ) → U.failures units.old u ≤ U.failures units.new u }
+        ensures counts { KeepsCounts result (U.failures units.old) (U.failures units.new) }
     {
         if is_zero(&self.keywords, KeyId::Output) {
             return Ok(());
@@ -148,8 +143,7 @@ impl World {
 fn print<U: Units>(alloc: Global, units: &mut U, unit: u8, value: &Value) -> Result<(), Fault>
     ensures printed { IfTold (U.told units.old) (U.told units.new) (λ io io'.
         (h : Held) → Answers (done result) (world_of h io') (print_text unit (to_text (value_of value.now)) (world_of h io))) }
-    ensures stop { IfStopped result (λ stop. IsStop stop (U.failures units.old) (U.failures units.new)) }
-    ensures grows { (u : ℕ) → U.failures units.old u ≤ U.failures units.new u }
+    ensures counts { KeepsCounts result (U.failures units.old) (U.failures units.new) }
 {
     let text = match value.to_text(alloc) {
         Ok(text) => text,

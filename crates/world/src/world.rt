@@ -75,7 +75,10 @@ pub struct World {
 
 impl Drop for World {
     fn drop(self) {
-        let World { variables: _, keywords: _ } = self;
+        let World {
+            variables: _,
+            keywords: _,
+        } = self;
     }
 }
 

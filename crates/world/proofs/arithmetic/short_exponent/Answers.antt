@@ -1,4 +1,4 @@
-use Rattle.std.proofs.Common.{◌≡◌, subst, ap, ◌∙◌, sym, int_le, true, negsuc, pos}
+use Rattle.std.proofs.Common.{ap, ◌∙◌, sym, int_le, negsuc, pos}
 use Rattle.world.proofs.Integers.{same_in_64}
 use Rattle.world.proofs.Powers.{short_is_same}
 use Rattle.world.proofs.arithmetic.short_exponent.Goals as goal

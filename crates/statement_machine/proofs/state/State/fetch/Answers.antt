@@ -1,9 +1,7 @@
-use Rattle.std.proofs.Common.{ap, ◌∙◌, ◌∷◌, drop}
 use Rattle.std.specs.Prelude.{option_map}
-use Rattle.frames.specs.declared.operand.Operand.TheVariants as operand
-use Rattle.world.specs.Answers.{answer_map, done, IsStop}
+use Rattle.world.specs.Answers.{answer_map}
 use Rattle.world.specs.Values.{value_of}
-use Rattle.statement_machine.proofs.Fetching.{fetched, fetch_sound, stop_or_no_memory}
+use Rattle.statement_machine.proofs.Fetching.{fetched, fetch_sound}
 use Rattle.statement_machine.proofs.state.State.fetch.Goals as goal
 
 pub returns-clause-left : goal.returns-clause-left
@@ -17,6 +15,3 @@ returns-clause-sound g c im h =
     fetch_sound im c.args.next c.args.self.now c.gave.new.self c.fetch-answer.new.self c.gave.result c.pop_name-name.new.operands c.pop_name-name.result
     (answer_map (option_map value_of) c.fetch-answer.result) h
     (c.pop_name-name.ensures) c.gave.ensures.left
-
-pub returns-clause-stop : goal.returns-clause-stop
-returns-clause-stop g c = stop_or_no_memory c.gave.result c.fetch-answer.result (g.U.Units.failures c.args.units.now) (g.U.Units.failures c.fetch-answer.new.units) c.gave.ensures.stop c.fetch-answer.ensures.stop

@@ -1,9 +1,8 @@
-use Rattle.std.proofs.Common.{ap, ◌∙◌, ◌∷◌, drop}
+use Rattle.std.proofs.Common.{drop}
 use Rattle.std.specs.Prelude.{option_map}
-use Rattle.frames.specs.declared.operand.Operand.TheVariants as operand
-use Rattle.world.specs.Answers.{answer_map, done, IsStop}
+use Rattle.world.specs.Answers.{answer_map}
 use Rattle.world.specs.Values.{value_of}
-use Rattle.statement_machine.proofs.Fetching.{fetched_above, fetch_above_sound, stop_or_no_memory}
+use Rattle.statement_machine.proofs.Fetching.{fetched_above, fetch_above_sound}
 use Rattle.statement_machine.proofs.state.State.fetch_above.Goals as goal
 
 pub returns-clause-left : goal.returns-clause-left
@@ -17,6 +16,3 @@ returns-clause-sound g c im h =
     fetch_above_sound im c.args.next c.args.self.now c.gave.new.self c.fetch-answer.new.self c.gave.result (drop 1 c.args.self.now.operands) c.top_name.result.now
     (answer_map (option_map value_of) c.fetch-answer.result) h
     (c.top_name.ensures) c.gave.ensures.left
-
-pub returns-clause-stop : goal.returns-clause-stop
-returns-clause-stop g c = stop_or_no_memory c.gave.result c.fetch-answer.result (g.U.Units.failures c.args.units.now) (g.U.Units.failures c.fetch-answer.new.units) c.gave.ensures.stop c.fetch-answer.ensures.stop

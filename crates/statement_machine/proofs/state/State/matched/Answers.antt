@@ -1,4 +1,5 @@
-use Rattle.statement_machine.proofs.Matching.{matched_halts, stops_by}
+use Rattle.statement_machine.proofs.Matching.{matched_halts}
+use Rattle.statement_machine.proofs.Stopping.{halted_keeps}
 use Rattle.world.proofs.Telling.{told_on}
 use Rattle.statement_machine.proofs.state.State.matched.Goals as goal
 
@@ -8,5 +9,5 @@ returns-in-Err-clause-left g c im =
     (λ io io' a. matched_halts im c.args.self.now c.assign_all.new.world io io' c.args.matching c.args.start c.args.end c.as_slice.result.now c.args.pending.items c.as_slice.ensures.value c.in-Err.fault c.halted.result c.halted.ensures a)
     c.in-Err.ensures.assigned
 
-pub returns-in-Err-clause-stop : goal.returns-in-Err-clause-stop
-returns-in-Err-clause-stop g c = stops_by c.in-Err.fault c.halted.result _ _ c.halted.ensures c.in-Err.ensures.stop
+pub returns-in-Err-clause-counts : goal.returns-in-Err-clause-counts
+returns-in-Err-clause-counts g c = halted_keeps c.in-Err.fault c.halted.result _ _ _ c.halted.ensures c.in-Err.ensures.counts

@@ -1,9 +1,7 @@
-use Rattle.std.proofs.Common.{ap, ◌∙◌, ◌∷◌, drop}
-use Rattle.std.specs.Prelude.{option_map}
+use Rattle.std.proofs.Common.{ap, ◌∙◌, ◌∷◌}
 use Rattle.frames.specs.declared.operand.Operand.TheVariants as operand
-use Rattle.world.specs.Answers.{answer_map, done, IsStop}
-use Rattle.world.specs.Values.{value_of}
-use Rattle.statement_machine.proofs.Fetching.{spliced, splice_sound, stop_of_operation}
+use Rattle.world.specs.Answers.{done}
+use Rattle.statement_machine.proofs.Fetching.{spliced, splice_sound}
 use Rattle.statement_machine.proofs.state.State.splice.Goals as goal
 
 pub returns-clause-left : goal.returns-clause-left
@@ -17,6 +15,3 @@ returns-clause-sound g c im h =
     splice_sound im c.args.next c.args.self.now c.went.new.self c.splice-answer.new.self c.went.result c.pop_name-name.new.operands c.pop_name-name.result
     c.pop_value-value.result c.pop_span-span.result (done c.splice-answer.result) h
     (c.pop_value-value.ensures ∙ ap (λ l. operand.Value c.pop_value-value.result ∷ l) (c.pop_span-span.ensures ∙ ap (λ l. operand.Span c.pop_span-span.result ∷ l) c.pop_name-name.ensures)) c.went.ensures.left
-
-pub returns-clause-stop : goal.returns-clause-stop
-returns-clause-stop g c = stop_of_operation c.went.result c.splice-answer.result (λ x. IsStop x (g.U.Units.failures c.args.units.now) (g.U.Units.failures c.splice-answer.new.units)) c.went.ensures.stop c.splice-answer.ensures.stop

@@ -1,4 +1,4 @@
-use Rattle.std.proofs.Common.{◌≡◌, refl, ap, sym, ◌∙◌, Option, Some, bytes_eq, is_some, true, get_or}
+use Rattle.std.proofs.Common.{ap, sym, is_some}
 use Rattle.world.proofs.Variables.{put_there}
 use Rattle.world.proofs.world.World.set.Goals as goal
 
