@@ -1,7 +1,6 @@
 //! Tests of the crate `aggregates`, with ample memory.
 #![tactic(auto)]
 
-#[cfg(test)]
 mod items;
 #[cfg(test)]
 mod objects;
