@@ -1,11 +1,13 @@
 -- What an instruction does, in the definitions.
-use Rattle.std.specs.Prelude.{ℕ, ◌+◌, List, Some}
+use Rattle.std.specs.Prelude.{ℕ, ◌+◌, List, Option, Some}
 use Rattle.model.specs.Pattern as p
 use Rattle.model.specs.Steps as s
 use Rattle.model.specs.Steps.{onward, Moves}
 use Rattle.pattern_compiler.specs.View.{name_of}
 use Rattle.match_machine.specs.declared.act.Act.{Act}
 use Rattle.match_machine.specs.declared.act.Act.TheVariants as act
+use Rattle.match_machine.specs.declared.act.Named.{Named}
+use Rattle.match_machine.specs.declared.act.Named.TheVariants as named
 use Rattle.match_machine.specs.View.{kept_of, waiting_of}
 
 -- on the subject u, for the attempt t
@@ -18,7 +20,18 @@ act_of u t act.Aborts = s.Aborts
 act_of u t act.Opens = s.act u (Some p.Open) t
 act_of u t act.OpensFence = s.act u (Some p.OpenFence) t
 act_of u t act.ClosesFence = s.act u (Some p.CloseFence) t
-act_of u t (act.Closes x) = s.act u (Some (p.Close (name_of x))) t
-act_of u t (act.Says x) = s.act u (Some (p.Say (name_of x))) t
-act_of u t (act.Tells x) = s.act u (Some (p.AtCursor (name_of x))) t
-act_of u t (act.Asks w) = s.Asking (waiting_of w) t
+
+abbrev pub named_of : List ℕ → s.Thread → Named → s.Act
+named_of u t (named.Closes x) = s.act u (Some (p.Close (name_of x))) t
+named_of u t (named.Says x) = s.act u (Some (p.Say (name_of x))) t
+named_of u t (named.Tells x) = s.act u (Some (p.AtCursor (name_of x))) t
+named_of u t (named.Asks w) = s.Asking (waiting_of w) t
+
+-- an instruction with a name or an expression
+abbrev pub IsNamed : Option p.Instr → Type 0
+IsNamed (Some (p.Close x)) = Unit {0}
+IsNamed (Some (p.Say x)) = Unit {0}
+IsNamed (Some (p.AtCursor x)) = Unit {0}
+IsNamed (Some (p.Eval e)) = Unit {0}
+IsNamed (Some (p.EvalBasic k e)) = Unit {0}
+IsNamed _ = ⊥
