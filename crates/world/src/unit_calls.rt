@@ -1,6 +1,6 @@
 //! Names that are fetched and assigned to. A variable may read its value from a unit, or write it to one.
 
-ghost use Rattle.std.specs.Prelude.{◌≡◌, ◌⊎◌, Some, length, option_map, IfOk, IfErr, OnOk, OnErr};
+ghost use Rattle.std.specs.Prelude.{◌≡◌, ◌≢◌, ◌⊎◌, Some, None, Ok, length, option_map, IfOk, IfErr, OnOk, OnErr};
 ghost use Rattle.model.specs.Io.{Io};
 ghost use Rattle.model.specs.Told.{IfTold};
 ghost use Rattle.model.specs.Operators.{fetch_op, take_record, as_read, assign_op, splice_op, write_var, print_text};
@@ -24,12 +24,13 @@ use unit_io::Units;
 
 impl World {
     /// The value of a name. A variable that has a unit reads a record; at the unit's end that fails. A fault leaves the
-    /// world.
+    /// world, and so does the end of a unit.
     pub fn fetch<U: Units>(&mut self, units: &mut U, name: &Name) -> Result<Option<Value>, Fault>
         ensures fetched { IfTold (U.told units.old) (U.told units.new) (λ io io'.
             AnswersOrFails (answer_map (option_map value_of) result) (world_of self.new io') (fetch_op (name_of name.now) (world_of self.old io))) }
         ensures counts { KeepsCounts result (U.failures units.old) (U.failures units.new) }
         ensures err { OnErr result (self.new ≡ self.old) }
+        ensures end { result ≡ Ok None → self.new ≡ self.old }
     {
         let Name::Variable(name) = name else {
             return Err(Fault::Error(ErrorCode::WrongType));
@@ -51,6 +52,7 @@ impl World {
             AnswersOrFails (answer_map (option_map value_of) result) (world_of self.new io') (take_record name.now unit (io.left unit) (world_of self.old io))) }
         ensures counts { KeepsCounts result (U.failures units.old) (U.failures units.new) }
         ensures err { OnErr result (self.new ≡ self.old) }
+        ensures end { result ≡ Ok None → self.new ≡ self.old }
     {
         match units.read_record(unit) {
             Ok(Some(line)) => self.take(name, line),
@@ -64,6 +66,7 @@ impl World {
         ensures taken { (io : Io) → AnswersOrFails (answer_map (option_map value_of) result) (world_of self.new io) (taken name.now line (world_of self.old io)) }
         ensures stop { IfStopped result (λ stop. stop ≡ NoMemory) }
         ensures err { OnErr result (self.new ≡ self.old) }
+        ensures some { IfOk result (λ got. got ≢ None) }
     {
         let text = self.as_read(line)?;
         if text.len() > self.keywords.longest() {
