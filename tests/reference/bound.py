@@ -4,6 +4,7 @@ import argparse
 import concurrent.futures
 import os
 import pathlib
+import resource
 import subprocess
 import tempfile
 import typing
@@ -17,6 +18,7 @@ STEPS_PER_RULE = 8
 MOST_RULES = 20000
 MOST_RULES_OF_FAMILIES = 400000
 SECONDS = 60
+MEMORY = 1 << 30
 INPUT = b"AB\n(A)\n\nBAAB  \n"
 USED_UP = b"steps used up\n"
 HERE = pathlib.Path(__file__).resolve().parents[1]
@@ -44,6 +46,11 @@ class Result(typing.NamedTuple):
         return self.steps / (self.rules + 1)
 
 
+def limit_memory():
+    """Keeps a program from taking all the machine's memory."""
+    resource.setrlimit(resource.RLIMIT_AS, (MEMORY, MEMORY))
+
+
 class Program(typing.NamedTuple):
     """A program `sno`, and the folder in which it runs."""
 
@@ -53,7 +60,8 @@ class Program(typing.NamedTuple):
     def run(self, *words):
         """What is seen of the program with these words."""
         how = {"stdout": subprocess.PIPE, "stderr": subprocess.PIPE, "input": INPUT, "timeout": SECONDS}
-        ran = subprocess.run([self.path, *words], cwd=self.folder, check=False, **how)
+        how.update(cwd=self.folder, check=False, preexec_fn=limit_memory)
+        ran = subprocess.run([self.path, *words], **how)
         return ran.stdout, ran.stderr, ran.returncode
 
     def compile(self, deck):

@@ -24,7 +24,7 @@ class Deck:
     """A deck that is drawn by a seed; `later` are the constructs of LATER that it may have."""
 
     def __init__(self, seed, later):
-        self.random, self.later = random.Random(seed), later
+        self.random, self.later, self.held = random.Random(seed), later, PATTERNS
 
     def pick(self, *choices):
         """One of some functions or texts; a function is called."""
@@ -76,7 +76,7 @@ class Deck:
 
     def variable(self):
         """A variable."""
-        return self.pick(*STRINGS, *STRINGS, "I", "INPUT", "P") if self.rare(4) else self.pick(*STRINGS)
+        return self.pick("I", "INPUT", "UNSET") if self.rare(8) else self.pick(*STRINGS)
 
     def keyword(self):
         """A keyword."""
@@ -95,6 +95,8 @@ class Deck:
 
     def predicate(self, depth):
         """A call of a predicate."""
+        if self.rare(30):
+            return self.pick("IDENT(P,V)", "SIZE(P)", "DIFFER(V,Q)", "EQ(P,1)", "TRIM(R)", "DUPL(P,2)")
         if self.rare(2):
             names = ["EQ", "NE", "LT", "LE", "GT", "GE"]
             return f"{self.pick(*names)}({self.integer(depth)},{self.integer(depth)})"
@@ -111,7 +113,7 @@ class Deck:
     def pattern(self, depth=3):
         """An expression whose value is likely a pattern."""
         if depth == 0 or self.rare(6):
-            return self.pick(self.literal, self.literal, self.basic, self.word, *PATTERNS)
+            return self.pick(self.literal, self.literal, self.basic, self.word, *self.held)
         inner = [self.joined, self.joined, self.joined, self.alternatives, self.alternatives, self.assigning, self.arbno]
         inner += [made for name, made in self.constructs().items() if name in self.later]
         return self.random.choice(inner)(depth - 1)
@@ -167,8 +169,8 @@ class Deck:
         return self.pick(
             lambda: f"{self.target()} = {self.value(3)}",
             lambda: f"{self.target()} = {self.value(3)}",
-            lambda: f"{self.pick(*PATTERNS)} = {self.pattern()}",
-            lambda: f"{self.pick(*PATTERNS)} = {self.pick(*PATTERNS)} | {self.pattern(1)}",
+            self.pattern_assignment,
+            self.pattern_assignment,
             lambda: f"{self.subject()} {self.pattern()}",
             lambda: f"{self.subject()} {self.pattern()}",
             lambda: f"{self.pick(*STRINGS)} {self.pattern()} = {self.pick(self.value, '')}",
@@ -179,6 +181,18 @@ class Deck:
             lambda: f"OUTPUT = '[' {self.variable()} ']'",
             self.key_assignment,
         ).rstrip()
+
+    def pattern_assignment(self):
+        """An assignment of a pattern, in which only later variables of patterns stand, and itself at most once.
+
+        So no pattern doubles again and again.
+        """
+        number = self.random.randrange(len(PATTERNS))
+        self.held = PATTERNS[number + 1 :] or ["'A'"]
+        more = f"{PATTERNS[number]} | " if self.rare(3) else ""
+        made = f"{PATTERNS[number]} = {more}{self.pattern(2)}"
+        self.held = PATTERNS
+        return made
 
     def subject(self):
         """The subject of a match."""
@@ -198,7 +212,7 @@ class Deck:
         """The deck."""
         statements = [f" &STLIMIT = {self.random.choice([10, 30, 100, 300])}"]
         statements += [f" {name} = {self.pick(self.literal, self.number)}" for name in STRINGS]
-        statements += [f" {name} = {self.pattern(2)}" for name in PATTERNS]
+        statements += [f" {self.pattern_assignment()}" for _ in PATTERNS]
         labels = dict(zip(self.random.sample(range(16), len(LABELS)), LABELS))
         for number in range(16):
             statements.append(f"{labels.get(number, '')} {self.body()}{self.goto()}")
