@@ -8,7 +8,7 @@ import typing
 from .cards import CardFault, statements_of
 from .faults import Refused, trees_of
 from .meaning import Run
-from .search import TooLong
+from .search import Search, TooLong
 from .units import UnitFault, Units
 
 DEEP_ENOUGH = 20000
@@ -35,12 +35,12 @@ def told_of(deck):
         return None, "".join(f"statement {number} {cause}\n" for number, cause in refused.causes)
 
 
-def seen_of(deck, units, most=float("inf")):
-    """What is seen of a deck, with these units and at most so many rules."""
+def seen_of(deck, units, most=float("inf"), search=Search):
+    """What is seen of a deck, with these units, at most so many rules, and matches done by this search."""
     trees, told = told_of(deck)
     if told:
         return Seen(b"", told.encode(), 3, 0, units)
-    run = Run(trees, units, most)
+    run = Run(trees, units, most, search)
     try:
         ending = run.run()
         told, status = ending.told(), ending.status()
