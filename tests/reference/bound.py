@@ -11,6 +11,7 @@ import typing
 
 from . import families, generate
 from .command import seen_of
+from .compare import DECKS, bytes_of, is_left_out
 from .units import Units
 
 STEPS_PER_RULE = 8
@@ -25,11 +26,12 @@ HERE = pathlib.Path(__file__).resolve().parents[1]
 
 
 class Case(typing.NamedTuple):
-    """A deck by its name."""
+    """A deck by its name, the most rules that it may use, and what unit 5 holds."""
 
     name: str
     deck: bytes
     most: int
+    given: bytes = INPUT
 
 
 class Result(typing.NamedTuple):
@@ -52,14 +54,15 @@ def limit_memory():
 
 
 class Program(typing.NamedTuple):
-    """A program `sno`, and the folder in which it runs."""
+    """A program `sno`, the folder in which it runs, and its standard input."""
 
     path: str
     folder: str
+    given: bytes = b""
 
     def run(self, *words):
         """What is seen of the program with these words."""
-        how = {"stdout": subprocess.PIPE, "stderr": subprocess.PIPE, "input": INPUT, "timeout": SECONDS}
+        how = {"stdout": subprocess.PIPE, "stderr": subprocess.PIPE, "input": self.given, "timeout": SECONDS}
         how.update(cwd=self.folder, check=False, preexec_fn=limit_memory)
         ran = subprocess.run([self.path, *words], **how)
         return ran.stdout, ran.stderr, ran.returncode
@@ -87,7 +90,7 @@ def least_steps(program, most):
 
 def compared(program, case):
     """What comes of a case."""
-    seen = seen_of(case.deck, Units({5: INPUT}), case.most)
+    seen = seen_of(case.deck, Units({5: case.given}), case.most)
     if seen.told == b"rules used up\n":
         return Result(case, True, [])
     got = program.compile(case.deck)
@@ -109,7 +112,7 @@ def result_of(path, case):
     """The result of a case, in a folder of its own."""
     with tempfile.TemporaryDirectory(prefix="sno-bound-") as folder:
         try:
-            return compared(Program(path, folder), case)
+            return compared(Program(path, folder, case.given), case)
         except subprocess.TimeoutExpired:
             return Result(case, False, [f"no end within {SECONDS} seconds"])
 
@@ -122,12 +125,20 @@ def constructs(path):
         return [name for name, text in shown if program.compile(f"{text}\nEND\n".encode())[2] == 0]
 
 
+def written_cases():
+    """The cases of tests/decks that have no words."""
+    decks = [it for it in sorted(DECKS.glob("*/*.sno")) if not is_left_out(it)]
+    decks = [it for it in decks if not any(it.with_suffix(ending).is_file() for ending in (".words", ".cmd"))]
+    return [Case(it.stem, it.read_bytes(), MOST_RULES, bytes_of(it, ".in") or b"") for it in decks]
+
+
 def cases_of(given, later):
     """All cases."""
     found = families.all_families(later).items()
     cases = [Case(name, deck, MOST_RULES_OF_FAMILIES) for name, deck in found]
     seeds = range(given.seed, given.seed + given.decks)
-    return cases + [Case(f"seed {seed}", generate.deck(seed, later), MOST_RULES) for seed in seeds]
+    cases += [Case(f"seed {seed}", generate.deck(seed, later), MOST_RULES) for seed in seeds]
+    return cases + (written_cases() if given.cases else [])
 
 
 def told(result):
@@ -152,6 +163,7 @@ def arguments():
     parser.add_argument("--decks", type=int, default=200, metavar="N", help="how many random decks, beside the families")
     parser.add_argument("--seed", type=int, default=1, metavar="N", help="the seed of the first")
     parser.add_argument("--jobs", type=int, default=os.cpu_count(), metavar="N", help="how many at once")
+    parser.add_argument("--cases", action="store_true", help="the decks of tests/decks too")
     parser.add_argument("--all", action="store_true", help="tell the ratio of each case")
     return parser.parse_args()
 

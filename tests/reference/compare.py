@@ -1,4 +1,4 @@
-"""Compares the reference with what the cases of tests/decks say."""
+"""Compares the reference with the cases of tests/decks and with worked decks, and its two searches with each other."""
 
 import argparse
 import concurrent.futures
@@ -6,13 +6,17 @@ import pathlib
 import re
 import shlex
 
+from . import generate, worked
 from .command import seen_of, told_of
+from .replay import Replay
 from .today import not_yet
 from .units import Units
 
 DECKS = pathlib.Path(__file__).resolve().parents[1] / "decks"
 # Words of a case that the reference has nothing for: steps, and files that can't be opened or written.
 LEFT_OUT = re.compile(r"--steps.*|[0-9]+=(\.|not_there.*|/dev/full)")
+
+MOST_RULES = 1500
 
 
 def bytes_of(deck, ending):
@@ -59,13 +63,29 @@ def differences(deck):
 
 def compared(deck):
     """A case, and how the reference differs from it, or None if it is left out."""
-    return deck, None if is_left_out(deck) else differences(deck)
+    return str(deck.relative_to(DECKS)), None if is_left_out(deck) else differences(deck)
+
+
+def compared_worked(number):
+    """A worked deck, and how the reference differs from it."""
+    return f"worked deck {number}", worked.differences(worked.DECKS[number])
+
+
+def compared_searches(seed):
+    """A random deck of the whole language, and how the two searches differ, or None if it uses too many rules."""
+    deck, given = generate.deck(seed, tuple(generate.LATER)), {5: b"AB\n(A)\n"}
+    walked = seen_of(deck, Units(given), MOST_RULES)._replace(units=None)
+    replayed = seen_of(deck, Units(given), MOST_RULES, Replay)._replace(units=None)
+    if b"rules used up\n" in (walked.told, replayed.told):
+        return f"seed {seed}", None
+    return f"seed {seed}", [] if walked == replayed else [f"walked {walked}", f"replayed {replayed}", deck.decode()]
 
 
 def arguments():
     """The words of the command line."""
     parser = argparse.ArgumentParser(description=__doc__)
     parser.add_argument("--only", metavar="PREFIX", default="", help="only cases whose SUBJECT/NAME begins so")
+    parser.add_argument("--decks", type=int, default=300, metavar="N", help="random decks for the two searches")
     parser.add_argument("--jobs", type=int, default=2, metavar="N", help="how many at once")
     return parser.parse_args()
 
@@ -75,13 +95,16 @@ def main():
     given = arguments()
     decks = [it for it in sorted(DECKS.glob("*/*.sno")) if not it.with_suffix(".cmd").is_file()]
     decks = [it for it in decks if str(it.relative_to(DECKS)).startswith(given.only)]
-    failed = left_out = 0
     with concurrent.futures.ProcessPoolExecutor(given.jobs) as pool:
-        for deck, lines in pool.map(compared, decks, chunksize=8):
-            left_out += lines is None
-            failed += bool(lines)
-            if lines:
-                print(f"FAILED {deck.relative_to(DECKS)}", *lines, sep="\n", flush=True)
+        parts = [pool.map(compared, decks, chunksize=8)]
+        if not given.only:
+            parts.append(pool.map(compared_worked, range(len(worked.DECKS))))
+            parts.append(pool.map(compared_searches, range(given.decks), chunksize=8))
+        results = [result for part in parts for result in part]
+    left_out = sum(lines is None for name, lines in results)
+    failed = [(name, lines) for name, lines in results if lines]
+    for name, lines in failed:
+        print(f"FAILED {name}", *lines, sep="\n")
     print(f"{left_out} left out")
-    print(f"{len(decks) - left_out - failed} passed, {failed} failed")
-    return 1 if failed or left_out == len(decks) else 0
+    print(f"{len(results) - left_out - len(failed)} passed, {len(failed)} failed")
+    return 1 if failed or left_out == len(results) else 0
