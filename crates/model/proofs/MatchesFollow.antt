@@ -1,5 +1,5 @@
 -- The machine follows matches: the steps of pattern code come to what the search of its pattern comes to.
-use Rattle.std.proofs.Common.{⊎_elim, ◌≡◌, ℕ, suc, ◌+◌, ◌≤◌, [], ◌∷◌, ◌++◌, Option, Some, None, ◌⊎◌, inl, inr, refl, sym, ap, ◌∙◌, subst, arith, le_refl}
+use Rattle.std.proofs.Common.{⊎_elim, ◌≡◌, ℕ, suc, ◌+◌, ◌≤◌, [], ◌∷◌, ◌++◌, Option, Some, None, ◌⊎◌, inl, inr, refl, sym, ap, ◌∙◌, subst, arith, zero-le, le_refl}
 use Rattle.std.proofs.lemmas.Bool.{cases_lt}
 use Rattle.model.specs.declared.instr.Instr.TheVariants as op
 use Rattle.model.specs.Trees.{Bytes, Expr}
@@ -21,7 +21,7 @@ use Rattle.model.proofs.MachineMatches.{steps_more, one_event, asks_more, more_a
 use Rattle.model.proofs.MeaningPrints.{told_some}
 use Rattle.model.proofs.Following.{MatchHere, failed_at, Still, rank, Follows}
 use Rattle.model.proofs.OperationsAlike.{ConvR, got, bad, answer_same, assign_same, assign_all_same, told_same, Any}
-use Rattle.model.proofs.Asking.{one, Fw, from, answers, fails, faulted, op_follows, ask_val}
+use Rattle.model.proofs.Asking.{one, Fw, from, same, answers, fails, faulted, op_follows, ask_val}
 
 module _ (prog : Program) (img : Module) (trees_at : ℕ → Option Expr) (placed : Placed prog img trees_at) where
   abbrev R : W → MW → Type 0
@@ -84,24 +84,24 @@ module _ (prog : Program) (img : Module) (trees_at : ℕ → Option Expr) (place
         shifted : (j : ℕ) → X (t.so_far + j) ≡ S.steps t.g.subject t.g.code j t.st
         shifted j = steps_more t.g.subject t.g.code t.so_far j (S.Starting 0 left t.answers) ∙ ap (S.steps t.g.subject t.g.code j) t.at
 
-    again_follows : {y : Answer Pt.Pat} {z : Answer PCode} {n : ℕ} {w : W} {m : MW} (i : ℕ) (v : Pt.Ask ℕ) → AlikeAnswer trees_at y z → S.event_of (S.steps t.g.subject t.g.code i t.st) ≡ Running → S.event_of (S.steps t.g.subject t.g.code (suc i) t.st) ≡ Asks v → 1 ≤ n → R w m
-        → Fw prog img trees_at placed n (InMatch t.g (S.with_more (z ∷ []) (S.steps t.g.subject t.g.code (suc i) t.st)) t.fs m) Qm Fm (again s p left u y w)
+    again_follows : {y : Answer Pt.Pat} {z : Answer PCode} {n b : ℕ} {w : W} {m : MW} (i : ℕ) (v : Pt.Ask ℕ) → AlikeAnswer trees_at y z → S.event_of (S.steps t.g.subject t.g.code i t.st) ≡ Running → S.event_of (S.steps t.g.subject t.g.code (suc i) t.st) ≡ Asks v → 1 ≤ n → R w m
+        → Fw prog img trees_at placed n b (InMatch t.g (S.with_more (z ∷ []) (S.steps t.g.subject t.g.code (suc i) t.st)) t.fs m) Qm Fm (again s p left u y w)
     unfolding more_task
-    again_follows {n = n} {m = m} i v al run is le wr = record {
-      by = (0, more_task i v al run is, m, refl, wr, n, le, inr (le_refl n), (λ r w1 d h. (0, h)), (λ w1 d h. (0, h)));
+    again_follows {n = n} {b} {m = m} i v al run is le wr = record {
+      by = (0, more_task i v al run is, m, refl, wr, n, le, inr (le_refl n), b, omega arith, (λ r w1 d h. (0, zero-le, h)), (λ w1 d h. (0, zero-le, h)));
     }
 
-    answer_follows : {c : Conv (Answer Pt.Pat)} {c' : Conv (Answer PCode)} {n : ℕ} {w : W} {m : MW} (i : ℕ) (v : Pt.Ask ℕ) → ConvR (AlikeAnswer trees_at) c c' → S.event_of (S.steps t.g.subject t.g.code i t.st) ≡ Running → S.event_of (S.steps t.g.subject t.g.code (suc i) t.st) ≡ Asks v → 1 ≤ n → R w m
-        → Fw prog img trees_at placed n (supplied c' t.g (S.steps t.g.subject t.g.code (suc i) t.st) t.fs m) Qm Fm (answering s p left u c w)
+    answer_follows : {c : Conv (Answer Pt.Pat)} {c' : Conv (Answer PCode)} {n b : ℕ} {w : W} {m : MW} (i : ℕ) (v : Pt.Ask ℕ) → ConvR (AlikeAnswer trees_at) c c' → S.event_of (S.steps t.g.subject t.g.code i t.st) ≡ Running → S.event_of (S.steps t.g.subject t.g.code (suc i) t.st) ≡ Asks v → 1 ≤ n → R w m
+        → Fw prog img trees_at placed n b (supplied c' t.g (S.steps t.g.subject t.g.code (suc i) t.st) t.fs m) Qm Fm (answering s p left u c w)
     answer_follows i v (got al) run is le wr = again_follows i v al run is le wr
     answer_follows i v (bad e) run is le wr = faulted prog img trees_at placed e wr
 
     -- what follows each event
     event_follows : {w : W} {m : MW} (i : ℕ) (x : Event) (y : Pt.Event ℕ) → AlikeEvent trees_at x y → S.event_of (S.steps t.g.subject t.g.code i t.st) ≡ Running → S.event_of (S.steps t.g.subject t.g.code (suc i) t.st) ≡ y → R w m
-        → (n : ℕ) × Fw prog img trees_at placed n (on_event img y t.g (S.steps t.g.subject t.g.code (suc i) t.st) t.fs m) Qm Fm (match_rule s p left u w x)
-    event_follows {m = m} i x y St.fail run is wr = (0, fails prog img trees_at placed 0 (m, wr, refl))
+        → (n : ℕ) × Fw prog img trees_at placed n 1 (on_event img y t.g (S.steps t.g.subject t.g.code (suc i) t.st) t.fs m) Qm Fm (match_rule s p left u w x)
+    event_follows {m = m} i x y St.fail run is wr = (0, fails prog img trees_at placed 0 (omega arith) (m, wr, refl))
     event_follows i x y (St.match {a = a}) run is wr =
-        (0, op_follows prog img trees_at placed Any t.g.hs t.g.ops t.fs _ _ (assign_all_same trees_at a wr) (λ x y w1 m1 hx r1. answers prog img trees_at placed 0 (m1, r1, refl)) (λ w1 m1 r1. (m1, r1, refl)))
+        (0, op_follows prog img trees_at placed Any t.g.hs t.g.ops t.fs _ _ (assign_all_same trees_at a wr) (λ x y w1 m1 hx r1. answers prog img trees_at placed 0 (omega arith) (m1, r1, refl)) (λ w1 m1 r1. (m1, r1, refl)))
     event_follows i x y (St.ask (St.says {x = n} {v = v})) run is wr =
         (1, op_follows prog img trees_at placed Any t.g.hs t.g.ops t.fs _ _ (assign_same trees_at n (told_same trees_at v) wr) (λ a b w1 m1 ha r1. again_follows i (SayThat n v) St.said run is (le_refl 1) r1) (λ w1 m1 r1. (m1, r1, refl)))
     event_follows {w} {m} i x y (St.ask (St.asked {e = e} {k = l} {v = k} at)) run is wr = go (placed.exprs l e at)
@@ -112,12 +112,12 @@ module _ (prog : Program) (img : Module) (trees_at : ℕ → Option Expr) (place
         st : S.State
         st = S.steps t.g.subject t.g.code (suc i) t.st
 
-        go : (p' q' r' : ℕ) × (img.expr l ≡ Some p') × CodeV prog img trees_at e p' q' × Is prog img trees_at q' op.Ret r' → (n : ℕ) × Fw prog img trees_at placed n (on_event img (Asks (AskFor l k)) t.g st t.fs m) Qm Fm (match_rule s p left u w (Asks (AskFor e k)))
+        go : (p' q' r' : ℕ) × (img.expr l ≡ Some p') × CodeV prog img trees_at e p' q' × Is prog img trees_at q' op.Ret r' → (n : ℕ) × Fw prog img trees_at placed n 1 (on_event img (Asks (AskFor l k)) t.g st t.fs m) Qm Fm (match_rule s p left u w (Asks (AskFor e k)))
         go (p', q', r', ex, code, ret) = (
           n,
-          from prog img trees_at placed 0 (ap (λ o. to_stmt img o (InEval t.g k st ∷ t.fs) m) ex)
-              (ask_val prog img trees_at placed (record { p = p'; q = q'; ops = []; hs = []; fs = InEval t.g k st ∷ t.fs; fit = tt }) 0 code refl wr (le_refl n)
-              (λ a w1 x m1 ha r1. from prog img trees_at placed 1 (one prog img trees_at placed q' r' op.Ret (OV x ∷ []) [] (InEval t.g k st ∷ t.fs) m1 ret) (answer_follows i (AskFor l k) (answer_same trees_at k ha) run is (omega arith) r1))
+          same prog img trees_at placed (ap (λ o. to_stmt img o (InEval t.g k st ∷ t.fs) m) ex)
+              (ask_val prog img trees_at placed (record { p = p'; q = q'; ops = []; hs = []; fs = InEval t.g k st ∷ t.fs; fit = tt }) code wr (le_refl n)
+              (λ a w1 x m1 ha r1. from prog img trees_at placed 1 (omega arith) (one prog img trees_at placed q' r' op.Ret (OV x ∷ []) [] (InEval t.g k st ∷ t.fs) m1 ret) (answer_follows i (AskFor l k) (answer_same trees_at k ha) run is (omega arith) r1))
               (λ w1 m1 r1. again_follows i (AskFor l k) St.failed run is (omega arith) r1)),
         )
 
@@ -148,12 +148,12 @@ module _ (prog : Program) (img : Module) (trees_at : ℕ → Option Expr) (place
     abbrev G : ℕ → Option Event
     G n = told_at (scan s n p left 0 u)
 
-    found : (w : W) (m : MW) → R w m → (n : ℕ) (e : Event) → G n ≡ Some e → (j r' : ℕ) × ((1 ≤ j) ⊎ (r' ≤ 0)) × Follows prog img trees_at r' (steps img j (InMatch t.g t.st t.fs m)) Qm Fm (match_rule s p left u w e)
+    found : (w : W) (m : MW) → R w m → (n : ℕ) (e : Event) → G n ≡ Some e → (j r' : ℕ) × ((1 ≤ j) ⊎ (r' ≤ 0)) × Follows prog img trees_at r' 1 (steps img j (InMatch t.g t.st t.fs m)) Qm Fm (match_rule s p left u w e)
     found w m wr n e h =
         let c = came_at m n e h in
         let st : S.State = S.steps t.g.subject t.g.code (suc c.0.i) t.st in
         let f = event_follows c.0.i e (S.event_of st) c.1 c.0.last refl wr in
-        (suc c.0.i, f.0, inl (omega arith), (from prog img trees_at placed 0 c.0.at f.1).by)
+        (suc c.0.i, f.0, inl (omega arith), (same prog img trees_at placed c.0.at f.1).by)
 
     late : (w : W) (m : MW) (wr : R w m) (l : ℕ) → S.event_of (S.steps t.g.subject t.g.code l t.st) ≡ Running → (n : ℕ) (e : Event) (h : G n ≡ Some e) → l ≤ (found w m wr n e h).0
     unfolding found
@@ -178,5 +178,5 @@ module _ (prog : Program) (img : Module) (trees_at : ℕ → Option Expr) (place
         go (Asks v) q = inl (is_over (Asks v) tt q)
         go (Matched b e a) q = inl (is_over (Matched b e a) tt q)
 
-    pub match_local : (w : W) (m : MW) → R w m → Follows prog img trees_at 0 (InMatch t.g t.st t.fs m) Qm Fm (rule prog (QMatch s p left u) w)
-    match_local w m wr = (found w m wr, known w m wr, (0, ap (λ p. p.printed) (sym wr.io)))
+    pub match_local : (w : W) (m : MW) → R w m → Follows prog img trees_at 0 0 (InMatch t.g t.st t.fs m) Qm Fm (rule prog (QMatch s p left u) w)
+    match_local w m wr = (zero-le, found w m wr, known w m wr, (0, ap (λ p. p.printed) (sym wr.io)))

@@ -25,9 +25,8 @@ use Rattle.model.proofs.MachineMatches.{steps_more, one_event, asks_more, more_a
 use Rattle.model.proofs.MatchesFollow.{alike_end, alike_over, next_suc}
 use Rattle.model.proofs.Following.{MatchHere, failed_at, done, failed, Here}
 use Rattle.model.proofs.OperationsAlike.{ConvR, got, bad, answer_same, assign_same, assign_all_same, told_same, Any, OpR, gives, refuses, faults, keys_same}
-use Rattle.model.proofs.Asking.{one}
+use Rattle.model.proofs.Asking.{one, Fw, answers, op_follows}
 use Rattle.model.proofs.Pacing.{SimPaced, Reaches, reaches_from, follow_reaches, count_at}
-use Rattle.model.proofs.PacedAsking.{Pw, answers, op_follows}
 
 module _ (prog : Program) (img : Module) (trees_at : ℕ → Option Expr) (placed : Placed prog img trees_at) (n : ℕ) (sim : SimPaced prog img trees_at n) (s : _) (p : Pt.Pat) (left : ℕ) (u : Script) (t : MatchHere trees_at s p left u) where
   abbrev R : W → MW → Type 0
@@ -141,11 +140,11 @@ module _ (prog : Program) (img : Module) (trees_at : ℕ → Option Expr) (place
       → Rm (t.so_far + suc i) (8 * (match_count (λ r v. meaning prog n r v) x C w + count_at prog img trees_at n (match_rule s p left u w x))) (on_event img y t.g (at (suc i)) t.fs m) (at_depth prog n (match_rule s p left u w x))
   event_paced {m = m} i x y St.fail run is le wr = (0, omega (arith, le), (m, wr, refl))
   event_paced {w} {m} i x y (St.match {b = b} {e = e} {a = a}) run is le wr =
-      let pw : Pw prog img trees_at placed 0 (on_event img (Matched b e a) t.g (at (suc i)) t.fs m) Qm Fm (match_rule s p left u w (Matched b e a)) =
+      let fw : Fw prog img trees_at placed 1 0 (on_event img (Matched b e a) t.g (at (suc i)) t.fs m) Qm Fm (match_rule s p left u w (Matched b e a)) =
       op_follows prog img trees_at placed Any t.g.hs t.g.ops t.fs _ _ (assign_all_same trees_at a wr) (λ x y w1 m1 hx r1. answers prog img trees_at placed 0 (omega arith) (m1, r1, refl)) (λ w1 m1 r1. (m1, r1, refl)) in
       let ca : ℕ = count_at prog img trees_at n (match_rule s p left u w (Matched b e a)) in
       reaches_from prog img trees_at 0 (t.so_far + suc i) 0 (0 + 8 * ca) (8 * (C + ca)) (on_event img (Matched b e a) t.g (at (suc i)) t.fs m) Qm Fm (at_depth prog n (match_rule s p left u w (Matched b e a))) (omega (arith, le))
-      (follow_reaches prog img trees_at n sim 0 (on_event img (Matched b e a) t.g (at (suc i)) t.fs m) Qm Fm (match_rule s p left u w (Matched b e a)) pw.by)
+      (follow_reaches prog img trees_at n sim 1 0 (omega arith) (on_event img (Matched b e a) t.g (at (suc i)) t.fs m) Qm Fm (match_rule s p left u w (Matched b e a)) fw.by)
   event_paced i x y (St.ask (St.says {x = o} {v = v})) run is le wr =
       said_paced i (SayThat o v) (assign_same trees_at o (told_same trees_at v) wr) run is le
   event_paced {w} {m} i x y (St.ask (St.asked {e = e} {k = l} {v = k} ex)) run is le wr = go (placed.exprs l e ex)
