@@ -12,7 +12,7 @@ use Rattle.model.specs.Steps as S
 use Rattle.model.specs.Search.{Script}
 use Rattle.model.specs.Stands.{Stands, Alike}
 use Rattle.model.specs.Alike.{VR, VRs, WR}
-use Rattle.model.specs.RulesUsed.{stmt_count}
+use Rattle.model.specs.RulesUsed.{own_count}
 use Rattle.model.proofs.MeaningGrows.{at_depth, Before, before_refl, Goes_on, Later, later, stays, follow_stays}
 
 -- the newest handler's operands are there
@@ -94,16 +94,9 @@ pub record MatchHere (trees_at : ℕ → Option Expr) (s : Bytes) (p : Pattern) 
   pub runs : S.event_of st ≡ Running
 
 module _ (prog : Program) (img : Module) (trees_at : ℕ → Option Expr) where
-  -- the rules that a query uses before it asks for anything, but for a match
+  -- the rules that a query uses itself, which for all but a match needs no depth
   abbrev pub own : Query → W → ℕ
-  own (QVal e) w = 1
-  own (QName e) w = 1
-  own (QArgs Nil) w = 0
-  own (QArgs (More Absent xs)) w = 1
-  own (QArgs (More (Given e) xs)) w = 0
-  own (QBody b) w = 0
-  own (QExec k) w = stmt_count (prog.at k) w
-  own (QMatch s p left t) w = 0
+  own q w = own_count prog 0 (λ r v. Open v) q w
 
   -- something to be done by the machine
   abbrev pub Task : Query → Type 0

@@ -12,14 +12,14 @@ use Rattle.model.specs.Steps as S
 use Rattle.model.specs.Stands.{Alike, AlikeAnswer, AlikeEvent}
 use Rattle.model.specs.Stands as St
 use Rattle.model.specs.Meaning.{W, QVal, QMatch, Span, Event, told_at, again, answering, match_rule, rule}
-use Rattle.model.specs.Machine.{PCode, MW, Module, OV, InEval, found_as, on_event, supplied, to_stmt, State, Run, InMatch, steps}
+use Rattle.model.specs.Machine.{PCode, MW, Module, OV, InEval, on_event, supplied, to_stmt, State, InMatch, steps}
 use Rattle.model.specs.Placed.{Is, CodeV, Placed}
 use Rattle.model.specs.Alike.{WR}
 use Rattle.model.proofs.CodeSearch.{IsOver, later}
 use Rattle.model.proofs.CodeEvents.{steps_of_scan, scan_of_steps}
 use Rattle.model.proofs.MachineMatches.{steps_more, one_event, asks_more, more_at, busy, Came, come}
 use Rattle.model.proofs.MeaningPrints.{told_some}
-use Rattle.model.proofs.Following.{MatchHere, failed_at, Still, rank, Follows}
+use Rattle.model.proofs.Following.{MatchHere, done, failed, Still, rank, Follows}
 use Rattle.model.proofs.OperationsAlike.{ConvR, got, bad, answer_same, assign_same, assign_all_same, told_same, Any}
 use Rattle.model.proofs.Asking.{one, Fw, from, same, answers, fails, faulted, op_follows, ask_val}
 
@@ -57,16 +57,19 @@ module _ (prog : Program) (img : Module) (trees_at : ℕ → Option Expr) (place
 
   module _ (s : Bytes) (p : Pt.Pat) (left : ℕ) (u : Script) (t : MatchHere trees_at s p left u) where
     abbrev Qm : Span → W → State → Type 0
-    Qm r w c = (w' : MW) × R w w' × (c ≡ Run t.g.place (found_as t.g.keep t.g.subject r.start r.end t.g.ops) t.g.hs t.fs w')
+    Qm r w c = done prog img trees_at (QMatch s p left u) t r w c
 
     abbrev Fm : W → State → Type 0
-    Fm w c = failed_at prog img trees_at t.g.hs t.g.ops t.fs w c
+    Fm w c = failed prog img trees_at (QMatch s p left u) t w c
 
     abbrev X : ℕ → S.State
     X n = S.match_steps t.g.subject t.g.code left 0 t.answers n
 
+    pub from_there : (j : ℕ) → X (t.so_far + j) ≡ S.steps t.g.subject t.g.code j t.st
+    from_there j = steps_more t.g.subject t.g.code t.so_far j (S.Starting 0 left t.answers) ∙ ap (S.steps t.g.subject t.g.code j) t.at
+
     -- the first event, and the match with one more answer
-    more_task : {y : Answer Pt.Pat} {z : Answer PCode} (i : ℕ) (v : Pt.Ask ℕ) → AlikeAnswer trees_at y z → S.event_of (S.steps t.g.subject t.g.code i t.st) ≡ Running → S.event_of (S.steps t.g.subject t.g.code (suc i) t.st) ≡ Asks v → MatchHere trees_at s p left (u ++ y ∷ [])
+    unfoldable pub more_task : {y : Answer Pt.Pat} {z : Answer PCode} (i : ℕ) (v : Pt.Ask ℕ) → AlikeAnswer trees_at y z → S.event_of (S.steps t.g.subject t.g.code i t.st) ≡ Running → S.event_of (S.steps t.g.subject t.g.code (suc i) t.st) ≡ Asks v → MatchHere trees_at s p left (u ++ y ∷ [])
     more_task {z = z} i v al run is = record {
       g = t.g;
       fs = t.fs;
@@ -76,13 +79,11 @@ module _ (prog : Program) (img : Module) (trees_at : ℕ → Option Expr) (place
       answers = t.answers ++ z ∷ [];
       alike = alike_end t.alike al;
       st = S.with_more (z ∷ []) (S.steps t.g.subject t.g.code (suc i) t.st);
-      so_far = suc (t.so_far + i);
-      at = more_at t.g.subject t.g.code left t.answers z (t.so_far + i) (ap S.event_of (shifted i) ∙ run) ∙ ap (S.with_more (z ∷ [])) (ap X (next_suc t.so_far i) ∙ shifted (suc i));
+      so_far = t.so_far + suc i;
+      at = subst (λ k. S.match_steps t.g.subject t.g.code left 0 (t.answers ++ z ∷ []) k ≡ S.with_more (z ∷ []) (S.steps t.g.subject t.g.code (suc i) t.st)) (next_suc t.so_far i)
+          (more_at t.g.subject t.g.code left t.answers z (t.so_far + i) (ap S.event_of (from_there i) ∙ run) ∙ ap (S.with_more (z ∷ [])) (ap X (next_suc t.so_far i) ∙ from_there (suc i)));
       runs = asks_more t.g.subject t.g.code z (S.steps t.g.subject t.g.code (suc i) t.st) v is;
     }
-      where
-        shifted : (j : ℕ) → X (t.so_far + j) ≡ S.steps t.g.subject t.g.code j t.st
-        shifted j = steps_more t.g.subject t.g.code t.so_far j (S.Starting 0 left t.answers) ∙ ap (S.steps t.g.subject t.g.code j) t.at
 
     again_follows : {y : Answer Pt.Pat} {z : Answer PCode} {n b : ℕ} {w : W} {m : MW} (i : ℕ) (v : Pt.Ask ℕ) → AlikeAnswer trees_at y z → S.event_of (S.steps t.g.subject t.g.code i t.st) ≡ Running → S.event_of (S.steps t.g.subject t.g.code (suc i) t.st) ≡ Asks v → 1 ≤ n → R w m
         → Fw prog img trees_at placed n b (InMatch t.g (S.with_more (z ∷ []) (S.steps t.g.subject t.g.code (suc i) t.st)) t.fs m) Qm Fm (again s p left u y w)
@@ -127,9 +128,6 @@ module _ (prog : Program) (img : Module) (trees_at : ℕ → Option Expr) (place
 
     scan_follows : (k : ℕ) → (S.event_of (X k) ≡ Running → ⊥) → (n : ℕ) × AlikeEvent trees_at (scan s n p left 0 u) (S.event_of (X k))
     scan_follows k = subst (λ z. (S.event_of (X k) ≡ Running → ⊥) → (n : ℕ) × AlikeEvent trees_at (scan z n p left 0 u) (S.event_of (X k))) t.subject (λ h. scan_of_steps t.g.subject trees_at p t.g.code t.stands k left 0 u t.answers t.alike h)
-
-    from_there : (j : ℕ) → X (t.so_far + j) ≡ S.steps t.g.subject t.g.code j t.st
-    from_there j = steps_more t.g.subject t.g.code t.so_far j (S.Starting 0 left t.answers) ∙ ap (S.steps t.g.subject t.g.code j) t.at
 
     abbrev Is_over : ℕ → Type 0
     Is_over j = IsOver t.g.subject t.g.code (S.event_of (S.steps t.g.subject t.g.code j t.st))

@@ -1,5 +1,5 @@
 -- The run of a module takes at most eight steps for each rule used, and eight more.
-use Rattle.std.proofs.Common.{◌≡◌, ℕ, zero, suc, ◌+◌, ◌-◌, ◌*◌, ◌≤◌, Option, Some, None, sym, ap, ◌∙◌, subst, arith}
+use Rattle.std.proofs.Common.{◌≡◌, ℕ, zero, suc, ◌+◌, ◌-◌, ◌*◌, ◌≤◌, Option, Some, None, refl, sym, ap, ◌∙◌, subst, arith}
 use Rattle.model.specs.declared.run.Ending.{Ending}
 use Rattle.model.specs.Trees.{Nil, More, Absent, Given}
 use Rattle.model.specs.Programs.{Program, program}
@@ -9,7 +9,7 @@ use Rattle.model.specs.Modules.{module_of}
 use Rattle.model.specs.Placed.{Placed}
 use Rattle.model.specs.Alike.{WR}
 use Rattle.model.specs.Agreement.{seen_of, seen_at, first_w, first_m}
-use Rattle.model.specs.RulesUsed.{count}
+use Rattle.model.specs.RulesUsed.{own_count, count}
 use Rattle.model.specs.StepBound.{RunStepsBounded}
 use Rattle.model.proofs.Following.{rank, extra, own, Task, start, done, failed, steps_add}
 use Rattle.model.proofs.Pacing.{Reaches, SimPaced, follow_reaches, reaches_from, count_at}
@@ -19,25 +19,26 @@ use Rattle.model.proofs.AgreementLaw.{Never, Nowhere, run_follows, over_stays, f
 
 module _ (prog : Program) (img : Module) (trees_at : ℕ → Option _) (placed : Placed prog img trees_at) where
   -- a rule is the meaning one level up
-  level_up : (n : ℕ) → SimPaced prog img trees_at n → (q : Query) → 1 ≤ rank q → (t : Task prog img trees_at q) (w : W) (w' : MW) → WR trees_at w w' → (l : ℕ) → 8 * own prog img trees_at q w + extra q + 8 * count_at prog img trees_at n (rule prog q w) ≤ l
-      → Reaches prog img trees_at 0 l (start prog img trees_at q t w') (done prog img trees_at q t) (failed prog img trees_at q t) (meaning prog (suc n) q w)
-  unfolding meaning
-  level_up n sim q up t w w' wr l le =
+  level_up : (n : ℕ) → SimPaced prog img trees_at n → (q : Query) → 1 ≤ rank q → own_count prog (suc n) (λ r v. meaning prog n r v) q ≡ own prog img trees_at q
+      → (t : Task prog img trees_at q) (w : W) (w' : MW) → WR trees_at w w' → Reaches prog img trees_at 0 (8 * count prog (suc n) q w + extra q) (start prog img trees_at q t w') (done prog img trees_at q t) (failed prog img trees_at q t) (meaning prog (suc n) q w)
+  unfolding meaning count
+  level_up n sim q up own_is t w w' wr =
       let b : ℕ = 8 * own prog img trees_at q w + extra q in
       let c : ℕ = b + 8 * count_at prog img trees_at n (rule prog q w) in
-      reaches_from prog img trees_at 0 0 0 c l (start prog img trees_at q t w') (done prog img trees_at q t) (failed prog img trees_at q t) (meaning prog (suc n) q w) (omega (arith, le))
+      let same : own_count prog (suc n) (λ r v. meaning prog n r v) q w ≡ own prog img trees_at q w = ap (λ f. f w) own_is in
+      reaches_from prog img trees_at 0 0 0 c (8 * count prog (suc n) q w + extra q) (start prog img trees_at q t w') (done prog img trees_at q t) (failed prog img trees_at q t) (meaning prog (suc n) q w) (omega (arith, same))
       (follow_reaches prog img trees_at n sim (rank q) b up (start prog img trees_at q t w') (done prog img trees_at q t) (failed prog img trees_at q t) (rule prog q w) (local prog img trees_at placed q t w w' wr))
 
   pub sim_paced : (n : ℕ) → SimPaced prog img trees_at n
   unfolding meaning count
   sim_paced zero q t w w' wr = tt
-  sim_paced (suc n) (QVal e) t w w' wr = level_up n (sim_paced n) (QVal e) (omega arith) t w w' wr (8 * count prog (suc n) (QVal e) w + 0) (omega arith)
-  sim_paced (suc n) (QName e) t w w' wr = level_up n (sim_paced n) (QName e) (omega arith) t w w' wr (8 * count prog (suc n) (QName e) w + 0) (omega arith)
-  sim_paced (suc n) (QArgs Nil) t w w' wr = level_up n (sim_paced n) (QArgs Nil) (omega arith) t w w' wr (8 * count prog (suc n) (QArgs Nil) w + 0) (omega arith)
-  sim_paced (suc n) (QArgs (More Absent xs)) t w w' wr = level_up n (sim_paced n) (QArgs (More Absent xs)) (omega arith) t w w' wr (8 * count prog (suc n) (QArgs (More Absent xs)) w + 0) (omega arith)
-  sim_paced (suc n) (QArgs (More (Given e) xs)) t w w' wr = level_up n (sim_paced n) (QArgs (More (Given e) xs)) (omega arith) t w w' wr (8 * count prog (suc n) (QArgs (More (Given e) xs)) w + 0) (omega arith)
-  sim_paced (suc n) (QBody b) t w w' wr = level_up n (sim_paced n) (QBody b) (omega arith) t w w' wr (8 * count prog (suc n) (QBody b) w + 4) (omega arith)
-  sim_paced (suc n) (QExec k) t w w' wr = level_up n (sim_paced n) (QExec k) (omega arith) t w w' wr (8 * count prog (suc n) (QExec k) w + 1) (omega arith)
+  sim_paced (suc n) (QVal e) t w w' wr = level_up n (sim_paced n) (QVal e) (omega arith) refl t w w' wr
+  sim_paced (suc n) (QName e) t w w' wr = level_up n (sim_paced n) (QName e) (omega arith) refl t w w' wr
+  sim_paced (suc n) (QArgs Nil) t w w' wr = level_up n (sim_paced n) (QArgs Nil) (omega arith) refl t w w' wr
+  sim_paced (suc n) (QArgs (More Absent xs)) t w w' wr = level_up n (sim_paced n) (QArgs (More Absent xs)) (omega arith) refl t w w' wr
+  sim_paced (suc n) (QArgs (More (Given e) xs)) t w w' wr = level_up n (sim_paced n) (QArgs (More (Given e) xs)) (omega arith) refl t w w' wr
+  sim_paced (suc n) (QBody b) t w w' wr = level_up n (sim_paced n) (QBody b) (omega arith) refl t w w' wr
+  sim_paced (suc n) (QExec k) t w w' wr = level_up n (sim_paced n) (QExec k) (omega arith) refl t w w' wr
   sim_paced (suc n) (QMatch s p left u) t w w' wr =
       let l : ℕ = 8 * count prog (suc n) (QMatch s p left u) w in
       reaches_from prog img trees_at 0 t.so_far t.so_far l (l + 0) (start prog img trees_at (QMatch s p left u) t w') (done prog img trees_at (QMatch s p left u) t) (failed prog img trees_at (QMatch s p left u) t) (meaning prog (suc n) (QMatch s p left u) w) (omega arith)
