@@ -1,4 +1,11 @@
 //! Arrays, tables and records: the objects of a run, by their numbers in the order of making.
+//!
+//! `Heap<V>` holds them; `V`, a type with the trait `Element`, is what they hold. `new_array`, `new_table` and
+//! `new_record` make an object and give its number, `place` and `field` find a place in it, `get` looks there and `set`
+//! stores there.
+//!
+//! Promised: each call is its function on the definitions' list of objects (`model`'s `Aggregates`), and what memory
+//! refuses leaves the heap as it was. CALLING.md has a row for each call.
 #![tactic(auto)]
 
 mod array;

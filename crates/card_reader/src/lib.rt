@@ -1,4 +1,10 @@
 //! From the bytes of a deck to the texts of its statements, or the first fault of its cards.
+//!
+//! `read_deck(alloc, bytes)` gives the deck's statements up to and with END, each with its number, card and text; or
+//! the fault of the least card, C1 to C6, and there the least.
+//!
+//! Promised: it is the definition `deck` of `model`'s `Cards`, both ways, for every list of bytes; C7 says that a
+//! growth of memory was refused, in place of any other answer.
 #![tactic(auto)]
 
 ghost use Rattle.std.specs.Prelude.{◌≡◌, ◌≢◌, ◌≤◌, length, IfOk, IfErr, Ok, Err};

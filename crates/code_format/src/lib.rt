@@ -1,4 +1,12 @@
 //! Instructions of modules as bytes, and back: one spelling each.
+//!
+//! `put_instr(&instr, &mut bytes)` puts an instruction behind what is there; `get_instr(&bytes, at)` gives the one that
+//! begins at an offset, and where the next one begins. `put_pat_instr` and `get_pat_instr` are the same for
+//! instructions of pattern tables.
+//!
+//! Promised: what is put is the spelling of `model`'s `Spelling`; what spells no instruction is refused with the
+//! defined fault and offset, F6 or, for a pattern's operand that is cut, F3. Putting may be refused memory; reading
+//! takes none.
 #![tactic(auto)]
 
 mod codes;

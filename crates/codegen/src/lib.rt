@@ -1,4 +1,10 @@
-//! Code of programs.
+//! Code of programs: labels, statements, bodies and gotos, on top of `expr_codegen`.
+//!
+//! `generate(alloc, &program)` gives the image of a program.
+//!
+//! Promised: exactly the image that the definitions give the program, for the whole language; it is refused by want of
+//! memory alone. It asks that the program's counts fit (`Fits`), as those of each accepted deck do. That such an image
+//! is well-formed and does what the deck means are laws of the definitions, proved in `codegen_laws`.
 #![tactic(auto)]
 
 mod bodies;

@@ -1,4 +1,10 @@
-//! Code of expressions.
+//! Code of expressions, and what it is put into.
+//!
+//! `value(alloc, &mut generator, &expr)` puts the code of an expression for its value, `name` the code for its name. A
+//! `Generator` has the code so far, the strings by number, and the unevaluated expressions whose code is still to come.
+//!
+//! Promised: exactly the instructions, strings and unevaluated expressions that the definitions give the expression,
+//! behind those that were there; refused by want of memory alone. Room for them in the limits is asked for.
 #![tactic(auto)]
 
 mod expr;

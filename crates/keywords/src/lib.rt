@@ -1,4 +1,10 @@
 //! The keywords and what they hold.
+//!
+//! `Keywords::get` gives what a keyword holds, `set` assigns it as a statement does, `put` and `returned` change it as
+//! the machine itself does.
+//!
+//! Promised: each is its function on the table of keywords in `model`'s `Keywords`: what they hold at first, which are
+//! protected, and which values each takes. Only `new` takes memory.
 #![tactic(auto)]
 
 ghost use Rattle.std.specs.Prelude.{◌≡◌, pos, IfOk, OnOk, OnErr, IfErr, IsTrue};
@@ -13,9 +19,9 @@ use strings::{StrFault, Text};
 /// Why a keyword was not set.
 #[derive(Clone, Copy, Debug, PartialEq, Eq)]
 pub enum KeyFault {
-    /// K1: no statement may assign it.
+    /// No statement may assign it.
     Protected,
-    /// K2: not with this value.
+    /// Not with this value.
     NotAllowed,
 }
 

@@ -1,4 +1,10 @@
 //! Tokens of a statement's text, or the least of the causes L1 to L5.
+//!
+//! `lex(alloc, text)` gives the tokens, each with its kind, its bytes and the place where they stand in the text.
+//!
+//! Promised: they are the one cut of the text (`Cut` of `model`), blanks among them; a text is refused exactly where
+//! its pieces break one of L1 to L5, by the least, or for want of memory. The tokens are such as the parser asks for
+//! (`Lexed`).
 #![tactic(auto)]
 
 ghost use Rattle.std.specs.Prelude.{◌≡◌, ◌≢◌, length, IfOk, IfErr, OnOk, None, Some};

@@ -1,4 +1,11 @@
 //! From bytes to a checked module, as the machine reads it.
+//!
+//! `load(alloc, bytes)` gives a `Module` or the fault that is told: F1 to F7 of the bytes, W1 to W5 of the image. A
+//! module is read by offset (`instr`), by number (`statement`, `string`, ..) and by name (`label`).
+//!
+//! Promised: bytes are accepted exactly if they spell a well-formed image of instructions that run yet (`runs_yet`),
+//! want of memory aside; else the one defined fault is told. So a `Module` is well-formed by its type. CALLING.md has
+//! the clauses.
 #![tactic(auto)]
 
 mod code;

@@ -1,4 +1,11 @@
 //! The plain types that every layer speaks of, and the definitions (`specs/`) that contracts cite.
+//!
+//! `specs/` says what is meant: decks and their faults, trees, the meaning of a program (`Meaning`), images and their
+//! bytes, the machine (`Machine`). `src/laws_*.rt` has the laws of these definitions, each the contract of a function
+//! that does nothing; `agreement` is the main one: a program's meaning and the machine agree wherever its code is
+//! placed.
+//!
+//! Whoever checks what is promised reads `specs/`; docs/language.md and docs/module-format.md lead to each file.
 #![tactic(auto)]
 
 mod cards;

@@ -1,4 +1,10 @@
 //! A deck's trees, or its faulty statements.
+//!
+//! `parse_deck(alloc, &deck)` cuts each statement into tokens, reads its tree, and asks the rules of whole decks:
+//! labels, arguments, keywords, targets, the entry label.
+//!
+//! Promised: the trees exactly where the definitions accept the deck; else all faulty statements in order, each with
+//! its least cause, L1 to L5 or P1 to P6. Want of memory is an answer of its own.
 #![tactic(auto)]
 
 ghost use Rattle.std.specs.Prelude.{◌≡◌, ◌≢◌, [], IfErr, IfOk};

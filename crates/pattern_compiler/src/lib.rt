@@ -1,4 +1,10 @@
 //! Pattern code at run time: instructions, code that is shared by its clones, and the joining of codes.
+//!
+//! `PatCode` is the code of a pattern: `lit` and `prim` make that of a part, `cat`, `alt`, `arbno`, `fence_of`, `cond`
+//! and `imm` join codes, and `get` gives an instruction by its place.
+//!
+//! Promised: if the parts' code stands for their patterns (`model`'s `Stands`), the result stands for the joined
+//! pattern; refused by want of memory alone.
 #![tactic(auto)]
 
 mod code;

@@ -1,4 +1,11 @@
 //! The machine: a run of a module, step by step.
+//!
+//! `Machine::new(alloc, &module)` is a run before its first step, `run(units, bound)` makes at most `bound` steps more
+//! and gives the status; `run_from_entry` is both.
+//!
+//! Promised: `run(b)` is the machine of the definitions, b steps further, matches included, unless a unit failed or
+//! memory was refused; no instruction lacks what it takes. A run that ended or stopped answers the same from then on.
+//! CALLING.md has the clauses, and how an instruction is added.
 #![tactic(auto)]
 
 mod calls;

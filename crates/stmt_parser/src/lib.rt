@@ -1,4 +1,9 @@
 //! Statements from tokens.
+//!
+//! `parse_statement(alloc, &tokens)` gives the tree of one statement.
+//!
+//! Promised: the one tree that has these tokens by the grammar (`Tree` of `model`'s `Statements`), or P1 exactly where
+//! none has; want of memory is an answer of its own. It asks for tokens as `lexer` cuts them (`Lexed`).
 #![tactic(auto)]
 
 mod bodies;

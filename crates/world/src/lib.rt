@@ -1,4 +1,11 @@
 //! Values and the world of a run: variables and keywords, and what conversions and operators do with them.
+//!
+//! `Value` has the conversions (`to_text`, `to_int`, `to_pattern`, ..), `World` the variables and keywords: `fetch`,
+//! `assign` and `splice` go through the units where a variable is associated with one. `arith`, `cat`, `alt`, .. are
+//! the operators.
+//!
+//! Promised: each is its definition in `model` (`Conversions`, `Operators`, `Io`), errors and failures included.
+//! CALLING.md tells how answers are stated.
 #![tactic(auto)]
 
 mod arithmetic;
