@@ -13,8 +13,6 @@ BUILT := $(PROGRAM)/out/sno $(PROGRAM)/out/sno.by-rattle
 # What a proof of the program reads, folders too, so that a file that goes is noticed.
 PARTS := $(foreach crate,$(shell tools/below sno 2>/dev/null),crates/$(crate)/src crates/$(crate)/specs crates/$(crate)/proofs)
 SOURCES := $(shell find crates.txt $(wildcard $(PARTS)) 2>/dev/null)
-# Whether the program's words name files for units.
-HAS_UNITS := $(shell grep -l 'UNIT=FILE' crates/driver/src/words.rt 2>/dev/null)
 
 .PHONY: help run try sno test decks bound wrong time check bench fmt clean toolchain program deck input
 .DEFAULT_GOAL := help
@@ -35,7 +33,7 @@ deck: program
 	@: $(if $(wildcard $(DECK)),,$(error no such deck: $(DECK)))
 
 input: deck
-	@: $(if $(INPUT),$(if $(HAS_UNITS),$(if $(wildcard $(INPUT)),,$(error no such file: $(INPUT))),$(error INPUT is not there yet: no word of the program names a file for unit 5)))
+	@: $(if $(INPUT),$(if $(wildcard $(INPUT)),,$(error no such file: $(INPUT))))
 
 run: input build/sno ## DECK=file [INPUT=file]: run a deck on the proved program, built first where the source changed
 ifeq ($(INPUT),)
