@@ -7,7 +7,7 @@ ghost use Rattle.model.specs.Agreement.{first_m, mach};
 ghost use Rattle.model.specs.Machine as m;
 ghost use Rattle.model.specs.Machine.{begun, steps};
 ghost use Rattle.model.specs.Modules.{module_of};
-ghost use Rattle.statement_machine.specs.Runs.{Holds};
+ghost use Rattle.statement_machine.specs.Runs.{Holds, left_after};
 ghost use Rattle.statement_machine.specs.Stopped.{IfRan, IfStopped, ending_of, status_at};
 ghost use Rattle.unit_io.specs.Counts.{Same};
 ghost use Rattle.world.specs.Answers.{IsStop};
@@ -86,6 +86,8 @@ pub fn run_from_entry<U: Units>(
 ) -> Status
     ensures run { IfRan result (IfTold (U.told units.old) (U.told units.new) (λ io io'. io.printed ≡ [] →
         record { ending = ending_of result; printed = io'.printed } ≡ mach program.now io.left bound)) }
+    // What is left to be read on each unit is what the machine leaves there.
+    ensures left { IfRan result (IfTold (U.told units.old) (U.told units.new) (λ io io'. io.printed ≡ [] → io'.left ≡ left_after program.now io.left bound)) }
     ensures kept { IfRan result (Same (U.failures units.old) (U.failures units.new)) }
     ensures stop { IfStopped result (λ stop. IsStop stop (U.failures units.old) (U.failures units.new)) }
 {
