@@ -9,6 +9,8 @@ ghost use Rattle.loader.specs.Answers.{IsAnswer};
 ghost use Rattle.loader.specs.Loaded.{IsLoaded};
 ghost use Rattle.statement_machine.specs.Answers.{IsStop};
 ghost use Rattle.statement_machine.specs.Stopped.{IfRan, IfStopped, ending_of};
+ghost use Rattle.statement_machine.specs.Runs.{left_after};
+ghost use Rattle.unit_io.specs.Counts.{Same};
 ghost use Rattle.driver.specs.Compiled.{IsModuleOf};
 ghost use Rattle.driver.specs.Whole.{IsInTime, IsMeant};
 
@@ -30,6 +32,10 @@ pub fn run_module<U: Units>(
     ensures accepted { OnOk result ((m : Image) × (image_of bytes.now ≡ Ok m) × IsLoaded m) }
     ensures run { IfOk result (λ status. (m : Image) → image_of bytes.now ≡ Ok m → IfRan status (IfTold (U.told units.old) (U.told units.new) (λ io io'. io.printed ≡ [] →
         record { ending = ending_of status; printed = io'.printed } ≡ mach m io.left bound))) }
+    // What is left to be read on each unit is what the machine leaves there.
+    ensures left { IfOk result (λ status. (m : Image) → image_of bytes.now ≡ Ok m → IfRan status (IfTold (U.told units.old) (U.told units.new) (λ io io'. io.printed ≡ [] → io'.left ≡ left_after m io.left bound))) }
+    // A run that nothing stopped met no failure of a unit.
+    ensures kept { IfOk result (λ status. IfRan status (Same (U.failures units.old) (U.failures units.new))) }
     // Of a module that compile_deck wrote, in the words of its deck alone: it ended as the deck's meaning does at some
     // depth, with exactly that printed, or runs on, and what it printed is a beginning of what the meaning prints.
     ensures meant { IfOk result (λ status. (deck : List ℕ) → IsModuleOf deck bytes.now → IsMeant deck status (U.told units.old) (U.told units.new)) }
