@@ -13,10 +13,8 @@ BUILT := $(PROGRAM)/out/sno $(PROGRAM)/out/sno.by-rattle
 # What a proof of the program reads, folders too, so that a file that goes is noticed.
 PARTS := $(foreach crate,$(shell tools/below sno 2>/dev/null),crates/$(crate)/src crates/$(crate)/specs crates/$(crate)/proofs)
 SOURCES := $(shell find crates.txt $(wildcard $(PARTS)) 2>/dev/null)
-# Whether the program's words name files for units.
-HAS_UNITS := $(shell grep -l 'UNIT=FILE' crates/driver/src/words.rt 2>/dev/null)
 
-.PHONY: help run try sno test decks wrong time check bench fmt clean toolchain program deck input
+.PHONY: help run try sno test decks bound wrong time check bench fmt clean toolchain program deck input
 .DEFAULT_GOAL := help
 
 help: ## list the targets
@@ -35,7 +33,7 @@ deck: program
 	@: $(if $(wildcard $(DECK)),,$(error no such deck: $(DECK)))
 
 input: deck
-	@: $(if $(INPUT),$(if $(HAS_UNITS),$(if $(wildcard $(INPUT)),,$(error no such file: $(INPUT))),$(error INPUT is not there yet: no word of the program names a file for unit 5)))
+	@: $(if $(INPUT),$(if $(wildcard $(INPUT)),,$(error no such file: $(INPUT))))
 
 run: input build/sno ## DECK=file [INPUT=file]: run a deck on the proved program, built first where the source changed
 ifeq ($(INPUT),)
@@ -60,11 +58,14 @@ build/sno: $(SOURCES) | program
 test: toolchain ## the gate: every proof from nothing, must-fail edits, tests, programs, decks (last line 'N passed, M failed')
 	@echo "test: proving every crate from nothing; this takes many minutes (all lines go to build/log)"
 	@mkdir -p build && touch build/began
-	@RT_JOBS=$${RT_JOBS:-$$(tools/jobs)} tools/progress "$(RT) ci" "tools/wrong --texts" "tests/run $(BUILT)"
+	@RT_JOBS=$${RT_JOBS:-$$(tools/jobs)} tools/progress "$(RT) ci" "tools/wrong --texts" "tests/docs" "tests/run $(BUILT)" "tests/bound --decks 100 $(PROGRAM)/out/sno"
 	@cp $(PROGRAM)/out/sno build/sno.new && touch -r build/began build/sno.new && mv build/sno.new build/sno
 
 decks: build/sno ## the decks of tests/ alone, on the proved program
 	@tests/run build/sno
+
+bound: build/sno ## 2,000 random decks on the proved program and on the reference of tests/, with steps and rules
+	@tests/bound build/sno --decks 2000
 
 wrong: toolchain ## [CRATE=name]: try the wrong bodies that the gate doesn't; each must be refused
 	@tools/wrong $(CRATE)

@@ -119,7 +119,7 @@ fn text(call: TextCall) -> Row {
 
 fn of_cards(cards: Cards) -> Row {
     let (name, first, again, many) = match cards {
-        Cards::OneText => ("one text", " X\n", "+ X = SIZE('A;B');  \n", 50_000),
+        Cards::OneText => ("one text", " X\n", "+ X = SIZE('A;B');  \n", 40_000),
         Cards::Empty => ("empty cards", "", "\n", 1_000_000),
         Cards::Statements => ("statements", "", LABELLED, 23_000),
     };

@@ -41,7 +41,7 @@ fn through(
         TextCall::Sub => text.sub(0, text.len())?.len(),
         TextCall::SpanEnd => span_end(text.as_slice(), 0, set),
         TextCall::BreakEnd => break_end(text.as_slice(), 0, set).unwrap_or(text.len()),
-        TextCall::IntText => Text::int_text(alloc, i64::MIN | turn as i64)?.len(),
+        TextCall::IntText => Text::int_text(alloc, i64::MIN | (turn as u64).cast_signed())?.len(),
     })
 }
 

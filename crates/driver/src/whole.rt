@@ -41,7 +41,7 @@ pub fn run_deck<U: Units>(
     ensures in_time { IfOk result (λ status. IsInTime deck.now bound status (U.told units.old) (U.told units.new)) }
     // The run is the machine's, on an image that does what the deck's statements mean.
     ensures run { IfOk result (λ status. IsRunOf deck.now bound status (U.told units.old) (U.told units.new)) }
-    // A run stopped by a failed unit names it; want of memory says nothing of the run.
+    // A run stopped by a failed unit names it, and no other unit failed; for want of memory, none failed.
     ensures stop { IfOk result (λ status. IfStopped status (λ stop. IsStop stop (U.failures units.old) (U.failures units.new))) }
 {
     let module = compile_deck(alloc, deck)?;

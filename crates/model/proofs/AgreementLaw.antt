@@ -24,26 +24,28 @@ abbrev machine_at : Module → ℕ → MW → State
 machine_at img k m = steps img k (begun img m)
 
 module _ (prog : Program) (img : Module) (trees_at : ℕ → Option Expr) (placed : Placed prog img trees_at) (w : W) (m : MW) (wr : WR trees_at w m) where
-  abbrev Never : record {} → W → State → Type 0
+  abbrev pub Never : record {} → W → State → Type 0
   Never a v s = ⊥
 
-  abbrev Nowhere : W → State → Type 0
+  abbrev pub Nowhere : W → State → Type 0
   Nowhere v s = ⊥
 
-  pub start_is : begun img m ≡ Run placed.entry_is.0 [] [] [] m
+  start_is : begun img m ≡ Run placed.entry_is.0 [] [] [] m
   start_is = ap (λ k. to_stmt img (img.stmt k) [] m) placed.entry ∙ ap (λ o. to_stmt img o [] m) placed.entry_is.1
 
-  run_follows : Follows prog img trees_at 1 (begun img m) Never Nowhere (run_rule prog w)
+  pub run_follows : Follows prog img trees_at 2 2 (begun img m) Never Nowhere (run_rule prog w)
   run_follows = (
     0,
     (placed.entry_is.0, [], placed.entry_is.1, tt),
     m,
     start_is,
     wr,
+    2,
+    le_refl 2,
+    inr (le_refl 2),
     1,
-    le_refl 1,
-    inr (le_refl 1),
-    (λ l v s (m1, r1, e1). (from prog img trees_at placed {r = 1} {Q = Never} {F = Nowhere} 1 e1 (faulted prog img trees_at placed error.ReturnAtLevelZero r1)).by),
+    omega arith,
+    (λ l v s (m1, r1, e1). (from prog img trees_at placed {r = 2} {b = 1} {Q = Never} {F = Nowhere} 1 (omega arith) e1 (faulted prog img trees_at placed error.ReturnAtLevelZero r1)).by),
     (λ v s b. absurd b),
   )
 
@@ -51,10 +53,10 @@ module _ (prog : Program) (img : Module) (trees_at : ℕ → Option Expr) (place
   run_on = (before_refl w, (λ l v b. before_refl v), (λ v b. before_refl v))
 
   fits : (n : ℕ) → Fits prog img trees_at 0 (begun img m) Never Nowhere (run prog n w)
-  fits n = follow_fits prog img trees_at n (sim_all prog img trees_at (local prog img trees_at placed) n) 1 (begun img m) Never Nowhere (run_rule prog w) run_follows
+  fits n = follow_fits prog img trees_at n (sim_all prog img trees_at (local prog img trees_at placed) n) 2 2 (begun img m) Never Nowhere (run_rule prog w) run_follows
 
   goes : (l : ℕ) → Goes prog img trees_at l (begun img m) Never Nowhere (λ n. run prog n w)
-  goes l = follow_goes prog img trees_at (on prog) (local prog img trees_at placed) l 1 ((λ q h. goes_all prog img trees_at (on prog) (local prog img trees_at placed) l q), (λ q. goes_all prog img trees_at (on prog) (local prog img trees_at placed) (pred l) q)) w (begun img m) Never Nowhere (run_rule prog w) run_on run_follows
+  goes l = follow_goes prog img trees_at (on prog) (local prog img trees_at placed) l 2 2 ((λ q h. goes_all prog img trees_at (on prog) (local prog img trees_at placed) l q), (λ q. goes_all prog img trees_at (on prog) (local prog img trees_at placed) (pred l) q)) w (begun img m) Never Nowhere (run_rule prog w) run_on run_follows
 
   -- what is known at the depth n: an ending of both, or the machine runs on after k steps or more
   data Known (k n : ℕ) : Type 0 where

@@ -1,5 +1,5 @@
 -- How the machine comes to what a rule asks, from where the code of it stands.
-use Rattle.std.proofs.Common.{⊎_elim, le_trans, le-add_left, le-add_right, ◌≡◌, ℕ, suc, ◌+◌, ◌-◌, ◌≤◌, List, [], ◌∷◌, ◌++◌, length, drop, Bool, Option, ◌⊎◌, inl, inr, refl, sym, ap, ◌∙◌, subst, arith, le_refl, append-nil}
+use Rattle.std.proofs.Common.{⊎_elim, le_trans, le-add_left, ◌≡◌, ℕ, suc, ◌+◌, ◌-◌, ◌≤◌, List, [], ◌∷◌, ◌++◌, length, drop, Bool, Option, ◌⊎◌, inl, inr, refl, sym, ap, ◌∙◌, subst, arith, le_refl, append-nil}
 use Rattle.model.specs.declared.instr.Instr.{Instr}
 use Rattle.model.specs.declared.run.ErrorCode.{ErrorCode}
 use Rattle.model.specs.declared.run.ErrorCode.TheVariants as error
@@ -17,7 +17,7 @@ use Rattle.model.specs.Placed.{Is, CodeV, CodeN, CodeA, Placed}
 use Rattle.model.specs.Alike.{VR, VRs, WR}
 use Rattle.model.specs.Steps as S
 use Rattle.model.specs.Stands as St
-use Rattle.model.proofs.Following.{Base, Fit, Here, push_all, failed_at, Stopped, Still, rank, Follows, steps_add}
+use Rattle.model.proofs.Following.{Base, Fit, Here, push_all, failed_at, Stopped, Still, rank, extra, Follows, steps_add}
 use Rattle.model.proofs.OperationsAlike.{OpR, gives, refuses, faults, keys_same, BegunR, Any}
 
 pub fit_more : (hs : List Handler) (o : Operand) (ops : List Operand) → Fit hs ops → Fit hs (o ∷ ops)
@@ -72,65 +72,52 @@ module _ (prog : Program) (img : Module) (trees_at : ℕ → Option Expr) (place
   one p q i ops hs fs w is = ap (λ f. step_at img f p ops hs fs w) is
 
   -- the machine follows a rule, as a type that does not unfold
-  pub record Fw {A : Type 0} (r : ℕ) (c : State) (Q : A → W → State → Type 0) (F : W → State → Type 0) (p : Rule A) : Type 0 where
-    pub by : Follows prog img trees_at r c Q F p
+  pub record Fw {A : Type 0} (r b : ℕ) (c : State) (Q : A → W → State → Type 0) (F : W → State → Type 0) (p : Rule A) : Type 0 where
+    pub by : Follows prog img trees_at r b c Q F p
 
-  pub answers : {A : Type 0} {r : ℕ} {c : State} {Q : A → W → State → Type 0} {F : W → State → Type 0} {a : A} {w : W} (j : ℕ) → Q a w (steps img j c) → Fw r c Q F (Ret a w)
-  answers j x = record { by = (j, x) }
+  pub answers : {A : Type 0} {r b : ℕ} {c : State} {Q : A → W → State → Type 0} {F : W → State → Type 0} {a : A} {w : W} (j : ℕ) → j ≤ b → Q a w (steps img j c) → Fw r b c Q F (Ret a w)
+  answers j le x = record { by = (j, le, x) }
 
-  pub fails : {A : Type 0} {r : ℕ} {c : State} {Q : A → W → State → Type 0} {F : W → State → Type 0} {w : W} (j : ℕ) → F w (steps img j c) → Fw r c Q F (Fail w)
-  fails j x = record { by = (j, x) }
+  pub fails : {A : Type 0} {r b : ℕ} {c : State} {Q : A → W → State → Type 0} {F : W → State → Type 0} {w : W} (j : ℕ) → j ≤ b → F w (steps img j c) → Fw r b c Q F (Fail w)
+  fails j le x = record { by = (j, le, x) }
 
-  pub stops : {A : Type 0} {r : ℕ} {c : State} {Q : A → W → State → Type 0} {F : W → State → Type 0} {e : Ending} {w : W} (j : ℕ) → Stopped prog img trees_at e w (steps img j c) → Fw r c Q F (Stop e w)
-  stops j x = record { by = (j, x) }
+  pub stops : {A : Type 0} {r b : ℕ} {c : State} {Q : A → W → State → Type 0} {F : W → State → Type 0} {e : Ending} {w : W} (j : ℕ) → j ≤ b → Stopped prog img trees_at e w (steps img j c) → Fw r b c Q F (Stop e w)
+  stops j le x = record { by = (j, le, x) }
 
   -- the same from some steps before
-  pub from : {A : Type 0} {r : ℕ} {c : State} {Q : A → W → State → Type 0} {F : W → State → Type 0} {p : Rule A} (j : ℕ) {d : State} → steps img j c ≡ d → Fw r d Q F p → Fw r c Q F p
-  from {r = r} {c} {Q} {F} {p} j {d} e x = record { by = go p x.by }
+  pub shift : {A : Type 0} {r b : ℕ} {c : State} {Q : A → W → State → Type 0} {F : W → State → Type 0} {p : Rule A} (j b' : ℕ) {d : State} → j + b' ≤ b → steps img j c ≡ d → Fw r b' d Q F p → Fw r b c Q F p
+  shift {r = r} {b} {c} {Q} {F} {p} j b' {d} le e x = record { by = go p x.by }
     where
-      go : (p : Rule _) → Follows prog img trees_at r d Q F p → Follows prog img trees_at r c Q F p
-      go (Ret a w) (i, x) = (j + i, subst (Q a w) (sym (steps_add prog img trees_at j i c ∙ ap (steps img i) e)) x)
-      go (Fail w) (i, x) = (j + i, subst (F w) (sym (steps_add prog img trees_at j i c ∙ ap (steps img i) e)) x)
-      go (Stop n w) (i, x) = (j + i, subst (Stopped prog img trees_at n w) (sym (steps_add prog img trees_at j i c ∙ ap (steps img i) e)) x)
+      go : (p : Rule _) → Follows prog img trees_at r b' d Q F p → Follows prog img trees_at r b c Q F p
+      go (Ret a w) (i, h, x) = (j + i, omega arith, subst (Q a w) (sym (steps_add prog img trees_at j i c ∙ ap (steps img i) e)) x)
+      go (Fail w) (i, h, x) = (j + i, omega arith, subst (F w) (sym (steps_add prog img trees_at j i c ∙ ap (steps img i) e)) x)
+      go (Stop n w) (i, h, x) = (j + i, omega arith, subst (Stopped prog img trees_at n w) (sym (steps_add prog img trees_at j i c ∙ ap (steps img i) e)) x)
       go (Ask q w k f) x =
-          (j + x.0, x.1, x.2, steps_add prog img trees_at j x.0 c ∙ ap (steps img x.0) e ∙ x.3, x.4, x.5, x.6, moved x.7, x.8, x.9)
-        where
-          moved : (1 ≤ x.0) ⊎ (x.5 ≤ r) → (1 ≤ j + x.0) ⊎ (x.5 ≤ r)
-          moved (inl le) = inl (omega arith)
-          moved (inr le) = inr le
+          let h : x.0 + extra q + x.8 ≤ b' = x.9 in
+          (j + x.0, x.1, x.2, steps_add prog img trees_at j x.0 c ∙ ap (steps img x.0) e ∙ x.3, x.4, x.5, x.6, moved_dec j x.0 x.5 r x.7, x.8, omega (arith, h), x.10, x.11)
       go (Seek g w k) x = (
-        (λ n e' h. let y = x.0 n e' h in (j + y.0, y.1, moved_dec j y.0 y.1 r y.2, subst (λ s. Follows prog img trees_at y.1 s Q F (k e')) (sym (steps_add prog img trees_at j y.0 c ∙ ap (steps img y.0) e)) y.3)),
-        (λ l. ⊎_elim inl (λ p. inr (j + p.0, le_trans p.1 (le-add_left p.0 j), subst (λ s. Still prog img trees_at s w) (sym (steps_add prog img trees_at j p.0 c ∙ ap (steps img p.0) e)) p.2, (λ n e' h. le_trans (p.3 n e' h) (le-add_left (x.0 n e' h).0 j)))) (x.1 l)),
-        (j + x.2.0, subst (λ s. Still prog img trees_at s w) (sym (steps_add prog img trees_at j x.2.0 c ∙ ap (steps img x.2.0) e)) x.2.1),
+        x.0,
+        (λ n e' h. let y = x.1 n e' h in (j + y.0, y.1, moved_dec j y.0 y.1 r y.2, subst (λ s. Follows prog img trees_at y.1 1 s Q F (k e')) (sym (steps_add prog img trees_at j y.0 c ∙ ap (steps img y.0) e)) y.3)),
+        (λ l. ⊎_elim inl (λ p. inr (j + p.0, le_trans p.1 (le-add_left p.0 j), subst (λ s. Still prog img trees_at s w) (sym (steps_add prog img trees_at j p.0 c ∙ ap (steps img p.0) e)) p.2, (λ n e' h. le_trans (p.3 n e' h) (le-add_left (x.1 n e' h).0 j)))) (x.2 l)),
+        (j + x.3.0, subst (λ s. Still prog img trees_at s w) (sym (steps_add prog img trees_at j x.3.0 c ∙ ap (steps img x.3.0) e)) x.3.1),
       )
 
-  -- the same after a step, at any bound
-  pub from_step : {A : Type 0} {r : ℕ} {c : State} {Q : A → W → State → Type 0} {F : W → State → Type 0} {p : Rule A} (j r2 : ℕ) {d : State} → 1 ≤ j → steps img j c ≡ d → Fw r2 d Q F p → Fw r c Q F p
-  from_step {r = r} {c} {Q} {F} {p} j r2 {d} le e x = record { by = go p x.by }
-    where
-      go : (p : Rule _) → Follows prog img trees_at r2 d Q F p → Follows prog img trees_at r c Q F p
-      go (Ret a w) (i, x) = (j + i, subst (Q a w) (sym (steps_add prog img trees_at j i c ∙ ap (steps img i) e)) x)
-      go (Fail w) (i, x) = (j + i, subst (F w) (sym (steps_add prog img trees_at j i c ∙ ap (steps img i) e)) x)
-      go (Stop n w) (i, x) = (j + i, subst (Stopped prog img trees_at n w) (sym (steps_add prog img trees_at j i c ∙ ap (steps img i) e)) x)
-      go (Ask q w k f) x =
-          let far : 1 ≤ j + x.0 = omega arith in
-          (j + x.0, x.1, x.2, steps_add prog img trees_at j x.0 c ∙ ap (steps img x.0) e ∙ x.3, x.4, x.5, x.6, inl far, x.8, x.9)
-      go (Seek g w k) x = (
-        (λ n e' h. let y = x.0 n e' h in (j + y.0, y.1, inl (le_trans le (le-add_right j y.0)), subst (λ s. Follows prog img trees_at y.1 s Q F (k e')) (sym (steps_add prog img trees_at j y.0 c ∙ ap (steps img y.0) e)) y.3)),
-        (λ l. ⊎_elim inl (λ p. inr (j + p.0, le_trans p.1 (le-add_left p.0 j), subst (λ s. Still prog img trees_at s w) (sym (steps_add prog img trees_at j p.0 c ∙ ap (steps img p.0) e)) p.2, (λ n e' h. le_trans (p.3 n e' h) (le-add_left (x.0 n e' h).0 j)))) (x.1 l)),
-        (j + x.2.0, subst (λ s. Still prog img trees_at s w) (sym (steps_add prog img trees_at j x.2.0 c ∙ ap (steps img x.2.0) e)) x.2.1),
-      )
+  pub from : {A : Type 0} {r b : ℕ} {c : State} {Q : A → W → State → Type 0} {F : W → State → Type 0} {p : Rule A} (j : ℕ) {d : State} → j ≤ b → steps img j c ≡ d → Fw r (b - j) d Q F p → Fw r b c Q F p
+  from {b = b} j le e x = shift j (b - j) (omega arith) e x
+
+  pub same : {A : Type 0} {r b : ℕ} {c : State} {Q : A → W → State → Type 0} {F : W → State → Type 0} {p : Rule A} {d : State} → c ≡ d → Fw r b d Q F p → Fw r b c Q F p
+  same {b = b} e x = shift 0 b (omega arith) e x
 
   -- an operation, and what follows it
-  pub op_follows : {A B C : Type 0} (S : A → B → Type 0) {r : ℕ} {Q : C → W → State → Type 0} {F : W → State → Type 0} {o : Op W A} {o' : Op MW B} (hs : List Handler) (ops : List Operand) (fs : List Frame) (k : A → W → Rule C) (k' : B → MW → State)
-      → OpR trees_at S o o' → ((a : A) (b : B) (w : W) (m : MW) → S a b → R w m → Fw r (k' b m) Q F (k a w)) → ((w : W) (m : MW) → R w m → F w (fail_to hs ops fs m)) → Fw r (after_op o' hs ops fs k') Q F (doing o k)
+  pub op_follows : {A B C : Type 0} (S : A → B → Type 0) {r n : ℕ} {Q : C → W → State → Type 0} {F : W → State → Type 0} {o : Op W A} {o' : Op MW B} (hs : List Handler) (ops : List Operand) (fs : List Frame) (k : A → W → Rule C) (k' : B → MW → State)
+      → OpR trees_at S o o' → ((a : A) (b : B) (w : W) (m : MW) → S a b → R w m → Fw r n (k' b m) Q F (k a w)) → ((w : W) (m : MW) → R w m → F w (fail_to hs ops fs m)) → Fw r n (after_op o' hs ops fs k') Q F (doing o k)
   op_follows S hs ops fs k k' (gives {a} {b} {w} {m} x wr) hk hf = hk a b w m x wr
-  op_follows S hs ops fs k k' (refuses {w} {m} wr) hk hf = fails 0 (hf w m wr)
-  op_follows S hs ops fs k k' (faults e {w} {m} wr) hk hf = stops 0 (m, wr, ap (λ k. Over (ending.Error e k.stno) m) (keys_same trees_at wr))
+  op_follows S hs ops fs k k' (refuses {w} {m} wr) hk hf = fails 0 (omega arith) (hf w m wr)
+  op_follows S hs ops fs k k' (faults e {w} {m} wr) hk hf = stops 0 (omega arith) (m, wr, ap (λ k. Over (ending.Error e k.stno) m) (keys_same trees_at wr))
 
   -- a fault of the meaning is one of the machine
-  pub faulted : {A : Type 0} {r : ℕ} (e : ErrorCode) {Q : A → W → State → Type 0} {F : W → State → Type 0} {w : W} {m : MW} → R w m → Fw r (error_at e m) Q F (fault e w)
-  faulted e {m = m} wr = stops 0 (m, wr, ap (λ k. Over (ending.Error e k.stno) m) (keys_same trees_at wr))
+  pub faulted : {A : Type 0} {r n : ℕ} (e : ErrorCode) {Q : A → W → State → Type 0} {F : W → State → Type 0} {w : W} {m : MW} → R w m → Fw r n (error_at e m) Q F (fault e w)
+  faulted e {m = m} wr = stops 0 (omega arith) (m, wr, ap (λ k. Over (ending.Error e k.stno) m) (keys_same trees_at wr))
 
   -- what is done where a value, a name or nothing is left
   abbrev pub Qv : Here → Val → W → State → Type 0
@@ -145,105 +132,71 @@ module _ (prog : Program) (img : Module) (trees_at : ℕ → Option Expr) (place
   abbrev pub Qu : Here → record {} → W → State → Type 0
   Qu h _ w c = (w' : MW) × R w w' × (c ≡ Run h.q h.ops h.hs h.fs w')
 
-  -- asking, from where the machine stands at the code of what is asked, with the state after it in full
-  pub ask_val : {A : Type 0} {n : ℕ} {c : State} {e : Expr} {w : W} {m : MW} {Q : A → W → State → Type 0} {F : W → State → Type 0} {k : Val → W → Rule A} {f : W → Rule A} (g : Here) (j : ℕ)
-      → CodeV prog img trees_at e g.p g.q → steps img j c ≡ Run g.p g.ops g.hs g.fs m → R w m → suc (rank (QVal e)) ≤ n
-      → ((u : Val) (w1 : W) (x : MVal) (m1 : MW) → VR trees_at u x → R w1 m1 → Fw n (Run g.q (OV x ∷ g.ops) g.hs g.fs m1) Q F (k u w1))
-      → ((w1 : W) (m1 : MW) → R w1 m1 → Fw n (fail_to g.hs g.ops g.fs m1) Q F (f w1))
-      → Fw n c Q F (Ask (QVal e) w k f)
-  ask_val {n = n} {m = m} g j code at wr d hk hf = record {
-    by = (
-      j,
-      (g, code),
-      m,
-      at,
-      wr,
-      n,
-      d,
-      inr (le_refl n),
-      (λ u w1 s (x, m1, hu, r1, e1). (from 0 e1 (hk u w1 x m1 hu r1)).by),
-      (λ w1 s (m1, r1, e1). (from 0 e1 (hf w1 m1 r1)).by),
-    );
+  -- asking, where the machine stands at the code of what is asked
+  pub ask_val : {A : Type 0} {r n : ℕ} {e : Expr} {w : W} {m : MW} {Q : A → W → State → Type 0} {F : W → State → Type 0} {k : Val → W → Rule A} {f : W → Rule A} (g : Here)
+      → CodeV prog img trees_at e g.p g.q → R w m → suc (rank (QVal e)) ≤ r
+      → ((u : Val) (w1 : W) (x : MVal) (m1 : MW) → VR trees_at u x → R w1 m1 → Fw r n (Run g.q (OV x ∷ g.ops) g.hs g.fs m1) Q F (k u w1))
+      → ((w1 : W) (m1 : MW) → R w1 m1 → Fw r n (fail_to g.hs g.ops g.fs m1) Q F (f w1))
+      → Fw r n (Run g.p g.ops g.hs g.fs m) Q F (Ask (QVal e) w k f)
+  ask_val {r = r} {n} {m = m} g code wr le hk hf = record {
+    by = (0, (g, code), m, refl, wr, r, le, inr (le_refl r), n, omega arith, (λ u w1 s (x, m1, hu, r1, e1). (same e1 (hk u w1 x m1 hu r1)).by), (λ w1 s (m1, r1, e1). (same e1 (hf w1 m1 r1)).by));
   }
 
-  pub ask_name : {A : Type 0} {n : ℕ} {c : State} {e : Expr} {w : W} {m : MW} {Q : A → W → State → Type 0} {F : W → State → Type 0} {k : Name → W → Rule A} {f : W → Rule A} (g : Here) (j : ℕ)
-      → CodeN prog img trees_at e g.p g.q → steps img j c ≡ Run g.p g.ops g.hs g.fs m → R w m → suc (rank (QName e)) ≤ n
-      → ((u : Name) (w1 : W) (m1 : MW) → R w1 m1 → Fw n (Run g.q (ON u ∷ g.ops) g.hs g.fs m1) Q F (k u w1))
-      → ((w1 : W) (m1 : MW) → R w1 m1 → Fw n (fail_to g.hs g.ops g.fs m1) Q F (f w1))
-      → Fw n c Q F (Ask (QName e) w k f)
-  ask_name {n = n} {m = m} g j code at wr d hk hf = record {
-    by = (
-      j,
-      (g, code),
-      m,
-      at,
-      wr,
-      n,
-      d,
-      inr (le_refl n),
-      (λ u w1 s (m1, r1, e1). (from 0 e1 (hk u w1 m1 r1)).by),
-      (λ w1 s (m1, r1, e1). (from 0 e1 (hf w1 m1 r1)).by),
-    );
+  pub ask_name : {A : Type 0} {r n : ℕ} {e : Expr} {w : W} {m : MW} {Q : A → W → State → Type 0} {F : W → State → Type 0} {k : Name → W → Rule A} {f : W → Rule A} (g : Here)
+      → CodeN prog img trees_at e g.p g.q → R w m → suc (rank (QName e)) ≤ r
+      → ((u : Name) (w1 : W) (m1 : MW) → R w1 m1 → Fw r n (Run g.q (ON u ∷ g.ops) g.hs g.fs m1) Q F (k u w1))
+      → ((w1 : W) (m1 : MW) → R w1 m1 → Fw r n (fail_to g.hs g.ops g.fs m1) Q F (f w1))
+      → Fw r n (Run g.p g.ops g.hs g.fs m) Q F (Ask (QName e) w k f)
+  ask_name {r = r} {n} {m = m} g code wr le hk hf = record {
+    by = (0, (g, code), m, refl, wr, r, le, inr (le_refl r), n, omega arith, (λ u w1 s (m1, r1, e1). (same e1 (hk u w1 m1 r1)).by), (λ w1 s (m1, r1, e1). (same e1 (hf w1 m1 r1)).by));
   }
 
-  pub ask_args : {A : Type 0} {n : ℕ} {c : State} {e : Args} {w : W} {m : MW} {Q : A → W → State → Type 0} {F : W → State → Type 0} {k : List Val → W → Rule A} {f : W → Rule A} (g : Here) (j l : ℕ)
-      → CodeA prog img trees_at e l g.p g.q → steps img j c ≡ Run g.p g.ops g.hs g.fs m → R w m → suc (rank (QArgs e)) ≤ n
-      → ((us : List Val) (w1 : W) (xs : List MVal) (m1 : MW) → VRs trees_at us xs → length xs ≡ l → R w1 m1 → Fw n (Run g.q (push_all xs g.ops) g.hs g.fs m1) Q F (k us w1))
-      → ((w1 : W) (m1 : MW) → R w1 m1 → Fw n (fail_to g.hs g.ops g.fs m1) Q F (f w1))
-      → Fw n c Q F (Ask (QArgs e) w k f)
-  ask_args {n = n} {m = m} g j l code at wr d hk hf = record {
-    by = (
-      j,
-      (g, l, code),
-      m,
-      at,
-      wr,
-      n,
-      d,
-      inr (le_refl n),
-      (λ us w1 s (xs, m1, hu, len, r1, e1). (from 0 e1 (hk us w1 xs m1 hu len r1)).by),
-      (λ w1 s (m1, r1, e1). (from 0 e1 (hf w1 m1 r1)).by),
-    );
+  pub ask_args : {A : Type 0} {r n : ℕ} {e : Args} {w : W} {m : MW} {Q : A → W → State → Type 0} {F : W → State → Type 0} {k : List Val → W → Rule A} {f : W → Rule A} (g : Here) (l : ℕ)
+      → CodeA prog img trees_at e l g.p g.q → R w m → suc (rank (QArgs e)) ≤ r
+      → ((us : List Val) (w1 : W) (xs : List MVal) (m1 : MW) → VRs trees_at us xs → length xs ≡ l → R w1 m1 → Fw r n (Run g.q (push_all xs g.ops) g.hs g.fs m1) Q F (k us w1))
+      → ((w1 : W) (m1 : MW) → R w1 m1 → Fw r n (fail_to g.hs g.ops g.fs m1) Q F (f w1))
+      → Fw r n (Run g.p g.ops g.hs g.fs m) Q F (Ask (QArgs e) w k f)
+  ask_args {r = r} {n} {m = m} g l code wr le hk hf = record {
+    by = (0, (g, l, code), m, refl, wr, r, le, inr (le_refl r), n, omega arith, (λ us w1 s (xs, m1, hu, len, r1, e1). (same e1 (hk us w1 xs m1 hu len r1)).by), (λ w1 s (m1, r1, e1). (same e1 (hf w1 m1 r1)).by));
   }
 
   -- ending with an operation that the instruction at p makes
-  pub fin_val : {n p : ℕ} {ops : List Operand} {m : MW} {o : Op W Val} {o' : Op MW MVal} (h : Here) (i : Instr) → Is prog img trees_at p i h.q
+  pub fin_val : {r n p : ℕ} {ops : List Operand} {m : MW} {o : Op W Val} {o' : Op MW MVal} (h : Here) (i : Instr) → 1 ≤ n → Is prog img trees_at p i h.q
       → act img i h.q p ops h.hs h.fs m ≡ after_op o' h.hs h.ops h.fs (λ v w1. Run h.q (OV v ∷ h.ops) h.hs h.fs w1) → OpR trees_at (VR trees_at) o o'
-      → Fw n (Run p ops h.hs h.fs m) (Qv h) (Fv h) (doing o Ret)
-  fin_val {p = p} {ops} {m} h i is acts same =
-      from 1 (one p h.q i ops h.hs h.fs m is ∙ acts)
-      (op_follows (VR trees_at) h.hs h.ops h.fs Ret (λ v w1. Run h.q (OV v ∷ h.ops) h.hs h.fs w1) same (λ z z' w3 m3 hz r3. answers 0 (z', m3, hz, r3, refl)) (λ w3 m3 r3. (m3, r3, refl)))
+      → Fw r n (Run p ops h.hs h.fs m) (Qv h) (Fv h) (doing o Ret)
+  fin_val {p = p} {ops} {m} h i le is acts alike =
+      from 1 le (one p h.q i ops h.hs h.fs m is ∙ acts)
+      (op_follows (VR trees_at) h.hs h.ops h.fs Ret (λ v w1. Run h.q (OV v ∷ h.ops) h.hs h.fs w1) alike (λ z z' w3 m3 hz r3. answers 0 (omega arith) (z', m3, hz, r3, refl)) (λ w3 m3 r3. (m3, r3, refl)))
 
-  pub fin_name : {n p : ℕ} {ops : List Operand} {m : MW} {o : Op W Name} {o' : Op MW Name} (h : Here) (i : Instr) → Is prog img trees_at p i h.q
+  pub fin_name : {r n p : ℕ} {ops : List Operand} {m : MW} {o : Op W Name} {o' : Op MW Name} (h : Here) (i : Instr) → 1 ≤ n → Is prog img trees_at p i h.q
       → act img i h.q p ops h.hs h.fs m ≡ after_op o' h.hs h.ops h.fs (λ v w1. Run h.q (ON v ∷ h.ops) h.hs h.fs w1) → OpR trees_at ◌≡◌ o o'
-      → Fw n (Run p ops h.hs h.fs m) (Qn h) (Fv h) (doing o Ret)
-  fin_name {p = p} {ops} {m} h i is acts same =
-      from 1 (one p h.q i ops h.hs h.fs m is ∙ acts)
-      (op_follows ◌≡◌ h.hs h.ops h.fs Ret (λ v w1. Run h.q (ON v ∷ h.ops) h.hs h.fs w1) same (λ z z' w3 m3 hz r3. answers 0 (m3, r3, ap (λ x. Run h.q (ON x ∷ h.ops) h.hs h.fs m3) (sym hz))) (λ w3 m3 r3. (m3, r3, refl)))
+      → Fw r n (Run p ops h.hs h.fs m) (Qn h) (Fv h) (doing o Ret)
+  fin_name {p = p} {ops} {m} h i le is acts alike =
+      from 1 le (one p h.q i ops h.hs h.fs m is ∙ acts)
+      (op_follows ◌≡◌ h.hs h.ops h.fs Ret (λ v w1. Run h.q (ON v ∷ h.ops) h.hs h.fs w1) alike (λ z z' w3 m3 hz r3. answers 0 (omega arith) (m3, r3, ap (λ x. Run h.q (ON x ∷ h.ops) h.hs h.fs m3) (sym hz))) (λ w3 m3 r3. (m3, r3, refl)))
 
-  pub fin_unit : {n p : ℕ} {ops : List Operand} {m : MW} {o : Op W (record {})} {o' : Op MW (record {})} (h : Here) (i : Instr) → Is prog img trees_at p i h.q
+  pub fin_unit : {r n p : ℕ} {ops : List Operand} {m : MW} {o : Op W (record {})} {o' : Op MW (record {})} (h : Here) (i : Instr) → 1 ≤ n → Is prog img trees_at p i h.q
       → act img i h.q p ops h.hs h.fs m ≡ after_op o' h.hs h.ops h.fs (λ _ w1. Run h.q h.ops h.hs h.fs w1) → OpR trees_at Any o o'
-      → Fw n (Run p ops h.hs h.fs m) (Qu h) (Fv h) (doing o Ret)
-  fin_unit {p = p} {ops} {m} h i is acts same =
-      from 1 (one p h.q i ops h.hs h.fs m is ∙ acts)
-      (op_follows Any h.hs h.ops h.fs Ret (λ _ w1. Run h.q h.ops h.hs h.fs w1) same (λ z z' w3 m3 hz r3. answers 0 (m3, r3, refl)) (λ w3 m3 r3. (m3, r3, refl)))
+      → Fw r n (Run p ops h.hs h.fs m) (Qu h) (Fv h) (doing o Ret)
+  fin_unit {p = p} {ops} {m} h i le is acts alike =
+      from 1 le (one p h.q i ops h.hs h.fs m is ∙ acts)
+      (op_follows Any h.hs h.ops h.fs Ret (λ _ w1. Run h.q h.ops h.hs h.fs w1) alike (λ z z' w3 m3 hz r3. answers 0 (omega arith) (m3, r3, refl)) (λ w3 m3 r3. (m3, r3, refl)))
 
-  -- what fails here, with one operand more there
-  pub fail_here : (h : Here) {n : ℕ} {A : Type 0} {Q : A → W → State → Type 0} (w : W) (m : MW) → R w m → Fw n (fail_to h.hs h.ops h.fs m) Q (Fv h) (Fail w)
-  fail_here h w m wr = fails 0 (m, wr, refl)
+  pub fail_here : (h : Here) {r n : ℕ} {A : Type 0} {Q : A → W → State → Type 0} (w : W) (m : MW) → R w m → Fw r n (fail_to h.hs h.ops h.fs m) Q (Fv h) (Fail w)
+  fail_here h w m wr = fails 0 (omega arith) (m, wr, refl)
 
-  pub fail_one : (h : Here) {n : ℕ} {A : Type 0} {Q : A → W → State → Type 0} (o : Operand) (w : W) (m : MW) → R w m → Fw n (fail_to h.hs (o ∷ h.ops) h.fs m) Q (Fv h) (Fail w)
-  fail_one h o w m wr = fails 0 (m, wr, fail_more h.hs o h.ops h.fs m h.fit)
+  pub fail_one : (h : Here) {r n : ℕ} {A : Type 0} {Q : A → W → State → Type 0} (o : Operand) (w : W) (m : MW) → R w m → Fw r n (fail_to h.hs (o ∷ h.ops) h.fs m) Q (Fv h) (Fail w)
+  fail_one h o w m wr = fails 0 (omega arith) (m, wr, fail_more h.hs o h.ops h.fs m h.fit)
 
-  pub fail_two : (h : Here) {n : ℕ} {A : Type 0} {Q : A → W → State → Type 0} (o o' : Operand) (w : W) (m : MW) → R w m → Fw n (fail_to h.hs (o ∷ o' ∷ h.ops) h.fs m) Q (Fv h) (Fail w)
-  fail_two h o o' w m wr = fails 0 (m, wr, fail_more h.hs o (o' ∷ h.ops) h.fs m (fit_more h.hs o' h.ops h.fit) ∙ fail_more h.hs o' h.ops h.fs m h.fit)
+  pub fail_two : (h : Here) {r n : ℕ} {A : Type 0} {Q : A → W → State → Type 0} (o o' : Operand) (w : W) (m : MW) → R w m → Fw r n (fail_to h.hs (o ∷ o' ∷ h.ops) h.fs m) Q (Fv h) (Fail w)
+  fail_two h o o' w m wr = fails 0 (omega arith) (m, wr, fail_more h.hs o (o' ∷ h.ops) h.fs m (fit_more h.hs o' h.ops h.fit) ∙ fail_more h.hs o' h.ops h.fs m h.fit)
 
   -- a match from its beginning
-  pub ask_match : {A : Type 0} {n : ℕ} {w : W} {m : MW} {Q : A → W → State → Type 0} {F : W → State → Type 0} {k : Span → W → Rule A} {f : W → Rule A} (h : Here) (g : Begun Pattern) (g' : Begun PCode) (keep : Bool) → BegunR trees_at g g' → R w m → 1 ≤ n
-      → ((r : Span) (w1 : W) (m1 : MW) → R w1 m1 → Fw n (Run h.q (found_as keep g'.subject r.start r.end h.ops) h.hs h.fs m1) Q F (k r w1))
-      → ((w1 : W) (m1 : MW) → R w1 m1 → Fw n (fail_to h.hs h.ops h.fs m1) Q F (f w1))
-      → Fw n (InMatch (record { subject = g'.subject; code = g'.pattern; place = h.q; ops = h.ops; hs = h.hs; keep = keep }) (S.Starting 0 g'.left []) h.fs m) Q F (Ask (QMatch g.subject g.pattern g.left []) w k f)
-  ask_match {n = n} {m = m} h g g' keep hg wr le hk hf = record {
+  pub ask_match : {A : Type 0} {r n : ℕ} {w : W} {m : MW} {Q : A → W → State → Type 0} {F : W → State → Type 0} {k : Span → W → Rule A} {f : W → Rule A} (h : Here) (g : Begun Pattern) (g' : Begun PCode) (keep : Bool) → BegunR trees_at g g' → R w m → 1 ≤ r
+      → ((s : Span) (w1 : W) (m1 : MW) → R w1 m1 → Fw r n (Run h.q (found_as keep g'.subject s.start s.end h.ops) h.hs h.fs m1) Q F (k s w1))
+      → ((w1 : W) (m1 : MW) → R w1 m1 → Fw r n (fail_to h.hs h.ops h.fs m1) Q F (f w1))
+      → Fw r n (InMatch (record { subject = g'.subject; code = g'.pattern; place = h.q; ops = h.ops; hs = h.hs; keep = keep }) (S.Starting 0 g'.left []) h.fs m) Q F (Ask (QMatch g.subject g.pattern g.left []) w k f)
+  ask_match {r = r} {n} {m = m} h g g' keep hg wr le hk hf = record {
     by = (
       0,
       record {
@@ -262,10 +215,12 @@ module _ (prog : Program) (img : Module) (trees_at : ℕ → Option Expr) (place
       m,
       refl,
       wr,
-      n,
+      r,
       le,
-      inr (le_refl n),
-      (λ r w1 d (m1, r1, e1). (from 0 e1 (hk r w1 m1 r1)).by),
-      (λ w1 d (m1, r1, e1). (from 0 e1 (hf w1 m1 r1)).by),
+      inr (le_refl r),
+      n,
+      omega arith,
+      (λ s w1 d (m1, r1, e1). (same e1 (hk s w1 m1 r1)).by),
+      (λ w1 d (m1, r1, e1). (same e1 (hf w1 m1 r1)).by),
     );
   }

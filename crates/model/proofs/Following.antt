@@ -12,6 +12,7 @@ use Rattle.model.specs.Steps as S
 use Rattle.model.specs.Search.{Script}
 use Rattle.model.specs.Stands.{Stands, Alike}
 use Rattle.model.specs.Alike.{VR, VRs, WR}
+use Rattle.model.specs.RulesUsed.{own_count}
 use Rattle.model.proofs.MeaningGrows.{at_depth, Before, before_refl, Goes_on, Later, later, stays, follow_stays}
 
 -- the newest handler's operands are there
@@ -57,14 +58,20 @@ body_size (Assign x o) = size x + object_size o
 body_size (Match e f) = size e + size f
 body_size (Replace x f o) = size x + size f + object_size o
 
--- what is asked without a step of the machine is of lesser rank
+-- what is asked without a step of the machine is of lesser rank; a match alone is of none
 abbrev pub rank : Query → ℕ
-rank (QVal e) = suc (2 * size e)
-rank (QName e) = 2 * size e
-rank (QArgs xs) = 2 * size_args xs
-rank (QBody b) = 2 + 2 * body_size b
-rank (QExec k) = 0
+rank (QVal e) = 2 + 2 * size e
+rank (QName e) = 1 + 2 * size e
+rank (QArgs xs) = 1 + 2 * size_args xs
+rank (QBody b) = 3 + 2 * body_size b
+rank (QExec k) = 1
 rank (QMatch s p left t) = 0
+
+-- the steps that a query takes beside eight for each rule that it uses
+abbrev pub extra : Query → ℕ
+extra (QBody b) = 4
+extra (QExec k) = 1
+extra _ = 0
 
 -- the frames of a goto: none, or a call's on top
 abbrev pub Base : List Frame → Type 0
@@ -87,6 +94,10 @@ pub record MatchHere (trees_at : ℕ → Option Expr) (s : Bytes) (p : Pattern) 
   pub runs : S.event_of st ≡ Running
 
 module _ (prog : Program) (img : Module) (trees_at : ℕ → Option Expr) where
+  -- the rules that a query uses itself, which for all but a match needs no depth
+  abbrev pub own : Query → W → ℕ
+  own q w = own_count prog 0 (λ r v. Open v) q w
+
   -- something to be done by the machine
   abbrev pub Task : Query → Type 0
   Task (QVal e) = (h : Here) × CodeV prog img trees_at e h.p h.q
@@ -135,17 +146,19 @@ module _ (prog : Program) (img : Module) (trees_at : ℕ → Option Expr) where
   Still (Over e m) w = ⊥
   Still (Stuck m) w = ⊥
 
-  -- the machine follows a rule from this state, Q where it answers and F where it fails: it comes to what is asked, of a rank below r or, after a step, below any number, and goes on from there
-  abbrev pub Follows : {A : Type 0} → ℕ → State → (A → W → State → Type 0) → (W → State → Type 0) → Rule A → Type 0
-  Follows r c Q F (Ret a w) = (j : ℕ) × Q a w (steps img j c)
-  Follows r c Q F (Fail w) = (j : ℕ) × F w (steps img j c)
-  Follows r c Q F (Stop e w) = (j : ℕ) × Stopped e w (steps img j c)
-  Follows r c Q F (Ask q w k f) =
-      (j : ℕ) × (t : Task q) × (w' : MW) × (steps img j c ≡ start q t w') × WR trees_at w w' × (r' : ℕ) × (suc (rank q) ≤ r') × ((1 ≤ j) ⊎ (r' ≤ r))
-      × ((a : Ans q) (u : W) (d : State) → done q t a u d → Follows r' d Q F (k a u))
-      × ((u : W) (d : State) → failed q t u d → Follows r' d Q F (f u))
-  Follows r c Q F (Seek g w k) =
-      (found : (n : ℕ) (e : Event) → g n ≡ Some e → (j r' : ℕ) × ((1 ≤ j) ⊎ (r' ≤ r)) × Follows r' (steps img j c) Q F (k e))
+  -- the machine follows a rule from this state in b steps beside those of what is asked, Q where it answers and F where it
+  -- fails: it comes to what is asked, of a rank below r or, after a step, below any number, and goes on from there. A search
+  -- is of rank 0, and has no number of steps; what follows its event has one step
+  abbrev pub Follows : {A : Type 0} → (r b : ℕ) → State → (A → W → State → Type 0) → (W → State → Type 0) → Rule A → Type 0
+  Follows r b c Q F (Ret a w) = (j : ℕ) × (j ≤ b) × Q a w (steps img j c)
+  Follows r b c Q F (Fail w) = (j : ℕ) × (j ≤ b) × F w (steps img j c)
+  Follows r b c Q F (Stop e w) = (j : ℕ) × (j ≤ b) × Stopped e w (steps img j c)
+  Follows r b c Q F (Ask q w k f) =
+      (j : ℕ) × (t : Task q) × (w' : MW) × (steps img j c ≡ start q t w') × WR trees_at w w' × (r' : ℕ) × (suc (rank q) ≤ r') × ((1 ≤ j) ⊎ (r' ≤ r)) × (b' : ℕ) × (j + extra q + b' ≤ b)
+      × ((a : Ans q) (u : W) (d : State) → done q t a u d → Follows r' b' d Q F (k a u))
+      × ((u : W) (d : State) → failed q t u d → Follows r' b' d Q F (f u))
+  Follows r b c Q F (Seek g w k) =
+      (r ≤ 0) × (found : (n : ℕ) (e : Event) → g n ≡ Some e → (j r' : ℕ) × ((1 ≤ j) ⊎ (r' ≤ r)) × Follows r' 1 (steps img j c) Q F (k e))
       × ((l : ℕ) → ((n : ℕ) × (e : Event) × (g n ≡ Some e)) ⊎ ((i : ℕ) × (l ≤ i) × Still (steps img i c) w × ((n : ℕ) (e : Event) (h : g n ≡ Some e) → l ≤ (found n e h).0)))
       × ((i : ℕ) × Still (steps img i c) w)
 
@@ -187,7 +200,7 @@ module _ (prog : Program) (img : Module) (trees_at : ℕ → Option Expr) where
   Sim n = (q : Query) (t : Task q) (w : W) (w' : MW) → WR trees_at w w' → Fits 0 (start q t w') (done q t) (failed q t) (meaning prog n q w)
 
   abbrev pub Local : Type 0
-  Local = (q : Query) (t : Task q) (w : W) (w' : MW) → WR trees_at w w' → Follows (rank q) (start q t w') (done q t) (failed q t) (rule prog q w)
+  Local = (q : Query) (t : Task q) (w : W) (w' : MW) → WR trees_at w w' → Follows (rank q) (8 * own q w + extra q) (start q t w') (done q t) (failed q t) (rule prog q w)
 
   seek_fits : {A : Type 0} (n : ℕ) (c : State) (Q : A → W → State → Type 0) (F : W → State → Type 0) (g : ℕ → Option Event) (w : W) (k : Event → Rule A)
       → ((e : Event) → g (suc n) ≡ Some e → Fits 0 c Q F (at_depth prog n (k e))) → (i : ℕ) × Still (steps img i c) w → Fits 0 c Q F (at_depth prog n (Seek g w k))
@@ -197,16 +210,16 @@ module _ (prog : Program) (img : Module) (trees_at : ℕ → Option Expr) where
       go None e = (st.0, zero-le, st.1)
       go (Some x) e = h x e
 
-  pub follow_fits : {A : Type 0} (n : ℕ) → Sim n → (r : ℕ) (c : State) (Q : A → W → State → Type 0) (F : W → State → Type 0) (p : Rule A) → Follows r c Q F p → Fits 0 c Q F (at_depth prog n p)
-  follow_fits n sim r c Q F (Ret a w) (j, x) = (j, zero-le, x)
-  follow_fits n sim r c Q F (Fail w) (j, x) = (j, zero-le, x)
-  follow_fits n sim r c Q F (Stop e w) (j, x) = (j, zero-le, x)
-  follow_fits n sim r c Q F (Ask q w k f) x =
+  pub follow_fits : {A : Type 0} (n : ℕ) → Sim n → (r b : ℕ) (c : State) (Q : A → W → State → Type 0) (F : W → State → Type 0) (p : Rule A) → Follows r b c Q F p → Fits 0 c Q F (at_depth prog n p)
+  follow_fits n sim r b c Q F (Ret a w) (j, le, x) = (j, zero-le, x)
+  follow_fits n sim r b c Q F (Fail w) (j, le, x) = (j, zero-le, x)
+  follow_fits n sim r b c Q F (Stop e w) (j, le, x) = (j, zero-le, x)
+  follow_fits n sim r b c Q F (Ask q w k f) x =
       fits_after x.0 0 0 c (done q x.1) (failed q x.1) Q F (meaning prog n q w) (λ a u. at_depth prog n (k a u)) (λ u. at_depth prog n (f u)) zero-le
       (subst (λ s. Fits 0 s (done q x.1) (failed q x.1) (meaning prog n q w)) (sym x.3) (sim q x.1 w x.2 x.4))
-      (λ a u d h. follow_fits n sim x.5 d Q F (k a u) (x.8 a u d h)) (λ u d h. follow_fits n sim x.5 d Q F (f u) (x.9 u d h))
-  follow_fits n sim r c Q F (Seek g w k) x =
-      seek_fits n c Q F g w k (λ e h. let y = x.0 (suc n) e h in fits_from y.0 0 0 c Q F (at_depth prog n (k e)) zero-le (follow_fits n sim y.1 (steps img y.0 c) Q F (k e) y.3)) x.2
+      (λ a u d h. follow_fits n sim x.5 x.8 d Q F (k a u) (x.10 a u d h)) (λ u d h. follow_fits n sim x.5 x.8 d Q F (f u) (x.11 u d h))
+  follow_fits n sim r b c Q F (Seek g w k) x =
+      seek_fits n c Q F g w k (λ e h. let y = x.1 (suc n) e h in fits_from y.0 0 0 c Q F (at_depth prog n (k e)) zero-le (follow_fits n sim y.1 1 (steps img y.0 c) Q F (k e) y.3)) x.3
 
   start_prints : (q : Query) (t : Task q) (w : W) (w' : MW) → printed_of w' ≡ printed_of w → Still (start q t w') w
   start_prints (QVal e) t w w' h = h
@@ -220,7 +233,7 @@ module _ (prog : Program) (img : Module) (trees_at : ℕ → Option Expr) where
   pub sim_all : Local → (n : ℕ) → Sim n
   unfolding meaning
   sim_all loc zero q t w w' wr = (0, zero-le, start_prints q t w w' (ap (λ p. p.printed) (sym wr.io)))
-  sim_all loc (suc n) q t w w' wr = follow_fits n (sim_all loc n) (rank q) (start q t w') (done q t) (failed q t) (rule prog q w) (loc q t w w' wr)
+  sim_all loc (suc n) q t w w' wr = follow_fits n (sim_all loc n) (rank q) (8 * own q w + extra q) (start q t w') (done q t) (failed q t) (rule prog q w) (loc q t w w' wr)
 
   goes_from : {A : Type 0} (i m l : ℕ) (c b : State) (Q : A → W → State → Type 0) (F : W → State → Type 0) (r : ℕ → Res A) → l ≤ i + m → steps img i c ≡ b → Goes m b Q F r → Goes l c Q F r
   goes_from i m l c b Q F r le e (n, inl s) = (n, inl s)
@@ -281,20 +294,20 @@ module _ (prog : Program) (img : Module) (trees_at : ℕ → Option Expr) where
     by_step l j r r' lv (inl le) = (pred l, omega arith, ((λ q h. lv.1 q), (λ q t w w' wr. lower (pred l) (start q t w') (done q t) (failed q t) (λ n. meaning prog n q w) (lv.1 q t w w' wr))))
     by_step l j r r' lv (inr le) = (l, omega arith, ((λ q h. lv.0 q (omega arith)), lv.1))
 
-    asked_goes : {A : Type 0} (m l j : ℕ) (c : State) (q : Query) (t : Task q) (w : W) (w' : MW) (Q : A → W → State → Type 0) (F : W → State → Type 0) (rk : ℕ) (k : Ans q → W → Rule A) (f : W → Rule A) → l ≤ j + m → steps img j c ≡ start q t w' → WR trees_at w w'
+    asked_goes : {A : Type 0} (m l j : ℕ) (c : State) (q : Query) (t : Task q) (w : W) (w' : MW) (Q : A → W → State → Type 0) (F : W → State → Type 0) (rk b : ℕ) (k : Ans q → W → Rule A) (f : W → Rule A) → l ≤ j + m → steps img j c ≡ start q t w' → WR trees_at w w'
         → ((a : Ans q) (u : W) → Before w u → Goes_on u (k a u)) × ((u : W) → Before w u → Goes_on u (f u))
-        → ((a : Ans q) (u : W) (d : State) → done q t a u d → Follows rk d Q F (k a u)) → ((u : W) (d : State) → failed q t u d → Follows rk d Q F (f u))
+        → ((a : Ans q) (u : W) (d : State) → done q t a u d → Follows rk b d Q F (k a u)) → ((u : W) (d : State) → failed q t u d → Follows rk b d Q F (f u))
         → ((a : Ans q) (u : W) (d : State) → Before w u → done q t a u d → Goes m d Q F (λ n. at_depth prog n (k a u)))
         → ((u : W) (d : State) → Before w u → failed q t u d → Goes m d Q F (λ n. at_depth prog n (f u)))
         → Goes m (start q t w') (done q t) (failed q t) (λ n. meaning prog n q w) → Goes l c Q F (λ n. at_depth prog n (Ask q w k f))
-    asked_goes m l j c q t w w' Q F rk k f lj at wr g fk ff hk hf (n, inl s) =
+    asked_goes m l j c q t w w' Q F rk b k f lj at wr g fk ff hk hf (n, inl s) =
         ask_answered m l c (start q t w') q t w Q F k f j lj at (before_refl w, g.0, g.1) hk hf n (meaning prog n q w) refl s (later prog on n q w) (sim_all loc n q t w w' wr)
-    asked_goes m l j c q t w w' Q F rk k f lj at wr g fk ff hk hf (n, inr h) = (
+    asked_goes m l j c q t w w' Q F rk b k f lj at wr g fk ff hk hf (n, inr h) = (
       n,
       inr (λ d. fits_after j m l c (done q t) (failed q t) Q F (meaning prog (d + n) q w) (λ a u. at_depth prog (d + n) (k a u)) (λ u. at_depth prog (d + n) (f u)) lj
           (subst (λ s. Fits m s (done q t) (failed q t) (meaning prog (d + n) q w)) (sym at) (h d))
-          (λ a u s x. follow_fits (d + n) (sim_all loc (d + n)) rk s Q F (k a u) (fk a u s x))
-          (λ u s x. follow_fits (d + n) (sim_all loc (d + n)) rk s Q F (f u) (ff u s x))),
+          (λ a u s x. follow_fits (d + n) (sim_all loc (d + n)) rk b s Q F (k a u) (fk a u s x))
+          (λ u s x. follow_fits (d + n) (sim_all loc (d + n)) rk b s Q F (f u) (ff u s x))),
     )
 
     seek_stays : (g : ℕ → Option Event) (e : Event) → ((n : ℕ) (e : Event) → g n ≡ Some e → g (suc n) ≡ Some e) → (n d : ℕ) → g n ≡ Some e → g (d + n) ≡ Some e
@@ -318,33 +331,33 @@ module _ (prog : Program) (img : Module) (trees_at : ℕ → Option Expr) where
         go None e = (i, le, st)
         go (Some x) e = h x e
 
-    seek_goes : {A : Type 0} (l r : ℕ) (c : State) (Q : A → W → State → Type 0) (F : W → State → Type 0) (g : ℕ → Option Event) (w : W) (k : Event → Rule A) → Goes_on w (Seek g w k) → (x : Follows r c Q F (Seek g w k))
-        → ((e : Event) (d : State) (j r' : ℕ) → (1 ≤ j) ⊎ (r' ≤ r) → Follows r' d Q F (k e) → (m : ℕ) × (l ≤ j + m) × Goes m d Q F (λ n. at_depth prog n (k e)))
-        → ((n : ℕ) × (e : Event) × (g n ≡ Some e)) ⊎ ((i : ℕ) × (l ≤ i) × Still (steps img i c) w × ((n : ℕ) (e : Event) (h : g n ≡ Some e) → l ≤ (x.0 n e h).0)) → Goes l c Q F (λ n. at_depth prog n (Seek g w k))
-    seek_goes l r c Q F g w k on' x hk (inl (n, e, h)) =
-        let y = x.0 n e h in
+    seek_goes : {A : Type 0} (l r b : ℕ) (c : State) (Q : A → W → State → Type 0) (F : W → State → Type 0) (g : ℕ → Option Event) (w : W) (k : Event → Rule A) → Goes_on w (Seek g w k) → (x : Follows r b c Q F (Seek g w k))
+        → ((e : Event) (d : State) (j r' : ℕ) → (1 ≤ j) ⊎ (r' ≤ r) → Follows r' 1 d Q F (k e) → (m : ℕ) × (l ≤ j + m) × Goes m d Q F (λ n. at_depth prog n (k e)))
+        → ((n : ℕ) × (e : Event) × (g n ≡ Some e)) ⊎ ((i : ℕ) × (l ≤ i) × Still (steps img i c) w × ((n : ℕ) (e : Event) (h : g n ≡ Some e) → l ≤ (x.1 n e h).0)) → Goes l c Q F (λ n. at_depth prog n (Seek g w k))
+    seek_goes l r b c Q F g w k on' x hk (inl (n, e, h)) =
+        let y = x.1 n e h in
         let z = hk e (steps img y.0 c) y.0 y.1 y.2 y.3 in
         seek_found l c Q F g w k n e h on' (goes_from y.0 z.0 l c (steps img y.0 c) Q F (λ n. at_depth prog n (k e)) z.1 refl z.2)
-    seek_goes l r c Q F g w k on' x hk (inr (i, li, st, far)) = (
+    seek_goes l r b c Q F g w k on' x hk (inr (i, li, st, far)) = (
       0,
       inr (λ d. seek_long l (d + 0) c Q F g w k
-          (λ e h. let y = x.0 (suc (d + 0)) e h in let le = far (suc (d + 0)) e h in
-          fits_from y.0 0 l c Q F (at_depth prog (d + 0) (k e)) (omega arith) (follow_fits (d + 0) (sim_all loc (d + 0)) y.1 (steps img y.0 c) Q F (k e) y.3)) i li st),
+          (λ e h. let y = x.1 (suc (d + 0)) e h in let le = far (suc (d + 0)) e h in
+          fits_from y.0 0 l c Q F (at_depth prog (d + 0) (k e)) (omega arith) (follow_fits (d + 0) (sim_all loc (d + 0)) y.1 1 (steps img y.0 c) Q F (k e) y.3)) i li st),
     )
 
-    pub follow_goes : {A : Type 0} (l r : ℕ) → Level l r → (v : W) (c : State) (Q : A → W → State → Type 0) (F : W → State → Type 0) (p : Rule A) → Goes_on v p → Follows r c Q F p → Goes l c Q F (λ n. at_depth prog n p)
+    pub follow_goes : {A : Type 0} (l r b : ℕ) → Level l r → (v : W) (c : State) (Q : A → W → State → Type 0) (F : W → State → Type 0) (p : Rule A) → Goes_on v p → Follows r b c Q F p → Goes l c Q F (λ n. at_depth prog n p)
     unfolding Asked
-    follow_goes l r lv v c Q F (Ret a w) g x = (0, inl tt)
-    follow_goes l r lv v c Q F (Fail w) g x = (0, inl tt)
-    follow_goes l r lv v c Q F (Stop e w) g x = (0, inl tt)
-    follow_goes l r lv v c Q F (Ask q w k f) g x =
+    follow_goes l r b lv v c Q F (Ret a w) g x = (0, inl tt)
+    follow_goes l r b lv v c Q F (Fail w) g x = (0, inl tt)
+    follow_goes l r b lv v c Q F (Stop e w) g x = (0, inl tt)
+    follow_goes l r b lv v c Q F (Ask q w k f) g x =
         let a = by_step l x.0 r x.5 lv x.7 in
-        asked_goes a.0 l x.0 c q x.1 w x.2 Q F x.5 k f a.1 x.3 x.4 (g.1, g.2) x.8 x.9
-        (λ b u d bf h. follow_goes a.0 x.5 a.2 u d Q F (k b u) (g.1 b u bf) (x.8 b u d h))
-        (λ u d bf h. follow_goes a.0 x.5 a.2 u d Q F (f u) (g.2 u bf) (x.9 u d h))
+        asked_goes a.0 l x.0 c q x.1 w x.2 Q F x.5 x.8 k f a.1 x.3 x.4 (g.1, g.2) x.10 x.11
+        (λ v u d bf h. follow_goes a.0 x.5 x.8 a.2 u d Q F (k v u) (g.1 v u bf) (x.10 v u d h))
+        (λ u d bf h. follow_goes a.0 x.5 x.8 a.2 u d Q F (f u) (g.2 u bf) (x.11 u d h))
         (a.2.0 q x.6 x.1 w x.2 x.4)
-    follow_goes l r lv v c Q F (Seek g' w k) g x =
-        seek_goes l r c Q F g' w k (before_refl w, g.1, g.2) x (λ e d j r' st y. let a = by_step l j r r' lv st in (a.0, a.1, follow_goes a.0 r' a.2 w d Q F (k e) (g.2 e) y)) (x.1 l)
+    follow_goes l r b lv v c Q F (Seek g' w k) g x =
+        seek_goes l r b c Q F g' w k (before_refl w, g.1, g.2) x (λ e d j r' st y. let a = by_step l j r r' lv st in (a.0, a.1, follow_goes a.0 r' 1 a.2 w d Q F (k e) (g.2 e) y)) (x.2 l)
 
     -- a rule is the meaning one level up
     shifted : (l : ℕ) (q : Query) (c : State) (Q : Ans q → W → State → Type 0) (F : W → State → Type 0) (w : W) → Goes l c Q F (λ n. at_depth prog n (rule prog q w)) → Goes l c Q F (λ n. meaning prog n q w)
@@ -356,10 +369,10 @@ module _ (prog : Program) (img : Module) (trees_at : ℕ → Option Expr) where
     goes_rank : (l : ℕ) → ((q : Query) → Prog' (pred l) q) → (r : ℕ) (q : Query) → rank q ≤ r → Prog' l q
     goes_rank l h1 zero q le t w w' wr =
         shifted l q (start q t w') (done q t) (failed q t) w
-        (follow_goes l (rank q) ((λ q' lt. absurd (omega arith)), h1) w (start q t w') (done q t) (failed q t) (rule prog q w) (on q w) (loc q t w w' wr))
+        (follow_goes l (rank q) (8 * own q w + extra q) ((λ q' lt. absurd (omega arith)), h1) w (start q t w') (done q t) (failed q t) (rule prog q w) (on q w) (loc q t w w' wr))
     goes_rank l h1 (suc r) q le t w w' wr =
         shifted l q (start q t w') (done q t) (failed q t) w
-        (follow_goes l (rank q) ((λ q' lt. goes_rank l h1 r q' (omega arith)), h1) w (start q t w') (done q t) (failed q t) (rule prog q w) (on q w) (loc q t w w' wr))
+        (follow_goes l (rank q) (8 * own q w + extra q) ((λ q' lt. goes_rank l h1 r q' (omega arith)), h1) w (start q t w') (done q t) (failed q t) (rule prog q w) (on q w) (loc q t w w' wr))
 
     pub goes_all : (l : ℕ) (q : Query) → Prog' l q
     goes_all zero q t w w' wr = (0, inr (λ d. sim_all loc (d + 0) q t w w' wr))

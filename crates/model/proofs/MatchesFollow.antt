@@ -1,5 +1,5 @@
 -- The machine follows matches: the steps of pattern code come to what the search of its pattern comes to.
-use Rattle.std.proofs.Common.{⊎_elim, ◌≡◌, ℕ, suc, ◌+◌, ◌≤◌, [], ◌∷◌, ◌++◌, Option, Some, None, ◌⊎◌, inl, inr, refl, sym, ap, ◌∙◌, subst, arith, le_refl}
+use Rattle.std.proofs.Common.{⊎_elim, ◌≡◌, ℕ, suc, ◌+◌, ◌≤◌, [], ◌∷◌, ◌++◌, Option, Some, None, ◌⊎◌, inl, inr, refl, sym, ap, ◌∙◌, subst, arith, zero-le, le_refl}
 use Rattle.std.proofs.lemmas.Bool.{cases_lt}
 use Rattle.model.specs.declared.instr.Instr.TheVariants as op
 use Rattle.model.specs.Trees.{Bytes, Expr}
@@ -12,16 +12,16 @@ use Rattle.model.specs.Steps as S
 use Rattle.model.specs.Stands.{Alike, AlikeAnswer, AlikeEvent}
 use Rattle.model.specs.Stands as St
 use Rattle.model.specs.Meaning.{W, QVal, QMatch, Span, Event, told_at, again, answering, match_rule, rule}
-use Rattle.model.specs.Machine.{PCode, MW, Module, OV, InEval, found_as, on_event, supplied, to_stmt, State, Run, InMatch, steps}
+use Rattle.model.specs.Machine.{PCode, MW, Module, OV, InEval, on_event, supplied, to_stmt, State, InMatch, steps}
 use Rattle.model.specs.Placed.{Is, CodeV, Placed}
 use Rattle.model.specs.Alike.{WR}
 use Rattle.model.proofs.CodeSearch.{IsOver, later}
 use Rattle.model.proofs.CodeEvents.{steps_of_scan, scan_of_steps}
 use Rattle.model.proofs.MachineMatches.{steps_more, one_event, asks_more, more_at, busy, Came, come}
 use Rattle.model.proofs.MeaningPrints.{told_some}
-use Rattle.model.proofs.Following.{MatchHere, failed_at, Still, rank, Follows}
+use Rattle.model.proofs.Following.{MatchHere, done, failed, Still, rank, Follows}
 use Rattle.model.proofs.OperationsAlike.{ConvR, got, bad, answer_same, assign_same, assign_all_same, told_same, Any}
-use Rattle.model.proofs.Asking.{one, Fw, from, answers, fails, faulted, op_follows, ask_val}
+use Rattle.model.proofs.Asking.{one, Fw, from, same, answers, fails, faulted, op_follows, ask_val}
 
 module _ (prog : Program) (img : Module) (trees_at : ℕ → Option Expr) (placed : Placed prog img trees_at) where
   abbrev R : W → MW → Type 0
@@ -57,16 +57,19 @@ module _ (prog : Program) (img : Module) (trees_at : ℕ → Option Expr) (place
 
   module _ (s : Bytes) (p : Pt.Pat) (left : ℕ) (u : Script) (t : MatchHere trees_at s p left u) where
     abbrev Qm : Span → W → State → Type 0
-    Qm r w c = (w' : MW) × R w w' × (c ≡ Run t.g.place (found_as t.g.keep t.g.subject r.start r.end t.g.ops) t.g.hs t.fs w')
+    Qm r w c = done prog img trees_at (QMatch s p left u) t r w c
 
     abbrev Fm : W → State → Type 0
-    Fm w c = failed_at prog img trees_at t.g.hs t.g.ops t.fs w c
+    Fm w c = failed prog img trees_at (QMatch s p left u) t w c
 
     abbrev X : ℕ → S.State
     X n = S.match_steps t.g.subject t.g.code left 0 t.answers n
 
+    pub from_there : (j : ℕ) → X (t.so_far + j) ≡ S.steps t.g.subject t.g.code j t.st
+    from_there j = steps_more t.g.subject t.g.code t.so_far j (S.Starting 0 left t.answers) ∙ ap (S.steps t.g.subject t.g.code j) t.at
+
     -- the first event, and the match with one more answer
-    more_task : {y : Answer Pt.Pat} {z : Answer PCode} (i : ℕ) (v : Pt.Ask ℕ) → AlikeAnswer trees_at y z → S.event_of (S.steps t.g.subject t.g.code i t.st) ≡ Running → S.event_of (S.steps t.g.subject t.g.code (suc i) t.st) ≡ Asks v → MatchHere trees_at s p left (u ++ y ∷ [])
+    unfoldable pub more_task : {y : Answer Pt.Pat} {z : Answer PCode} (i : ℕ) (v : Pt.Ask ℕ) → AlikeAnswer trees_at y z → S.event_of (S.steps t.g.subject t.g.code i t.st) ≡ Running → S.event_of (S.steps t.g.subject t.g.code (suc i) t.st) ≡ Asks v → MatchHere trees_at s p left (u ++ y ∷ [])
     more_task {z = z} i v al run is = record {
       g = t.g;
       fs = t.fs;
@@ -76,32 +79,30 @@ module _ (prog : Program) (img : Module) (trees_at : ℕ → Option Expr) (place
       answers = t.answers ++ z ∷ [];
       alike = alike_end t.alike al;
       st = S.with_more (z ∷ []) (S.steps t.g.subject t.g.code (suc i) t.st);
-      so_far = suc (t.so_far + i);
-      at = more_at t.g.subject t.g.code left t.answers z (t.so_far + i) (ap S.event_of (shifted i) ∙ run) ∙ ap (S.with_more (z ∷ [])) (ap X (next_suc t.so_far i) ∙ shifted (suc i));
+      so_far = t.so_far + suc i;
+      at = subst (λ k. S.match_steps t.g.subject t.g.code left 0 (t.answers ++ z ∷ []) k ≡ S.with_more (z ∷ []) (S.steps t.g.subject t.g.code (suc i) t.st)) (next_suc t.so_far i)
+          (more_at t.g.subject t.g.code left t.answers z (t.so_far + i) (ap S.event_of (from_there i) ∙ run) ∙ ap (S.with_more (z ∷ [])) (ap X (next_suc t.so_far i) ∙ from_there (suc i)));
       runs = asks_more t.g.subject t.g.code z (S.steps t.g.subject t.g.code (suc i) t.st) v is;
     }
-      where
-        shifted : (j : ℕ) → X (t.so_far + j) ≡ S.steps t.g.subject t.g.code j t.st
-        shifted j = steps_more t.g.subject t.g.code t.so_far j (S.Starting 0 left t.answers) ∙ ap (S.steps t.g.subject t.g.code j) t.at
 
-    again_follows : {y : Answer Pt.Pat} {z : Answer PCode} {n : ℕ} {w : W} {m : MW} (i : ℕ) (v : Pt.Ask ℕ) → AlikeAnswer trees_at y z → S.event_of (S.steps t.g.subject t.g.code i t.st) ≡ Running → S.event_of (S.steps t.g.subject t.g.code (suc i) t.st) ≡ Asks v → 1 ≤ n → R w m
-        → Fw prog img trees_at placed n (InMatch t.g (S.with_more (z ∷ []) (S.steps t.g.subject t.g.code (suc i) t.st)) t.fs m) Qm Fm (again s p left u y w)
+    again_follows : {y : Answer Pt.Pat} {z : Answer PCode} {n b : ℕ} {w : W} {m : MW} (i : ℕ) (v : Pt.Ask ℕ) → AlikeAnswer trees_at y z → S.event_of (S.steps t.g.subject t.g.code i t.st) ≡ Running → S.event_of (S.steps t.g.subject t.g.code (suc i) t.st) ≡ Asks v → 1 ≤ n → R w m
+        → Fw prog img trees_at placed n b (InMatch t.g (S.with_more (z ∷ []) (S.steps t.g.subject t.g.code (suc i) t.st)) t.fs m) Qm Fm (again s p left u y w)
     unfolding more_task
-    again_follows {n = n} {m = m} i v al run is le wr = record {
-      by = (0, more_task i v al run is, m, refl, wr, n, le, inr (le_refl n), (λ r w1 d h. (0, h)), (λ w1 d h. (0, h)));
+    again_follows {n = n} {b} {m = m} i v al run is le wr = record {
+      by = (0, more_task i v al run is, m, refl, wr, n, le, inr (le_refl n), b, omega arith, (λ r w1 d h. (0, zero-le, h)), (λ w1 d h. (0, zero-le, h)));
     }
 
-    answer_follows : {c : Conv (Answer Pt.Pat)} {c' : Conv (Answer PCode)} {n : ℕ} {w : W} {m : MW} (i : ℕ) (v : Pt.Ask ℕ) → ConvR (AlikeAnswer trees_at) c c' → S.event_of (S.steps t.g.subject t.g.code i t.st) ≡ Running → S.event_of (S.steps t.g.subject t.g.code (suc i) t.st) ≡ Asks v → 1 ≤ n → R w m
-        → Fw prog img trees_at placed n (supplied c' t.g (S.steps t.g.subject t.g.code (suc i) t.st) t.fs m) Qm Fm (answering s p left u c w)
+    answer_follows : {c : Conv (Answer Pt.Pat)} {c' : Conv (Answer PCode)} {n b : ℕ} {w : W} {m : MW} (i : ℕ) (v : Pt.Ask ℕ) → ConvR (AlikeAnswer trees_at) c c' → S.event_of (S.steps t.g.subject t.g.code i t.st) ≡ Running → S.event_of (S.steps t.g.subject t.g.code (suc i) t.st) ≡ Asks v → 1 ≤ n → R w m
+        → Fw prog img trees_at placed n b (supplied c' t.g (S.steps t.g.subject t.g.code (suc i) t.st) t.fs m) Qm Fm (answering s p left u c w)
     answer_follows i v (got al) run is le wr = again_follows i v al run is le wr
     answer_follows i v (bad e) run is le wr = faulted prog img trees_at placed e wr
 
     -- what follows each event
     event_follows : {w : W} {m : MW} (i : ℕ) (x : Event) (y : Pt.Event ℕ) → AlikeEvent trees_at x y → S.event_of (S.steps t.g.subject t.g.code i t.st) ≡ Running → S.event_of (S.steps t.g.subject t.g.code (suc i) t.st) ≡ y → R w m
-        → (n : ℕ) × Fw prog img trees_at placed n (on_event img y t.g (S.steps t.g.subject t.g.code (suc i) t.st) t.fs m) Qm Fm (match_rule s p left u w x)
-    event_follows {m = m} i x y St.fail run is wr = (0, fails prog img trees_at placed 0 (m, wr, refl))
+        → (n : ℕ) × Fw prog img trees_at placed n 1 (on_event img y t.g (S.steps t.g.subject t.g.code (suc i) t.st) t.fs m) Qm Fm (match_rule s p left u w x)
+    event_follows {m = m} i x y St.fail run is wr = (0, fails prog img trees_at placed 0 (omega arith) (m, wr, refl))
     event_follows i x y (St.match {a = a}) run is wr =
-        (0, op_follows prog img trees_at placed Any t.g.hs t.g.ops t.fs _ _ (assign_all_same trees_at a wr) (λ x y w1 m1 hx r1. answers prog img trees_at placed 0 (m1, r1, refl)) (λ w1 m1 r1. (m1, r1, refl)))
+        (0, op_follows prog img trees_at placed Any t.g.hs t.g.ops t.fs _ _ (assign_all_same trees_at a wr) (λ x y w1 m1 hx r1. answers prog img trees_at placed 0 (omega arith) (m1, r1, refl)) (λ w1 m1 r1. (m1, r1, refl)))
     event_follows i x y (St.ask (St.says {x = n} {v = v})) run is wr =
         (1, op_follows prog img trees_at placed Any t.g.hs t.g.ops t.fs _ _ (assign_same trees_at n (told_same trees_at v) wr) (λ a b w1 m1 ha r1. again_follows i (SayThat n v) St.said run is (le_refl 1) r1) (λ w1 m1 r1. (m1, r1, refl)))
     event_follows {w} {m} i x y (St.ask (St.asked {e = e} {k = l} {v = k} at)) run is wr = go (placed.exprs l e at)
@@ -112,12 +113,12 @@ module _ (prog : Program) (img : Module) (trees_at : ℕ → Option Expr) (place
         st : S.State
         st = S.steps t.g.subject t.g.code (suc i) t.st
 
-        go : (p' q' r' : ℕ) × (img.expr l ≡ Some p') × CodeV prog img trees_at e p' q' × Is prog img trees_at q' op.Ret r' → (n : ℕ) × Fw prog img trees_at placed n (on_event img (Asks (AskFor l k)) t.g st t.fs m) Qm Fm (match_rule s p left u w (Asks (AskFor e k)))
+        go : (p' q' r' : ℕ) × (img.expr l ≡ Some p') × CodeV prog img trees_at e p' q' × Is prog img trees_at q' op.Ret r' → (n : ℕ) × Fw prog img trees_at placed n 1 (on_event img (Asks (AskFor l k)) t.g st t.fs m) Qm Fm (match_rule s p left u w (Asks (AskFor e k)))
         go (p', q', r', ex, code, ret) = (
           n,
-          from prog img trees_at placed 0 (ap (λ o. to_stmt img o (InEval t.g k st ∷ t.fs) m) ex)
-              (ask_val prog img trees_at placed (record { p = p'; q = q'; ops = []; hs = []; fs = InEval t.g k st ∷ t.fs; fit = tt }) 0 code refl wr (le_refl n)
-              (λ a w1 x m1 ha r1. from prog img trees_at placed 1 (one prog img trees_at placed q' r' op.Ret (OV x ∷ []) [] (InEval t.g k st ∷ t.fs) m1 ret) (answer_follows i (AskFor l k) (answer_same trees_at k ha) run is (omega arith) r1))
+          same prog img trees_at placed (ap (λ o. to_stmt img o (InEval t.g k st ∷ t.fs) m) ex)
+              (ask_val prog img trees_at placed (record { p = p'; q = q'; ops = []; hs = []; fs = InEval t.g k st ∷ t.fs; fit = tt }) code wr (le_refl n)
+              (λ a w1 x m1 ha r1. from prog img trees_at placed 1 (omega arith) (one prog img trees_at placed q' r' op.Ret (OV x ∷ []) [] (InEval t.g k st ∷ t.fs) m1 ret) (answer_follows i (AskFor l k) (answer_same trees_at k ha) run is (omega arith) r1))
               (λ w1 m1 r1. again_follows i (AskFor l k) St.failed run is (omega arith) r1)),
         )
 
@@ -127,9 +128,6 @@ module _ (prog : Program) (img : Module) (trees_at : ℕ → Option Expr) (place
 
     scan_follows : (k : ℕ) → (S.event_of (X k) ≡ Running → ⊥) → (n : ℕ) × AlikeEvent trees_at (scan s n p left 0 u) (S.event_of (X k))
     scan_follows k = subst (λ z. (S.event_of (X k) ≡ Running → ⊥) → (n : ℕ) × AlikeEvent trees_at (scan z n p left 0 u) (S.event_of (X k))) t.subject (λ h. scan_of_steps t.g.subject trees_at p t.g.code t.stands k left 0 u t.answers t.alike h)
-
-    from_there : (j : ℕ) → X (t.so_far + j) ≡ S.steps t.g.subject t.g.code j t.st
-    from_there j = steps_more t.g.subject t.g.code t.so_far j (S.Starting 0 left t.answers) ∙ ap (S.steps t.g.subject t.g.code j) t.at
 
     abbrev Is_over : ℕ → Type 0
     Is_over j = IsOver t.g.subject t.g.code (S.event_of (S.steps t.g.subject t.g.code j t.st))
@@ -148,12 +146,12 @@ module _ (prog : Program) (img : Module) (trees_at : ℕ → Option Expr) (place
     abbrev G : ℕ → Option Event
     G n = told_at (scan s n p left 0 u)
 
-    found : (w : W) (m : MW) → R w m → (n : ℕ) (e : Event) → G n ≡ Some e → (j r' : ℕ) × ((1 ≤ j) ⊎ (r' ≤ 0)) × Follows prog img trees_at r' (steps img j (InMatch t.g t.st t.fs m)) Qm Fm (match_rule s p left u w e)
+    found : (w : W) (m : MW) → R w m → (n : ℕ) (e : Event) → G n ≡ Some e → (j r' : ℕ) × ((1 ≤ j) ⊎ (r' ≤ 0)) × Follows prog img trees_at r' 1 (steps img j (InMatch t.g t.st t.fs m)) Qm Fm (match_rule s p left u w e)
     found w m wr n e h =
         let c = came_at m n e h in
         let st : S.State = S.steps t.g.subject t.g.code (suc c.0.i) t.st in
         let f = event_follows c.0.i e (S.event_of st) c.1 c.0.last refl wr in
-        (suc c.0.i, f.0, inl (omega arith), (from prog img trees_at placed 0 c.0.at f.1).by)
+        (suc c.0.i, f.0, inl (omega arith), (same prog img trees_at placed c.0.at f.1).by)
 
     late : (w : W) (m : MW) (wr : R w m) (l : ℕ) → S.event_of (S.steps t.g.subject t.g.code l t.st) ≡ Running → (n : ℕ) (e : Event) (h : G n ≡ Some e) → l ≤ (found w m wr n e h).0
     unfolding found
@@ -178,5 +176,5 @@ module _ (prog : Program) (img : Module) (trees_at : ℕ → Option Expr) (place
         go (Asks v) q = inl (is_over (Asks v) tt q)
         go (Matched b e a) q = inl (is_over (Matched b e a) tt q)
 
-    pub match_local : (w : W) (m : MW) → R w m → Follows prog img trees_at 0 (InMatch t.g t.st t.fs m) Qm Fm (rule prog (QMatch s p left u) w)
-    match_local w m wr = (found w m wr, known w m wr, (0, ap (λ p. p.printed) (sym wr.io)))
+    pub match_local : (w : W) (m : MW) → R w m → Follows prog img trees_at 0 0 (InMatch t.g t.st t.fs m) Qm Fm (rule prog (QMatch s p left u) w)
+    match_local w m wr = (zero-le, found w m wr, known w m wr, (0, ap (λ p. p.printed) (sym wr.io)))

@@ -13,7 +13,7 @@ use Rattle.model.specs.Steps as S
 use Rattle.model.specs.Stands.{Alike, AlikeAnswer, AlikeEvent}
 use Rattle.model.specs.Stands as St
 use Rattle.model.specs.Meaning.{Val, W, Res, Done, Fails, Ends, Open, QVal, QMatch, Span, Event, told_at, sought, after, again, answering, match_rule, doing, meaning}
-use Rattle.model.specs.Machine.{PCode, codes_of, MW, Module, OV, InEval, found_as, on_event, supplied, to_stmt, after_op, State, Run, InMatch, Over, steps}
+use Rattle.model.specs.Machine.{PCode, codes_of, MW, Module, OV, InEval, on_event, supplied, to_stmt, after_op, State, Run, InMatch, Over, steps}
 use Rattle.model.specs.Placed.{Is, CodeV, Placed}
 use Rattle.model.specs.Alike.{WR}
 use Rattle.model.specs.RulesUsed.{scan_count, evaluated_count, said_count, answer_count, match_count, event_count, after_count, count}
@@ -21,23 +21,22 @@ use Rattle.model.proofs.CodeSearch.{IsOver, later}
 use Rattle.model.proofs.MeaningGrows.{at_depth}
 use Rattle.model.proofs.JumpsEnd.{below_or}
 use Rattle.model.proofs.PatternSteps.{pattern_steps_on_law}
-use Rattle.model.proofs.MachineMatches.{steps_more, one_event, asks_more, more_at, Came, come}
-use Rattle.model.proofs.MatchesFollow.{alike_end, alike_over, next_suc}
-use Rattle.model.proofs.Following.{MatchHere, failed_at, done, failed, Here}
+use Rattle.model.proofs.MachineMatches.{one_event, Came, come}
+use Rattle.model.proofs.MatchesFollow.{more_task, alike_over}
+use Rattle.model.proofs.Following.{MatchHere, done, failed, Here}
 use Rattle.model.proofs.OperationsAlike.{ConvR, got, bad, answer_same, assign_same, assign_all_same, told_same, Any, OpR, gives, refuses, faults, keys_same}
-use Rattle.model.proofs.Asking.{one}
+use Rattle.model.proofs.Asking.{one, Fw, answers, op_follows}
 use Rattle.model.proofs.Pacing.{SimPaced, Reaches, reaches_from, follow_reaches, count_at}
-use Rattle.model.proofs.PacedAsking.{Pw, answers, op_follows}
 
 module _ (prog : Program) (img : Module) (trees_at : ℕ → Option Expr) (placed : Placed prog img trees_at) (n : ℕ) (sim : SimPaced prog img trees_at n) (s : _) (p : Pt.Pat) (left : ℕ) (u : Script) (t : MatchHere trees_at s p left u) where
   abbrev R : W → MW → Type 0
   R = WR trees_at
 
   abbrev Qm : Span → W → State → Type 0
-  Qm r w c = (w' : MW) × R w w' × (c ≡ Run t.g.place (found_as t.g.keep t.g.subject r.start r.end t.g.ops) t.g.hs t.fs w')
+  Qm r w c = done prog img trees_at (QMatch s p left u) t r w c
 
   abbrev Fm : W → State → Type 0
-  Fm w c = failed_at prog img trees_at t.g.hs t.g.ops t.fs w c
+  Fm w c = failed prog img trees_at (QMatch s p left u) t w c
 
   abbrev X : ℕ → S.State
   X k = S.match_steps t.g.subject t.g.code left 0 t.answers k
@@ -47,26 +46,6 @@ module _ (prog : Program) (img : Module) (trees_at : ℕ → Option Expr) (place
 
   abbrev Rm : (i m : ℕ) → State → Res Span → Type 0
   Rm i m c r = Reaches prog img trees_at i m c Qm Fm r
-
-  -- the match with one more answer
-  more_task : {y : Answer Pt.Pat} {z : Answer PCode} (i : ℕ) (v : Pt.Ask ℕ) → AlikeAnswer trees_at y z → S.event_of (at i) ≡ Running → S.event_of (at (suc i)) ≡ Asks v → MatchHere trees_at s p left (u ++ y ∷ [])
-  more_task {z = z} i v al run is = record {
-    g = t.g;
-    fs = t.fs;
-    fit = t.fit;
-    subject = t.subject;
-    stands = t.stands;
-    answers = t.answers ++ z ∷ [];
-    alike = alike_end prog img trees_at placed t.alike al;
-    st = S.with_more (z ∷ []) (at (suc i));
-    so_far = t.so_far + suc i;
-    at = subst (λ k. S.match_steps t.g.subject t.g.code left 0 (t.answers ++ z ∷ []) k ≡ S.with_more (z ∷ []) (at (suc i))) (next_suc prog img trees_at placed t.so_far i)
-        (more_at t.g.subject t.g.code left t.answers z (t.so_far + i) (ap S.event_of (shifted i) ∙ run) ∙ ap (S.with_more (z ∷ [])) (ap X (next_suc prog img trees_at placed t.so_far i) ∙ shifted (suc i)));
-    runs = asks_more t.g.subject t.g.code z (at (suc i)) v is;
-  }
-    where
-      shifted : (j : ℕ) → X (t.so_far + j) ≡ at j
-      shifted j = steps_more t.g.subject t.g.code t.so_far j (S.Starting 0 left t.answers) ∙ ap (S.steps t.g.subject t.g.code j) t.at
 
   as_it_is : (i m m' : ℕ) (c : State) (r : Res Span) → m ≤ m' → Rm i m c r → Rm i m' c (after r (λ a w. Done a w) (λ w. Fails w))
   as_it_is i m m' c (Done a w) le (j, h, x) = (j, omega arith, x)
@@ -80,7 +59,7 @@ module _ (prog : Program) (img : Module) (trees_at : ℕ → Option Expr) (place
   again_paced {y} {z} {w} {m} i v al run is wr =
       let c : ℕ = count prog n (QMatch s p left (u ++ y ∷ [])) w in
       as_it_is (t.so_far + suc i) (8 * c + 0) (8 * count_at prog img trees_at n (again s p left u y w)) (InMatch t.g (S.with_more (z ∷ []) (at (suc i))) t.fs m) (meaning prog n (QMatch s p left (u ++ y ∷ [])) w) (omega arith)
-      (sim (QMatch s p left (u ++ y ∷ [])) (more_task i v al run is) w m wr)
+      (sim (QMatch s p left (u ++ y ∷ [])) (more_task prog img trees_at placed s p left u t i v al run is) w m wr)
 
   -- ---- what follows each event
 
@@ -141,11 +120,11 @@ module _ (prog : Program) (img : Module) (trees_at : ℕ → Option Expr) (place
       → Rm (t.so_far + suc i) (8 * (match_count (λ r v. meaning prog n r v) x C w + count_at prog img trees_at n (match_rule s p left u w x))) (on_event img y t.g (at (suc i)) t.fs m) (at_depth prog n (match_rule s p left u w x))
   event_paced {m = m} i x y St.fail run is le wr = (0, omega (arith, le), (m, wr, refl))
   event_paced {w} {m} i x y (St.match {b = b} {e = e} {a = a}) run is le wr =
-      let pw : Pw prog img trees_at placed 0 (on_event img (Matched b e a) t.g (at (suc i)) t.fs m) Qm Fm (match_rule s p left u w (Matched b e a)) =
+      let fw : Fw prog img trees_at placed 1 0 (on_event img (Matched b e a) t.g (at (suc i)) t.fs m) Qm Fm (match_rule s p left u w (Matched b e a)) =
       op_follows prog img trees_at placed Any t.g.hs t.g.ops t.fs _ _ (assign_all_same trees_at a wr) (λ x y w1 m1 hx r1. answers prog img trees_at placed 0 (omega arith) (m1, r1, refl)) (λ w1 m1 r1. (m1, r1, refl)) in
       let ca : ℕ = count_at prog img trees_at n (match_rule s p left u w (Matched b e a)) in
       reaches_from prog img trees_at 0 (t.so_far + suc i) 0 (0 + 8 * ca) (8 * (C + ca)) (on_event img (Matched b e a) t.g (at (suc i)) t.fs m) Qm Fm (at_depth prog n (match_rule s p left u w (Matched b e a))) (omega (arith, le))
-      (follow_reaches prog img trees_at n sim 0 (on_event img (Matched b e a) t.g (at (suc i)) t.fs m) Qm Fm (match_rule s p left u w (Matched b e a)) pw.by)
+      (follow_reaches prog img trees_at n sim 1 0 (omega arith) (on_event img (Matched b e a) t.g (at (suc i)) t.fs m) Qm Fm (match_rule s p left u w (Matched b e a)) fw.by)
   event_paced i x y (St.ask (St.says {x = o} {v = v})) run is le wr =
       said_paced i (SayThat o v) (assign_same trees_at o (told_same trees_at v) wr) run is le
   event_paced {w} {m} i x y (St.ask (St.asked {e = e} {k = l} {v = k} ex)) run is le wr = go (placed.exprs l e ex)

@@ -1,6 +1,6 @@
 -- Fetching from units and assigning to them.
-use Rattle.std.proofs.Common.{◌≡◌, ◌<◌, ◌≤◌, ℕ, List, [], ◌∷◌, length, pos, Bool, true, false, T, leb→le, le→leb, int_le, Option, Some, None, Result, nat_eq, bytes_eq, refl, sym, ap, ◌∙◌, subst, arith}
-use Rattle.std.specs.Prelude.{if◌then◌else◌}
+use Rattle.std.proofs.Common.{◌≡◌, ◌<◌, ◌≤◌, ℕ, List, [], ◌∷◌, length, pos, Bool, true, false, T, leb→le, le→leb, int_le, Option, Some, None, Result, nat_eq, bytes_eq, refl, sym, ap, ◌∙◌, subst, arith, Ok, Err, ◌⊎◌, inl, inr}
+use Rattle.std.specs.Prelude.{OnErr, OnOk, if◌then◌else◌}
 use Rattle.std.proofs.lemmas.Slice.Eq.{bytes_eq-Decides}
 use Rattle.model.specs.declared.run.ErrorCode.TheVariants as error
 use Rattle.model.specs.Trees.{Bytes}
@@ -12,12 +12,13 @@ use Rattle.model.specs.Values.{Str, set_var, keys_of}
 use Rattle.model.specs.Conversions.{Op, Gives, Refuses, Faults, to_text}
 use Rattle.model.specs.Operators.{as_read, take_record, fetch_var, fetch_op, assign_op, write_var, print_text}
 use Rattle.model.specs.Machine.{MVal, MW}
+use Rattle.model.specs.Pattern as p
 use Rattle.pattern_compiler.specs.View.{name_of}
 use Rattle.pattern_compiler.specs.declared.instr.Name.{Name}
 use Rattle.pattern_compiler.specs.declared.instr.Name.TheVariants as name
 use Rattle.world.specs.Values.{value_of}
 use Rattle.world.specs.Answers.{Answers, AnswersOrFails}
-use Rattle.world.specs.Held.{Held, world_of, variable_at, value_in, output_in, taken, fetched_from}
+use Rattle.world.specs.Held.{Held, IsSet, IsSetOrKept, world_of, variable_at, value_in, output_in, taken, fetched_from}
 use Rattle.world.specs.declared.fault.Fault.{Fault}
 use Rattle.world.specs.declared.value.Value.{Value}
 use Rattle.world.specs.declared.world.Source.{Source}
@@ -139,3 +140,8 @@ pub assigned_alone : (n : Name) (x : Bytes) (v : MVal) (h new : Held) (o : Optio
 assigned_alone n x v h new o is out set =
     told_same o _
     (λ io. ap (λ z. assign_op (name_of z) v (world_of h io)) is ∙ ap (λ z. write_var z v (set_var x v (world_of h io))) (sym out) ∙ ap (λ w. Gives (record {}) w) (sym (set io)))
+
+-- whatever an assignment answers, it changes no more than the variable
+pub no_more : {A E : Type 0} (r : Result A E) (n : p.Name) (v : MVal) (old new : Held) → OnOk r (IsSet n v old new) → OnErr r (IsSetOrKept n v old new) → (new ≡ old) ⊎ ((x : MVal) × IsSet n x old new)
+no_more (Ok a) n v old new set kept = inr (v, set)
+no_more (Err e) n v old new set kept = elim kept [ inl same ↦ inl same | inr is ↦ inr (v, is) ]

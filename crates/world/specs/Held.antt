@@ -1,5 +1,5 @@
 -- The world as it is held, and as the definitions see it.
-use Rattle.std.specs.Prelude.{ℕ, List, [], ◌∷◌, ◌++◌, Option, Some, None, bytes_eq, codes, Bool, false}
+use Rattle.std.specs.Prelude.{◌≡◌, ◌⊎◌, ℕ, List, [], ◌∷◌, ◌++◌, Option, Some, None, bytes_eq, codes, Bool, false}
 use Rattle.std.specs.Map.{lookup}
 use Rattle.model.specs.Trees.{Bytes}
 use Rattle.model.specs.Io.{Io}
@@ -9,6 +9,7 @@ use Rattle.model.specs.Operators.{take_record, as_read, limited}
 use Rattle.model.specs.Values.{Str, set_var}
 use Rattle.indexmap.specs.IndexMap.{insert_entry}
 use Rattle.model.specs.Pattern as p
+use Rattle.model.specs.Target as target
 use Rattle.model.specs.Steps.{Code}
 use Rattle.model.specs.Machine.{MVal, MW, codes_of}
 use Rattle.world.specs.Values.{value_of}
@@ -62,6 +63,14 @@ fetched_from (source.Unit u) x w = take_record x u (w.io.left u) w
 -- a variable takes a record as its value
 abbrev pub taken : (name bytes : Bytes) → MW → Op MW MVal
 taken x r w = let s : Bytes = as_read r w in limited s w (Gives (Str s) (set_var x (Str s) w))
+
+-- the variable of this name has this value, and nothing else changed
+abbrev pub IsSet : p.Name → MVal → Held → Held → Type 0
+IsSet (target.Variable x) v old new = (io : Io) → world_of new io ≡ set_var x v (world_of old io)
+IsSet _ v old new = ⊥
+
+abbrev pub IsSetOrKept : p.Name → MVal → Held → Held → Type 0
+IsSetOrKept n v old new = (new ≡ old) ⊎ IsSet n v old new
 
 abbrev pub zero_in : KeyValue → Bool
 zero_in (IsInteger z) = is_zero z

@@ -1,14 +1,15 @@
 //! Names that are fetched and assigned to. A variable may read its value from a unit, or write it to one.
 
-ghost use Rattle.std.specs.Prelude.{◌≡◌, Some, length, option_map, IfOk, IfErr, OnOk, OnErr};
+ghost use Rattle.std.specs.Prelude.{◌≡◌, ◌≢◌, ◌⊎◌, Some, None, Ok, length, option_map, IfOk, IfErr, OnOk, OnErr};
 ghost use Rattle.model.specs.Io.{Io};
 ghost use Rattle.model.specs.Told.{IfTold};
 ghost use Rattle.model.specs.Operators.{fetch_op, take_record, as_read, assign_op, splice_op, write_var, print_text};
 ghost use Rattle.model.specs.Conversions.{to_text};
+ghost use Rattle.model.specs.Machine.{MVal};
 ghost use Rattle.model.specs.declared.run.Stop.TheVariants.{NoMemory};
 ghost use Rattle.pattern_compiler.specs.View.{name_of};
 ghost use Rattle.world.specs.Values.{value_of};
-ghost use Rattle.world.specs.Held.{Held, world_of, taken, variable_at, value_in};
+ghost use Rattle.world.specs.Held.{Held, IsSet, IsSetOrKept, world_of, taken, variable_at, value_in};
 ghost use Rattle.world.specs.Answers.{answer_map, Answers, AnswersOrFails, done, IfStopped, KeepsCounts, stop_of};
 
 use crate::fault::Fault;
@@ -22,11 +23,14 @@ use strings::{StrFault, Text, trim_end};
 use unit_io::Units;
 
 impl World {
-    /// The value of a name. A variable that has a unit reads a record; at the unit's end that fails.
+    /// The value of a name. A variable that has a unit reads a record; at the unit's end that fails. A fault leaves the
+    /// world, and so does the end of a unit.
     pub fn fetch<U: Units>(&mut self, units: &mut U, name: &Name) -> Result<Option<Value>, Fault>
         ensures fetched { IfTold (U.told units.old) (U.told units.new) (λ io io'.
             AnswersOrFails (answer_map (option_map value_of) result) (world_of self.new io') (fetch_op (name_of name.now) (world_of self.old io))) }
         ensures counts { KeepsCounts result (U.failures units.old) (U.failures units.new) }
+        ensures err { OnErr result (self.new ≡ self.old) }
+        ensures end { result ≡ Ok None → self.new ≡ self.old }
     {
         let Name::Variable(name) = name else {
             return Err(Fault::Error(ErrorCode::WrongType));
@@ -47,6 +51,8 @@ impl World {
         ensures fetched { IfTold (U.told units.old) (U.told units.new) (λ io io'.
             AnswersOrFails (answer_map (option_map value_of) result) (world_of self.new io') (take_record name.now unit (io.left unit) (world_of self.old io))) }
         ensures counts { KeepsCounts result (U.failures units.old) (U.failures units.new) }
+        ensures err { OnErr result (self.new ≡ self.old) }
+        ensures end { result ≡ Ok None → self.new ≡ self.old }
     {
         match units.read_record(unit) {
             Ok(Some(line)) => self.take(name, line),
@@ -59,6 +65,8 @@ impl World {
     fn take(&mut self, name: &Text, line: Text) -> Result<Option<Value>, Fault>
         ensures taken { (io : Io) → AnswersOrFails (answer_map (option_map value_of) result) (world_of self.new io) (taken name.now line (world_of self.old io)) }
         ensures stop { IfStopped result (λ stop. stop ≡ NoMemory) }
+        ensures err { OnErr result (self.new ≡ self.old) }
+        ensures some { IfOk result (λ got. got ≢ None) }
     {
         let text = self.as_read(line)?;
         if text.len() > self.keywords.longest() {
@@ -81,7 +89,8 @@ impl World {
         line.sub(0, end)
     }
 
-    /// Assigns a value to a name. A variable that has a unit writes a record.
+    /// Assigns a value to a name. A variable that has a unit writes a record, after it has the value: a fault leaves the
+    /// world, or the variable with that value.
     pub fn assign<U: Units>(
         &mut self,
         alloc: Global,
@@ -92,6 +101,8 @@ impl World {
         ensures assigned { IfTold (U.told units.old) (U.told units.new) (λ io io'.
             Answers (done result) (world_of self.new io') (assign_op (name_of name.now) (value_of value) (world_of self.old io))) }
         ensures counts { KeepsCounts result (U.failures units.old) (U.failures units.new) }
+        ensures ok { OnOk result (IsSet (name_of name.now) (value_of value) self.old self.new) }
+        ensures err { OnErr result (IsSetOrKept (name_of name.now) (value_of value) self.old self.new) }
     {
         let Name::Variable(name) = name else {
             return Err(Fault::Error(ErrorCode::WrongType));
@@ -102,7 +113,7 @@ impl World {
         }
     }
 
-    /// Assigns to a name the subject of a match with a value in the place of what was found.
+    /// Assigns to a name the subject of a match with a value in the place of what was found. Nothing else changes.
     pub fn splice<U: Units>(
         &mut self,
         alloc: Global,
@@ -114,6 +125,7 @@ impl World {
         ensures assigned { IfTold (U.told units.old) (U.told units.new) (λ io io'.
             Answers (done result) (world_of self.new io') (splice_op (name_of name.now) span.now.subject span.now.start span.now.end (value_of value.now) (world_of self.old io))) }
         ensures counts { KeepsCounts result (U.failures units.old) (U.failures units.new) }
+        ensures only { (self.new ≡ self.old) ⊎ ((v : MVal) × IsSet (name_of name.now) v self.old self.new) }
     {
         let whole = self.replaced(alloc, span, value)?;
         self.assign(alloc, units, name, whole)

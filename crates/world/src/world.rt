@@ -184,6 +184,7 @@ impl World {
     pub(crate) fn set(&mut self, name: &Text, value: Value) -> Result<Option<u8>, AllocError>
         ensures set { OnOk result ((io : Io) → world_of self.new io ≡ set_var name.now (value_of value) (world_of self.old io)) }
         ensures output { IfOk result (λ unit. unit ≡ output_in (variable_at name.now self.old.variables)) }
+        ensures err { OnErr result (self.new ≡ self.old) }
     {
         if let Some(variable) = self.variables.get_mut(name) {
             variable.set(value);

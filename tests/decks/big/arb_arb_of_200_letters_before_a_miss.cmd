@@ -1,0 +1,3 @@
+compile deck.sno a.module
+run a.module --steps 2767917
+run a.module --steps 2767916

@@ -1,0 +1,22 @@
+"""What `sno` doesn't run yet, of which it tells each statement as P0. The reference runs all of it."""
+
+from .names import MOST_ARGUMENTS
+from .trees import Binary, Call, Reference, Unary, expressions_of
+
+NOT_YET = frozenset(
+    (b"ARRAY", b"TABLE", b"ITEM", b"COPY", b"CONVERT", b"DATA", b"DEFINE", b"APPLY", b"INPUT", b"OUTPUT", b"DETACH")
+)
+
+
+def runs(tree):
+    """Whether an expression runs, apart from those inside it."""
+    if isinstance(tree, Call):
+        return tree.name in MOST_ARGUMENTS and tree.name not in NOT_YET
+    if isinstance(tree, Unary):
+        return tree.mark not in (b"*", b"@")
+    return not isinstance(tree, Reference) and not (isinstance(tree, Binary) and tree.mark == b"$")
+
+
+def not_yet(statements):
+    """The numbers of the statements that don't run yet."""
+    return [number for number, it in enumerate(statements, 1) if not all(map(runs, expressions_of(it)))]
