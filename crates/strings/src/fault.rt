@@ -9,9 +9,9 @@ use std::alloc::{AllocError, AllocFailed};
 /// Why a text was not made.
 #[derive(Clone, Copy, Debug, PartialEq, Eq)]
 pub enum StrFault {
-    /// S1: a growth of memory was refused.
+    /// A growth of memory was refused.
     Memory,
-    /// S2: longer than the limit.
+    /// Longer than the limit.
     TooLong,
 }
 
