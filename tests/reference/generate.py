@@ -54,7 +54,7 @@ class Deck:
             self.number,
             self.variable,
             self.variable,
-            lambda: f"({self.value(depth - 1)} {self.value(depth - 1)})",
+            lambda: self.bracketed(f"{self.value(depth - 1)} {self.value(depth - 1)}"),
             lambda: self.arithmetic(depth - 1),
             lambda: f"{self.pick('?', '~', '$', '$$')}{self.value(depth - 1)}",
             lambda: f".{self.variable()}",
@@ -66,7 +66,11 @@ class Deck:
         """A sum and the like; seldom of what is no integer."""
         operand = self.value if self.rare(12) else self.integer
         sign = self.pick("", "", "", "-", "+")
-        return f"({sign}{operand(depth)} {self.pick('+', '-', '*', '/', '**')} {operand(depth)})"
+        return self.bracketed(f"{sign}{operand(depth)} {self.pick('+', '-', '*', '/', '**')} {operand(depth)}")
+
+    def bracketed(self, expression):
+        """An expression, most often in brackets."""
+        return expression if self.rare(3) else f"({expression})"
 
     def integer(self, depth):
         """An expression whose value is an integer."""
@@ -122,7 +126,7 @@ class Deck:
         """The patterns that need a construct of LATER."""
         return {
             "fence": lambda depth: f"FENCE({self.pattern(depth)})",
-            "imm": lambda depth: f"({self.pattern(depth)} $ {self.target()})",
+            "imm": lambda depth: self.bracketed(f"{self.pattern(depth)} $ {self.target()}"),
             "cursor": lambda depth: f"@{self.target()}",
             "defer": self.deferred,
         }
@@ -134,15 +138,15 @@ class Deck:
 
     def joined(self, depth):
         """A concatenation."""
-        return f"({self.pattern(depth)} {self.pattern(depth)})"
+        return self.bracketed(f"{self.pattern(depth)} {self.pattern(depth)}")
 
     def alternatives(self, depth):
         """An alternation."""
-        return f"({self.pattern(depth)} | {self.pattern(depth)})"
+        return self.bracketed(f"{self.pattern(depth)} | {self.pattern(depth)}")
 
     def assigning(self, depth):
         """A pattern that assigns."""
-        return f"({self.pattern(depth)} . {self.target()})"
+        return self.bracketed(f"{self.pattern(depth)} . {self.target()}")
 
     def arbno(self, depth):
         """ARBNO of a pattern."""
