@@ -164,11 +164,15 @@ def arguments():
     """The words of the command line."""
     parser = argparse.ArgumentParser(description=__doc__)
     default = str(HERE.parent / "build" / "sno")
-    parser.add_argument("program", nargs="?", default=default, type=executable, help="the program; build/sno if none is given")
-    parser.add_argument("--decks", type=int, default=200, metavar="N", help="how many random decks, beside the families")
-    parser.add_argument("--mangled", type=int, default=200, metavar="N", help="how many decks with something wrong")
-    parser.add_argument("--seed", type=int, default=1, metavar="N", help="the seed of the first")
-    parser.add_argument("--jobs", type=int, default=os.cpu_count(), metavar="N", help="how many at once")
+    parser.add_argument("program", nargs="?", default=default, type=executable, help="build/sno if none is given")
+    numbers = {
+        "decks": (200, "how many random decks, beside the families"),
+        "mangled": (200, "how many decks with something wrong"),
+        "seed": (1, "the seed of the first"),
+        "jobs": (os.cpu_count(), "how many at once"),
+    }
+    for name, (usual, about) in numbers.items():
+        parser.add_argument(f"--{name}", type=int, default=usual, metavar="N", help=about)
     parser.add_argument("--cases", action="store_true", help="the decks of tests/decks too")
     parser.add_argument("--all", action="store_true", help="tell the ratio of each case")
     return parser.parse_args()
@@ -188,7 +192,7 @@ def main():
     print(*map(told, failed), sep="\n", end="\n" if failed else "")
     most = max(done, key=Result.ratio)
     print(f"constructs beside those that each program runs: {', '.join(later) or 'none'}")
-    print(f"{len(results) - len(done)} left out, as they use too many rules, or as the program doesn't run them yet")
+    print(f"{len(results) - len(done)} left out, as they use too many rules or don't run yet")
     print(f"largest ratio {most.ratio():.3f}: {most.steps} steps for {most.rules} rules, {most.case.name}")
     print(f"{len(done) - len(failed)} passed, {len(failed)} failed")
     return 1 if failed else 0

@@ -1,6 +1,6 @@
 """Decks whose runs take the most steps for a rule."""
 
-from .generate import cards_of
+from .generate import LATER, cards_of
 
 
 def looped(bodies, times, before=()):
@@ -110,6 +110,23 @@ def of_endings():
     return {name: deck(statements) for name, statements in endings.items()}
 
 
+def of_calls():
+    """Families of calls, and of elements."""
+    recursion = [" DEFINE('F(N)') :(E)", "F F = EQ(N,0) 'D' :S(RETURN)", " F = F(N - 1) :(RETURN)"]
+    recursion += ["E OUTPUT = F(300)", "END"]
+    within = [" DEFINE('F()')", " 'AAAA' ARB ARB LEN(1) *F()", "F 'AAAA' ARB ARB $ X LEN(1) *(1 / 0)", "END"]
+    at_once = [" DEFINE('F()','RETURN')", " DEFINE('G()','FRETURN')"]
+    named = [" DEFINE('F()','R') :(S)", "R F = .X :(NRETURN)", "S"]
+    elements = ["A<1> = A<2>", "T<X> = T<T<X>>", "A<1>", "A<9>"]
+    return {
+        "recursion": ("calls", deck(recursion)),
+        "returns_at_once": ("calls", looped(["F()", "Y = F(,,,)", "G()", "X = G()"], 30, at_once)),
+        "names_of_calls": ("calls", looped(["F() = 1"] * 4, 30, named)),
+        "elements": ("objects", looped(elements, 30, [" A = ARRAY(3)", " T = TABLE()"])),
+        "cut_off_within_a_call": ("whole", deck(within)),
+    }
+
+
 def of_later():
     """Families that need a construct of LATER, by its name."""
     subject = "'" + "A" * 12 + "'"
@@ -138,5 +155,7 @@ def all_families(later):
     found = {f"indirect_{depth}": indirect(depth) for depth in (1, 3, 16)}
     for more in (of_patterns(), of_growing(), of_statements(), of_gotos(), of_endings()):
         found.update(more)
-    found.update((name, it) for name, (construct, it) in of_later().items() if construct in later)
+    whole = [*later, "whole"] if set(later) == set(LATER) else later
+    for more in (of_later(), of_calls()):
+        found.update((name, it) for name, (construct, it) in more.items() if construct in whole)
     return found
