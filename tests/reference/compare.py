@@ -57,7 +57,8 @@ def differences(deck):
         written = {on for on, record in units.printed}
         before = bytes_of(deck, f".{unit}.in") or b""
         after = bytes_of(deck, f".{unit}")
-        pairs.append((f"unit {unit}", before if after is None else after, units.bytes_on(unit) if unit in written else before))
+        got = units.bytes_on(unit) if unit in written else before
+        pairs.append((f"unit {unit}", before if after is None else after, got))
     return [f"{what}: wanted {wanted!r}, got {got!r}" for what, wanted, got in pairs if wanted != got]
 
 

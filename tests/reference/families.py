@@ -1,6 +1,6 @@
 """Decks whose runs take the most steps for a rule."""
 
-from .generate import cards_of
+from .generate import LATER, cards_of
 
 
 def looped(bodies, times, before=()):
@@ -21,10 +21,29 @@ def indirect(depth):
     return looped([f"Y = {'$' * depth}X"] * 8, 20, [" X = 'X'"])
 
 
-def alternatives(times, match):
-    """A pattern that gets one more alternative again and again, and a match of it."""
-    statements = [" &STLIMIT = -1", " P = ARB", "L P = P | 'Z'", " I = I + 1", f" LT(I,{times}) :S(L)", f" {match}", "END"]
-    return deck(statements)
+def grown(change, match, times=500, first="ARB"):
+    """A pattern that is changed again and again, and a match of it."""
+    change = [f" P = {first}", f"L P = {change}", " I = I + 1", f" LT(I,{times}) :S(L)"]
+    return deck([" &STLIMIT = -1", *change, f" {match}", "END"])
+
+
+def of_growing():
+    """Families of patterns that are built in a loop, that run today."""
+    short, long = ("'" + "A" * length + "'" for length in (16, 60))
+    return {
+        "alternatives_around_arb": grown("P | 'Z'", f"{short} P 'B'", 2000),
+        "alternatives_around_arb_at_0": grown("P | 'Z'", f"{long} POS(0) P 'B'", 2000),
+        "alternatives_around_arb_found": grown("P | 'Z'", "'AAAAZ' P 'Z' RPOS(0)", 2000),
+        "alternatives_around_bal": grown("P | 'Z'", f"{long} POS(0) P 'B'", 2000, "BAL"),
+        "alternatives_after_one_another": grown("'Z' | P", f"{long} POS(0) P 'B'"),
+        "alternatives_twice": grown("P | 'Z'", f"{long} POS(0) P P 'B'", 200),
+        "alternatives_in_arbno": grown("P | 'Z'", f"{short} POS(0) ARBNO(P) 'B'", 100, "LEN(1)"),
+        "arbno_in_arbno": grown("ARBNO(P) | 'Z'", f"{short} POS(0) P", 100, "LEN(1)"),
+        "alternatives_and_abort": grown("P | 'Z'", f"{short} POS(0) (P ABORT)"),
+        "conditionals_around_arb": grown("P . X", f"{short} POS(0) P 'B'", 200),
+        "nulls_after_arb": grown("P LEN(0)", f"{short} POS(0) P 'B'", 200),
+        "nulls_before_arb": grown("LEN(0) P", f"{short} POS(0) P 'B'", 200),
+    }
 
 
 def of_patterns():
@@ -71,7 +90,10 @@ def of_gotos():
     computed = deck([" &STLIMIT = 200", " X = 'L'", "L :($X)", "END"])
     nested = deck([" &STLIMIT = 200", " X = 'X'", " L = 'L'", "X :($$$$$X)", "END"])
     both = deck([" &STLIMIT = 200", "L EQ(1,2) :S(END)F(M)", "M EQ(1,1) :F(END)S(L)", "END"])
-    return {"computed_gotos": computed, "nested_gotos": nested, "gotos_both_ways": both}
+    bodies = {"": "nothing", "&ANCHOR =": "keyword", "X =": "assignment", "X": "evaluation", "~X": "negation"}
+    found = {f"{name}_and_goto": deck([" &STLIMIT = 999", f"L {body} :(L)", "END"]) for body, name in bodies.items()}
+    found["keyword_and_computed_goto"] = deck([" &STLIMIT = 999", " X = 'L'", "L &ANCHOR = :($X)", "END"])
+    return {"computed_gotos": computed, "nested_gotos": nested, "gotos_both_ways": both, **found}
 
 
 def of_endings():
@@ -88,15 +110,34 @@ def of_endings():
     return {name: deck(statements) for name, statements in endings.items()}
 
 
+def of_calls():
+    """Families of calls, and of elements."""
+    recursion = [" DEFINE('F(N)') :(E)", "F F = EQ(N,0) 'D' :S(RETURN)", " F = F(N - 1) :(RETURN)"]
+    recursion += ["E OUTPUT = F(300)", "END"]
+    within = [" DEFINE('F()')", " 'AAAA' ARB ARB LEN(1) *F()", "F 'AAAA' ARB ARB $ X LEN(1) *(1 / 0)", "END"]
+    at_once = [" DEFINE('F()','RETURN')", " DEFINE('G()','FRETURN')"]
+    named = [" DEFINE('F()','R') :(S)", "R F = .X :(NRETURN)", "S"]
+    elements = ["A<1> = A<2>", "T<X> = T<T<X>>", "A<1>", "A<9>"]
+    return {
+        "recursion": ("calls", deck(recursion)),
+        "returns_at_once": ("calls", looped(["F()", "Y = F(,,,)", "G()", "X = G()"], 30, at_once)),
+        "names_of_calls": ("calls", looped(["F() = 1"] * 4, 30, named)),
+        "elements": ("objects", looped(elements, 30, [" A = ARRAY(3)", " T = TABLE()"])),
+        "cut_off_within_a_call": ("whole", deck(within)),
+    }
+
+
 def of_later():
     """Families that need a construct of LATER, by its name."""
     subject = "'" + "A" * 12 + "'"
     cut_off = " 'AAAAAAAA' ARB ARB $ X LEN(2) *(1 / 0)"
-    growing = looped([f"{subject} POS(0) P 'B'"], 3, [" P = 'A' *P | ARB"])
+    calling_itself = looped([f"{subject} POS(0) P 'B'"], 3, [" P = 'A' *P | ARB"])
     return {
         "fence_of_a_pattern": ("fence", looped([f"{subject} ARBNO(FENCE('A' | 'AA')) 'B'"] * 3, 10)),
         "fences_in_fences": ("fence", looped(["'AAAA' FENCE(FENCE(FENCE(FENCE('A')))) 'B'"] * 3, 10)),
         "fence_of_null": ("fence", looped(["'AAAA' FENCE('') FENCE('') FENCE('') 'B'"] * 3, 10)),
+        "fences_around_arb": ("fence", grown("FENCE(P)", f"{subject} POS(0) P 'B'")),
+        "fences_of_alternatives": ("fence", grown("FENCE(P | 'Z')", f"{subject} POS(0) P 'B'")),
         "fence_of_fail": ("fence", looped(["'AAAA' FENCE(FAIL) | FENCE('A' | 'B') 'B'"] * 3, 10)),
         "immediate": ("imm", looped(["'AAAA' ARB $ X $ Y 'B'"] * 3, 10)),
         "cut_off_by_output": ("imm", deck([" DETACH(.OUTPUT)", cut_off, "END"])),
@@ -104,18 +145,17 @@ def of_later():
         "cut_off": ("defer", deck([cut_off, "END"])),
         "cut_off_late": ("defer", deck([" 'AAAAAAAA' ARB ARB ARB RPOS(0) *(1 / 0)", "END"])),
         "cut_off_by_a_count": ("defer", deck([" 'AAAAAAAA' ARB LEN(*(3 - X)) @X RPOS(0) 'B'", "END"])),
-        "growing": ("defer", growing),
+        "pattern_that_defers_itself": ("defer", calling_itself),
         "failing_expressions": ("defer", looped(["'AAAA' (*EQ(1,2) | LEN(*EQ(1,2)) | ANY(*X)) 'B'"], 10, [" X = 'A'"])),
     }
 
 
 def all_families(later):
     """Each family by its name, that needs nothing but these constructs of LATER."""
-    subject = "'" + "A" * 16 + "'"
     found = {f"indirect_{depth}": indirect(depth) for depth in (1, 3, 16)}
-    found["alternatives_around_arb"] = alternatives(2000, f"{subject} P 'B'")
-    found["alternatives_around_arb_found"] = alternatives(2000, "'AAAAZ' P 'Z' RPOS(0)")
-    for more in (of_patterns(), of_statements(), of_gotos(), of_endings()):
+    for more in (of_patterns(), of_growing(), of_statements(), of_gotos(), of_endings()):
         found.update(more)
-    found.update((name, it) for name, (construct, it) in of_later().items() if construct in later)
+    whole = [*later, "whole"] if set(later) == set(LATER) else later
+    for more in (of_later(), of_calls()):
+        found.update((name, it) for name, (construct, it) in more.items() if construct in whole)
     return found

@@ -8,7 +8,22 @@ PATTERNS = ["P", "Q", "R"]
 LABELS = ["L1", "L2", "L3", "L4", "L5"]
 COLUMNS = 72
 # What a program may not run yet, with a statement that shows it.
-LATER = {"fence": " X = FENCE('A')", "imm": " 'A' 'A' $ X", "cursor": " 'A' @X", "defer": " 'A' *X"}
+LATER = {
+    "fence": " X = FENCE('A')",
+    "imm": " 'A' 'A' $ X",
+    "cursor": " 'A' @X",
+    "defer": " 'A' *X",
+    "units": " DETACH(.X)",
+    "objects": " X = TABLE()",
+    "calls": " DEFINE('F()')",
+}
+UNITS = ["INPUT(.V,5)", "INPUT(.W)", "OUTPUT(.W,'6')", "OUTPUT(.X)", "OUTPUT('Y',100)"]
+UNITS += ["DETACH(.W)", "DETACH(.OUTPUT)"]
+OBJECTS = ["A = ARRAY('0:3')", "A = ARRAY('2,2',V)", "A = ARRAY(V)", "T = TABLE()", "A = CONVERT(T,'ARRAY')"]
+OBJECTS += ["B = COPY(A)", "N = NODE(V,T)", "T = A", "B = T", "A = N"]
+TARGETS = ["A<I>", "A<1>", "T<V>", "T<1>", "A<1,2>", "ITEM(A,I)", "ITEM(T,W)", "VAL(N)", "NEXT(N)", "B<1>", "T<J>"]
+# The statements that define functions, and what stands behind the others for them.
+DEFINING = [" DEFINE('F(V,W)X')", " DEFINE('G(X)','H')", " DATA('NODE(VAL,NEXT)')"]
 
 
 def cards_of(statement):
@@ -33,7 +48,7 @@ class Deck:
 
     def number(self):
         """A small integer, seldom another."""
-        return self.pick("0", "1", "2", "3", "4", "7", "9223372036854775807") if self.rare(8) else self.pick("0", "1", "2")
+        return self.pick("3", "4", "7", "9223372036854775807") if self.rare(10) else self.pick("0", "1", "2")
 
     def rare(self, one_in):
         """True once in so many times."""
@@ -49,12 +64,14 @@ class Deck:
         """An expression whose value is likely a string or an integer."""
         if depth == 0:
             return self.pick(self.literal, self.number, self.variable, self.keyword)
+        choices = [made for name, made in self.later_values(depth - 1).items() if name in self.later]
         return self.pick(
+            *choices,
             self.literal,
             self.number,
             self.variable,
             self.variable,
-            lambda: f"({self.value(depth - 1)} {self.value(depth - 1)})",
+            lambda: self.bracketed(f"{self.value(depth - 1)} {self.value(depth - 1)}"),
             lambda: self.arithmetic(depth - 1),
             lambda: f"{self.pick('?', '~', '$', '$$')}{self.value(depth - 1)}",
             lambda: f".{self.variable()}",
@@ -62,11 +79,22 @@ class Deck:
             lambda: self.predicate(depth - 1),
         )
 
+    def later_values(self, depth):
+        """The values that need a construct of LATER."""
+        return {
+            "objects": lambda: self.pick(*TARGETS),
+            "calls": lambda: f"{self.pick('F', 'G')}({self.several(2, depth)})",
+        }
+
     def arithmetic(self, depth):
         """A sum and the like; seldom of what is no integer."""
         operand = self.value if self.rare(12) else self.integer
         sign = self.pick("", "", "", "-", "+")
-        return f"({sign}{operand(depth)} {self.pick('+', '-', '*', '/', '**')} {operand(depth)})"
+        return self.bracketed(f"{sign}{operand(depth)} {self.pick('+', '-', '*', '/', '**')} {operand(depth)}")
+
+    def bracketed(self, expression):
+        """An expression, most often in brackets."""
+        return expression if self.rare(3) else f"({expression})"
 
     def integer(self, depth):
         """An expression whose value is an integer."""
@@ -80,7 +108,8 @@ class Deck:
 
     def keyword(self):
         """A keyword."""
-        return self.pick("&STNO", "&STCOUNT", "&LASTNO", "&STFCOUNT", "&ANCHOR", "&MAXLNGTH", "&RTNTYPE", "&FNCLEVEL")
+        names = ("STNO", "STCOUNT", "LASTNO", "STFCOUNT", "ANCHOR", "MAXLNGTH", "RTNTYPE", "FNCLEVEL")
+        return "&" + self.pick(*names)
 
     def call(self, depth):
         """A call of a primitive that gives a string or an integer."""
@@ -114,7 +143,7 @@ class Deck:
         """An expression whose value is likely a pattern."""
         if depth == 0 or self.rare(6):
             return self.pick(self.literal, self.literal, self.basic, self.word, *self.held)
-        inner = [self.joined, self.joined, self.joined, self.alternatives, self.alternatives, self.assigning, self.arbno]
+        inner = [self.joined] * 3 + [self.alternatives] * 2 + [self.assigning, self.arbno]
         inner += [made for name, made in self.constructs().items() if name in self.later]
         return self.random.choice(inner)(depth - 1)
 
@@ -122,7 +151,7 @@ class Deck:
         """The patterns that need a construct of LATER."""
         return {
             "fence": lambda depth: f"FENCE({self.pattern(depth)})",
-            "imm": lambda depth: f"({self.pattern(depth)} $ {self.target()})",
+            "imm": lambda depth: self.bracketed(f"{self.pattern(depth)} $ {self.target()}"),
             "cursor": lambda depth: f"@{self.target()}",
             "defer": self.deferred,
         }
@@ -134,15 +163,15 @@ class Deck:
 
     def joined(self, depth):
         """A concatenation."""
-        return f"({self.pattern(depth)} {self.pattern(depth)})"
+        return self.bracketed(f"{self.pattern(depth)} {self.pattern(depth)}")
 
     def alternatives(self, depth):
         """An alternation."""
-        return f"({self.pattern(depth)} | {self.pattern(depth)})"
+        return self.bracketed(f"{self.pattern(depth)} | {self.pattern(depth)}")
 
     def assigning(self, depth):
         """A pattern that assigns."""
-        return f"({self.pattern(depth)} . {self.target()})"
+        return self.bracketed(f"{self.pattern(depth)} . {self.target()}")
 
     def arbno(self, depth):
         """ARBNO of a pattern."""
@@ -162,10 +191,15 @@ class Deck:
 
     def target(self):
         """What may be assigned."""
-        return self.pick(*STRINGS, *STRINGS, "OUTPUT", "$V", "$'W'")
+        later = [self.pick(*TARGETS)] if "objects" in self.later and self.rare(3) else []
+        later += [f"G({self.literal()})"] if "calls" in self.later and self.rare(3) else []
+        return self.pick(*later, *STRINGS, *STRINGS, "OUTPUT", "$V", "$'W'")
 
     def body(self):
         """What a statement does."""
+        later = {"units": UNITS, "objects": OBJECTS}
+        if self.rare(6) and set(later) & set(self.later):
+            return self.pick(*later[self.pick(*(name for name in sorted(later) if name in self.later))])
         return self.pick(
             lambda: f"{self.target()} = {self.value(3)}",
             lambda: f"{self.target()} = {self.value(3)}",
@@ -208,6 +242,16 @@ class Deck:
         forms = ("", "", "", f" :S({place()})", f" :F({place()})", f" :S({place()})F({place()})")
         return f" :({place()})" if self.rare(12) else self.pick(*forms)
 
+    def functions(self):
+        """The statements of functions."""
+        returns = [":(RETURN)", ":S(RETURN)F(FRETURN)", ":(NRETURN)", ":S(RETURN)"]
+        statements = [" :(END)"]
+        for label in ("F", "H"):
+            name = self.pick("F", "G")
+            given = self.pick(self.value, ".X", ".W")
+            statements += [f"{label} {self.body()}", f" {name} = {given} {self.pick(*returns)}"]
+        return statements + [" :(RETURN)"]
+
     def text(self):
         """The deck."""
         statements = [f" &STLIMIT = {self.random.choice([10, 30, 100, 300])}"]
@@ -216,6 +260,8 @@ class Deck:
         labels = dict(zip(self.random.sample(range(16), len(LABELS)), LABELS))
         for number in range(16):
             statements.append(f"{labels.get(number, '')} {self.body()}{self.goto()}")
+        if "calls" in self.later:
+            statements = DEFINING + statements + self.functions()
         statements.append("END")
         return "\n".join(card for it in statements for card in cards_of(it)) + "\n"
 

@@ -13,7 +13,6 @@ from .values import (
     Table,
     is_integer,
     is_same,
-    is_text,
     read_integer,
     to_count,
     to_integer,

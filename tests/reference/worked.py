@@ -65,7 +65,9 @@ DECKS = [
         "5\nNO\n",
     ),
     Worked([" A = ARRAY('0:2')", " ITEM(A,2) = 4", " OUTPUT = A<2>"], "4\n"),
-    Worked([" A = ARRAY('0:2')", " ITEM(A,2) = 4", " OUTPUT = A<2>", " OUTPUT = A<1,2>"], "4\n", "error E13 statement 4\n"),
+    Worked(
+        [" A = ARRAY('0:2')", " ITEM(A,2) = 4", " OUTPUT = A<2>", " OUTPUT = A<1,2>"], "4\n", "error E13 statement 4\n"
+    ),
     Worked([" T = TABLE()", " T<1> = 'A'", " T<'1'> = 'B'", " OUTPUT = T<1> T<'1'>"], "AB\n"),
     Worked([" T = TABLE()", " T<'K'> = 1", " A = CONVERT(T,'ARRAY')", " OUTPUT = A<1,1> A<1,2>"], "K1\n"),
     Worked(
