@@ -76,10 +76,10 @@ module _ (prog : Program) (img : Module) (trees_at : ℕ → Option Expr) (place
       answers prog img trees_at placed 1 (omega arith) (Str s, m, rstr s, wr, one prog img trees_at placed h.p h.q (op.Str k) h.ops h.hs h.fs m is ∙ ap (λ o. load o m (λ s. Run h.q (OV (Str s) ∷ h.ops) h.hs h.fs m)) str)
   val_local (Keyword s) h code w m wr = key_local (key_named s) h code w m wr
   val_local (Call f args) h (r, n, code, at) w m wr =
-      function_follows prog img trees_at placed {l = 0} false h f args _ op.PrimV op.CallV (λ x n p ops m. refl) (λ i n p ops m. refl) r n code at wr (omega arith) (omega arith)
+      function_follows prog img trees_at placed false h f args _ op.PrimV op.CallV (λ x n p ops m. refl) (λ i n p ops m. refl) r n code at wr (omega arith)
       (λ g g' w1 m1 hg r1. op_follows prog img trees_at placed (VR trees_at) h.hs h.ops h.fs Ret (λ v w1. Run h.q (OV v ∷ h.ops) h.hs h.fs w1) (as_value_same trees_at hg r1) (λ z z' w3 m3 hz r3. answers prog img trees_at placed 0 (omega arith) (z', m3, hz, r3, refl)) (λ w3 m3 r3. (m3, r3, refl)))
   val_local (Reference x args) h (r, s, t, v, n, var, fetch, code, elem, is) w m wr =
-      element_follows prog img trees_at placed {l = 1} h x args _ r s t n v var fetch code elem wr (omega arith) (omega arith) (λ n w1 m1 r1. fin_val prog img trees_at placed h op.Fetch (omega arith) is refl (fetch_same trees_at n r1))
+      element_follows prog img trees_at placed h x args _ r s t n v var fetch code elem wr (omega arith) (λ n w1 m1 r1. fin_val prog img trees_at placed h op.Fetch (omega arith) is refl (fetch_same trees_at n r1))
   val_local (Apply u.NameOf e) h (r, code, is) w m wr =
       ask_name prog img trees_at placed (at_place h h.p r) code wr (omega arith)
       (λ n w1 m1 r1. answers prog img trees_at placed 1 (omega arith) (Nam n, m1, rnam n, r1, one prog img trees_at placed r h.q op.NameV (ON n ∷ h.ops) h.hs h.fs m1 is)) (fail_here prog img trees_at placed h)
@@ -141,9 +141,9 @@ module _ (prog : Program) (img : Module) (trees_at : ℕ → Option Expr) (place
   name_local (Apply u.Indirect e) h (r, code, is) w m wr =
       ask_val prog img trees_at placed (at_place h h.p r) code wr (omega arith) (λ u w1 x m1 hu r1. fin_name prog img trees_at placed h op.Indir (omega arith) is refl (indir_same trees_at hu r1)) (fail_here prog img trees_at placed h)
   name_local (Reference x args) h (r, s, t, n, var, fetch, code, elem) w m wr =
-      element_follows prog img trees_at placed {l = 0} h x args _ r s t n h.q var fetch code elem wr (omega arith) (omega arith) (λ n w1 m1 r1. answers prog img trees_at placed 0 (omega arith) (m1, r1, refl))
+      element_follows prog img trees_at placed h x args _ r s t n h.q var fetch code elem wr (omega arith) (λ n w1 m1 r1. answers prog img trees_at placed 0 (omega arith) (m1, r1, refl))
   name_local (Call f args) h (r, n, code, at) w m wr =
-      function_follows prog img trees_at placed {l = 0} true h f args _ op.PrimN op.CallN (λ x n p ops m. refl) (λ i n p ops m. refl) r n code at wr (omega arith) (omega arith)
+      function_follows prog img trees_at placed true h f args _ op.PrimN op.CallN (λ x n p ops m. refl) (λ i n p ops m. refl) r n code at wr (omega arith)
       (λ g g' w1 m1 hg r1. op_follows prog img trees_at placed ◌≡◌ h.hs h.ops h.fs Ret (λ v w1. Run h.q (ON v ∷ h.ops) h.hs h.fs w1) (as_name_same trees_at hg r1)
       (λ z z' w3 m3 hz r3. answers prog img trees_at placed 0 (omega arith) (m3, r3, ap (λ x. Run h.q (ON x ∷ h.ops) h.hs h.fs m3) (sym hz))) (λ w3 m3 r3. (m3, r3, refl)))
   name_local _ h x w m wr = absurd x
