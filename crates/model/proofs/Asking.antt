@@ -71,7 +71,7 @@ module _ (prog : Program) (img : Module) (trees_at : ℕ → Option Expr) (place
   pub one : (p q : ℕ) (i : Instr) (ops : List Operand) (hs : List Handler) (fs : List Frame) (w : MW) → Is prog img trees_at p i q → steps img 1 (Run p ops hs fs w) ≡ act img i q p ops hs fs w
   one p q i ops hs fs w is = ap (λ f. step_at img f p ops hs fs w) is
 
-  -- the machine follows a rule, as a type that does not unfold
+  -- the machine follows a rule of the rank r in b steps, as a type that does not unfold
   pub record Fw {A : Type 0} (r b : ℕ) (c : State) (Q : A → W → State → Type 0) (F : W → State → Type 0) (p : Rule A) : Type 0 where
     pub by : Follows prog img trees_at r b c Q F p
 

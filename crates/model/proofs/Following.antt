@@ -58,7 +58,7 @@ body_size (Assign x o) = size x + object_size o
 body_size (Match e f) = size e + size f
 body_size (Replace x f o) = size x + size f + object_size o
 
--- what is asked without a step of the machine is of lesser rank; a match alone is of none
+-- what is asked without a step of the machine is of lesser rank; a match alone is of rank 0
 abbrev pub rank : Query → ℕ
 rank (QVal e) = 2 + 2 * size e
 rank (QName e) = 1 + 2 * size e
@@ -146,9 +146,9 @@ module _ (prog : Program) (img : Module) (trees_at : ℕ → Option Expr) where
   Still (Over e m) w = ⊥
   Still (Stuck m) w = ⊥
 
-  -- the machine follows a rule from this state in b steps beside those of what is asked, Q where it answers and F where it
-  -- fails: it comes to what is asked, of a rank below r or, after a step, below any number, and goes on from there. A search
-  -- is of rank 0, and has no number of steps; what follows its event has one step
+  -- the machine follows a rule from this state, Q where it answers and F where it fails: it comes to what is asked, of a rank
+  -- below r or, after a step, below any number, and goes on from there. It takes b steps beside those of what is asked. A
+  -- search is of rank 0: its steps have a bound of their own, and what follows an event takes one at most
   abbrev pub Follows : {A : Type 0} → (r b : ℕ) → State → (A → W → State → Type 0) → (W → State → Type 0) → Rule A → Type 0
   Follows r b c Q F (Ret a w) = (j : ℕ) × (j ≤ b) × Q a w (steps img j c)
   Follows r b c Q F (Fail w) = (j : ℕ) × (j ≤ b) × F w (steps img j c)

@@ -7,7 +7,7 @@ use Rattle.model.specs.Steps.{Code, at_distance, past_jump, on_after}
 use Rattle.model.specs.Stands.{Stands}
 use Rattle.model.specs.PatternCode.{led_past, exit_past, exits_past, alt_code, arbno_code}
 use Rattle.model.proofs.Exits.{led_here, Within, exits_none, exits_length, exits_before, exits_last, exits_twice}
-use Rattle.model.proofs.StandsAt.{HasAt, has_front, has_back, has_all, stands_within, none_or_some, behind, alt_length}
+use Rattle.model.proofs.StandsAt.{HasAt, has_front, has_back, has_all, stands_within, none_or_some, null_code, behind, alt_length}
 
 abbrev pub NotForward : Option Instr → Type 0
 NotForward (Some (Jmp (pos d))) = ⊥
@@ -126,16 +126,12 @@ cat_in code ca cb cq wa cal fa fb e k o h le f = go (none_or_some (length cb))
     placed : HasAt code o (exits_past k (ca ++ cb))
     placed = subst (λ z. HasAt code o (exits_past k z)) e h
 
-    null : (c : Code) → length c ≡ 0 → c ≡ []
-    null [] z = refl
-    null (i ∷ is) z = absurd (omega (arith, z))
-
     go : (length cb ≡ 0) ⊎ (0 < length cb) → Spans code o (length cq)
     go (inl z) =
         let m : length ca ≡ length cq = omega (arith, n, z) in
         let end : o + length cq + k ≡ o + length ca + k = omega (arith, m) in
         spans_as code o (length ca) (length cq) m
-        (fa k o (subst (HasAt code o) (exits_last k ca cb (null cb z)) placed) (omega (arith, m, le)) (subst (λ y. NotForward (slice_get code y)) end f))
+        (fa k o (subst (HasAt code o) (exits_last k ca cb (null_code cb z)) placed) (omega (arith, m, le)) (subst (λ y. NotForward (slice_get code y)) end f))
     go (inr z) =
         let b = subst (HasAt code o) (exits_before k ca cb wa z) placed in
         let back = has_back code o ca (exits_past k cb) b in

@@ -161,6 +161,10 @@ pub none_or_some : (n : ℕ) → (n ≡ 0) ⊎ (0 < n)
 none_or_some zero = inl refl
 none_or_some (suc n) = inr (omega arith)
 
+pub null_code : (c : Code) → length c ≡ 0 → c ≡ []
+null_code [] z = refl
+null_code (i ∷ is) z = absurd (omega (arith, z))
+
 cat_at : (xs : ℕ → Option Expr) (code : Code) (q r : Pat) (ca cb cq : Code) → Within 0 ca → Stands xs r cb → Lasts xs code q ca → Lasts xs code r cb → cq ≡ ca ++ cb → Lasts xs code (Cat q r) cq
 cat_at xs code q r ca cb cq wa sb fa fb e k p x h le g f = go (none_or_some (length cb))
   where
@@ -170,15 +174,11 @@ cat_at xs code q r ca cb cq wa sb fa fb e k p x h le g f = go (none_or_some (len
     placed : HasAt code p (exits_past k (ca ++ cb))
     placed = subst (λ z. HasAt code p (exits_past k z)) e h
 
-    null : (c : Code) → length c ≡ 0 → c ≡ []
-    null [] z = refl
-    null (i ∷ is) z = absurd (omega (arith, z))
-
     go : (length cb ≡ 0) ⊎ (0 < length cb) → StandsAt xs code (Cat q r) p x
     go (inl z) =
         let m : p + length cq ≡ p + length ca = omega (arith, n, z) in (
           x,
-          fa k p x (subst (HasAt code p) (exits_last k ca cb (null cb z)) placed) (omega (arith, m, le)) (subst (λ y. Leads code y x) m g) (subst (λ y. Leads code (y + k) x) m f),
+          fa k p x (subst (HasAt code p) (exits_last k ca cb (null_code cb z)) placed) (omega (arith, m, le)) (subst (λ y. Leads code y x) m g) (subst (λ y. Leads code (y + k) x) m f),
           empty_stands xs code r cb x x sb z (0, refl),
         )
     go (inr z) =

@@ -1,5 +1,5 @@
 -- The machine follows the rules of statements and gotos, and with them every rule.
-use Rattle.std.proofs.Common.{◌≡◌, ℕ, suc, ◌+◌, ◌*◌, ◌≤◌, List, [], ◌∷◌, Option, Some, None, Bool, true, false, if◌then◌else◌, inl, inr, refl, sym, ap, ◌∙◌, arith, le_refl}
+use Rattle.std.proofs.Common.{◌≡◌, ℕ, suc, ◌+◌, ◌*◌, ◌-◌, ◌≤◌, List, [], ◌∷◌, Option, Some, None, Bool, true, false, if◌then◌else◌, inl, inr, refl, sym, ap, ◌∙◌, arith, le_refl}
 use Rattle.model.specs.declared.instr.Instr.TheVariants as op
 use Rattle.model.specs.declared.instr.ReturnKind.{ReturnKind}
 use Rattle.model.specs.declared.keys.KeyId.{KeyId}
@@ -31,25 +31,25 @@ module _ (prog : Program) (img : Module) (trees_at : ℕ → Option Expr) (place
   -- ---- what a statement does
 
   -- an object, which is null where it is absent
-  ask_object : {rk l n : ℕ} {w : W} {m : MW} {Q : record {} → W → State → Type 0} {F : W → State → Type 0} {k : Val → W → Rule (record {})} (o : Option Expr) (g : Here)
-      → CodeO prog img trees_at o g.p g.q → R w m → suc (2 + 2 * object_size o) ≤ rk → l + 1 ≤ n
-      → ((u : Val) (w1 : W) (x : MVal) (m1 : MW) → VR trees_at u x → R w1 m1 → Fw prog img trees_at placed rk l (Run g.q (OV x ∷ g.ops) g.hs g.fs m1) Q F (k u w1))
+  ask_object : {rk n : ℕ} {w : W} {m : MW} {Q : record {} → W → State → Type 0} {F : W → State → Type 0} {k : Val → W → Rule (record {})} (o : Option Expr) (g : Here)
+      → CodeO prog img trees_at o g.p g.q → R w m → suc (2 + 2 * object_size o) ≤ rk → 1 ≤ n
+      → ((u : Val) (w1 : W) (x : MVal) (m1 : MW) → VR trees_at u x → R w1 m1 → Fw prog img trees_at placed rk (n - 1) (Run g.q (OV x ∷ g.ops) g.hs g.fs m1) Q F (k u w1))
       → ((w1 : W) (m1 : MW) → R w1 m1 → Fw prog img trees_at placed rk n (fail_to g.hs g.ops g.fs m1) Q F (Fail w1))
       → Fw prog img trees_at placed rk n (Run g.p g.ops g.hs g.fs m) Q F (object_rule o w k)
-  ask_object {l = l} {w = w} {m} None g is wr up le hk hf = shift prog img trees_at placed 1 l (omega (arith, le)) (one prog img trees_at placed g.p g.q op.Null g.ops g.hs g.fs m is) (hk (Str []) w (Str []) m (rstr []) wr)
-  ask_object {l = l} (Some e) g code wr up le hk hf = ask_val prog img trees_at placed g code wr up (λ u w1 x m1 hu r1. shift prog img trees_at placed 0 l (omega (arith, le)) refl (hk u w1 x m1 hu r1)) hf
+  ask_object {w = w} {m} None g is wr up le hk hf = from prog img trees_at placed 1 le (one prog img trees_at placed g.p g.q op.Null g.ops g.hs g.fs m is) (hk (Str []) w (Str []) m (rstr []) wr)
+  ask_object {n = n} (Some e) g code wr up le hk hf = ask_val prog img trees_at placed g code wr up (λ u w1 x m1 hu r1. shift prog img trees_at placed 0 (n - 1) (omega arith) refl (hk u w1 x m1 hu r1)) hf
 
   set_key_local : (k : Option KeyId) (o : Option Expr) (h : Here) (r : ℕ) → CodeO prog img trees_at o h.p r → KeyAt prog img trees_at op.KeySet k r h.q → {rk : ℕ} (w : W) (m : MW) → suc (2 + 2 * object_size o) ≤ rk → R w m
       → Fw prog img trees_at placed rk 4 (Run h.p h.ops h.hs h.fs m) (Qu prog img trees_at placed h) (Fv prog img trees_at placed h) (set_key_rule k o w)
   set_key_local None o h r code x w m up wr = absurd x
   set_key_local (Some k) o h r code is w m up wr =
-      ask_object {l = 1} o (at_place h h.p r) code wr up (omega arith) (λ u w1 x m1 hu r1. fin_unit prog img trees_at placed h (op.KeySet k) (omega arith) is refl (keyset_same trees_at k hu r1)) (fail_here prog img trees_at placed h)
+      ask_object o (at_place h h.p r) code wr up (omega arith) (λ u w1 x m1 hu r1. fin_unit prog img trees_at placed h (op.KeySet k) (omega arith) is refl (keyset_same trees_at k hu r1)) (fail_here prog img trees_at placed h)
 
   assign_local : (t : Option Bytes) (x : Expr) (o : Option Expr) (h : Here) → CodeAssign prog img trees_at t x o h.p h.q → (w : W) (m : MW) → R w m
       → Fw prog img trees_at placed (rank (QBody (Assign x o))) 4 (Run h.p h.ops h.hs h.fs m) (Qu prog img trees_at placed h) (Fv prog img trees_at placed h) (assign_rule t x o w)
   assign_local None x o h (r, s, name, code, is) w m wr =
       ask_name prog img trees_at placed (at_place h h.p r) name wr (omega arith)
-      (λ n w1 m1 r1. ask_object {l = 1} o (more h r s (ON n)) code r1 (omega arith) (omega arith)
+      (λ n w1 m1 r1. ask_object o (more h r s (ON n)) code r1 (omega arith) (omega arith)
       (λ u w2 y m2 hu r2. fin_unit prog img trees_at placed h op.Assign (omega arith) is refl (assign_same trees_at n hu r2)) (fail_one prog img trees_at placed h (ON n)))
       (fail_here prog img trees_at placed h)
   assign_local (Some k) x o h (r, code, at) w m wr = set_key_local (key_named k) o h r code at w m (omega arith) wr
@@ -78,7 +78,7 @@ module _ (prog : Program) (img : Module) (trees_at : ℕ → Option Expr) (place
       (λ b w3 z m3 hb r3. from prog img trees_at placed 1 (omega arith) (one prog img trees_at placed u v op.MatchR (OV z ∷ OV y ∷ ON n ∷ h.ops) h.hs h.fs m3 is2)
       (op_follows prog img trees_at placed (BegunR trees_at) h.hs (ON n ∷ h.ops) h.fs _ _ (match_same trees_at ha hb r3)
       (λ g g' w4 m4 hg r4. ask_match prog img trees_at placed (more h r v (ON n)) g g' true hg r4 (omega arith)
-      (λ d w5 m5 r5. ask_object {l = 1} o (more (more h r v (ON n)) v x (OR g'.subject d.start d.end)) ce r5 (omega arith) (omega arith)
+      (λ d w5 m5 r5. ask_object o (more (more h r v (ON n)) v x (OR g'.subject d.start d.end)) ce r5 (omega arith) (omega arith)
       (λ c w6 k m6 ho r6. fin_unit prog img trees_at placed h op.Splice (omega arith) is3
       (ap (λ z. after_op (splice_op n z d.start d.end k m6) h.hs h.ops h.fs (λ _ w1. Run h.q h.ops h.hs h.fs w1)) hg.subject) (splice_same trees_at n g.subject d.start d.end ho r6))
       (fail_two prog img trees_at placed h (OR g'.subject d.start d.end) (ON n)))
@@ -96,32 +96,32 @@ module _ (prog : Program) (img : Module) (trees_at : ℕ → Option Expr) (place
   abbrev Fe : W → State → Type 0
   Fe w c = ⊥
 
-  ask_exec : {rk n k o : ℕ} {fs : List Frame} {w : W} {m : MW} → Base fs → 2 ≤ rk → 1 ≤ n → img.stmt k ≡ Some o → R w m → Fw prog img trees_at placed rk n (Run o [] [] fs m) (Qe fs) Fe (Ask (QExec k) w Ret Fail)
-  ask_exec {rk} {n} {k} {o} {fs} {m = m} b up le st wr = record {
-    by = (0, (o, fs, st, b), m, refl, wr, rk, up, inr (le_refl rk), 0, omega (arith, le), (λ l w1 s (m1, r1, e1). (0, omega arith, (m1, r1, e1))), (λ w1 s b. absurd b));
+  ask_exec : {rk k o : ℕ} {fs : List Frame} {w : W} {m : MW} → Base fs → 2 ≤ rk → img.stmt k ≡ Some o → R w m → Fw prog img trees_at placed rk 1 (Run o [] [] fs m) (Qe fs) Fe (Ask (QExec k) w Ret Fail)
+  ask_exec {rk} {k} {o} {fs} {m = m} b up st wr = record {
+    by = (0, (o, fs, st, b), m, refl, wr, rk, up, inr (le_refl rk), 0, omega arith, (λ l w1 s (m1, r1, e1). (0, omega arith, (m1, r1, e1))), (λ w1 s b. absurd b));
   }
 
-  known_local : {rk n : ℕ} {w : W} (fs : List Frame) (m : MW) (l : Bytes) (o : Option ℕ) → Base fs → 2 ≤ rk → 1 ≤ n → prog.label l ≡ o → R w m → Fw prog img trees_at placed rk n (machine.to_known img o fs m) (Qe fs) Fe (to_known prog o w)
-  known_local fs m l None b up le e wr = faulted prog img trees_at placed error.UndefinedLabel wr
-  known_local fs m l (Some k) b up le e wr =
+  known_local : {rk : ℕ} {w : W} (fs : List Frame) (m : MW) (l : Bytes) (o : Option ℕ) → Base fs → 2 ≤ rk → prog.label l ≡ o → R w m → Fw prog img trees_at placed rk 1 (machine.to_known img o fs m) (Qe fs) Fe (to_known prog o w)
+  known_local fs m l None b up e wr = faulted prog img trees_at placed error.UndefinedLabel wr
+  known_local fs m l (Some k) b up e wr =
       let g = placed.gone_to l k e in
-      same prog img trees_at placed (ap (λ o. to_stmt img o fs m) g.1) (ask_exec b up le g.1 wr)
+      same prog img trees_at placed (ap (λ o. to_stmt img o fs m) g.1) (ask_exec b up g.1 wr)
 
-  label_local : {rk n p : ℕ} {fs : List Frame} {w : W} {m : MW} (l : Bytes) (o : Option ReturnKind) → Base fs → CodeLabel prog img trees_at l o p → 2 ≤ rk → 2 ≤ n → R w m → Fw prog img trees_at placed rk n (Run p [] [] fs m) (Qe fs) Fe (to_return prog l o w)
-  label_local {p = p} {fs} {m = m} l (Some k) b (q, is) up le wr = answers prog img trees_at placed 0 (omega arith) (m, wr, one prog img trees_at placed p q (op.Return k) [] [] fs m is)
-  label_local {rk} {n} {p} {fs} {w} {m} l None b code up le wr = go (prog.label l) refl code
+  label_local : {rk p : ℕ} {fs : List Frame} {w : W} {m : MW} (l : Bytes) (o : Option ReturnKind) → Base fs → CodeLabel prog img trees_at l o p → 2 ≤ rk → R w m → Fw prog img trees_at placed rk 2 (Run p [] [] fs m) (Qe fs) Fe (to_return prog l o w)
+  label_local {p = p} {fs} {m = m} l (Some k) b (q, is) up wr = answers prog img trees_at placed 0 (omega arith) (m, wr, one prog img trees_at placed p q (op.Return k) [] [] fs m is)
+  label_local {rk} {p} {fs} {w} {m} l None b code up wr = go (prog.label l) refl code
     where
-      go : (o : Option ℕ) → prog.label l ≡ o → CodeKnown prog img trees_at o p → Fw prog img trees_at placed rk n (Run p [] [] fs m) (Qe fs) Fe (to_known prog o w)
-      go None e (q, is) = from prog img trees_at placed 1 (omega (arith, le)) (one prog img trees_at placed p q op.NoLabel [] [] fs m is) (known_local fs m l None b up (omega (arith, le)) e wr)
-      go (Some k) e (q, is) = from prog img trees_at placed 1 (omega (arith, le)) (one prog img trees_at placed p q (op.Goto k) [] [] fs m is) (known_local fs m l (Some k) b up (omega (arith, le)) e wr)
+      go : (o : Option ℕ) → prog.label l ≡ o → CodeKnown prog img trees_at o p → Fw prog img trees_at placed rk 2 (Run p [] [] fs m) (Qe fs) Fe (to_known prog o w)
+      go None e (q, is) = from prog img trees_at placed 1 (omega arith) (one prog img trees_at placed p q op.NoLabel [] [] fs m is) (known_local fs m l None b up e wr)
+      go (Some k) e (q, is) = from prog img trees_at placed 1 (omega arith) (one prog img trees_at placed p q (op.Goto k) [] [] fs m is) (known_local fs m l (Some k) b up e wr)
 
-  return_local : {rk n : ℕ} {s : State} {w : W} (fs : List Frame) (m : MW) (l : Bytes) (o : Option ReturnKind) → Base fs → step img s ≡ machine.to_return img l o fs m → 2 ≤ rk → 2 ≤ n → R w m → Fw prog img trees_at placed rk n s (Qe fs) Fe (to_return prog l o w)
-  return_local fs m l (Some k) b e up le wr = answers prog img trees_at placed 0 (omega arith) (m, wr, e)
-  return_local fs m l None b e up le wr = from prog img trees_at placed 1 (omega (arith, le)) (e ∙ ap (λ o. machine.to_known img o fs m) (placed.labels l)) (known_local fs m l (prog.label l) b up (omega (arith, le)) refl wr)
+  return_local : {rk : ℕ} {s : State} {w : W} (fs : List Frame) (m : MW) (l : Bytes) (o : Option ReturnKind) → Base fs → step img s ≡ machine.to_return img l o fs m → 2 ≤ rk → R w m → Fw prog img trees_at placed rk 2 s (Qe fs) Fe (to_return prog l o w)
+  return_local fs m l (Some k) b e up wr = answers prog img trees_at placed 0 (omega arith) (m, wr, e)
+  return_local fs m l None b e up wr = from prog img trees_at placed 1 (omega arith) (e ∙ ap (λ o. machine.to_known img o fs m) (placed.labels l)) (known_local fs m l (prog.label l) b up refl wr)
 
-  text_local : {rk n : ℕ} {s : State} {w : W} (fs : List Frame) (m : MW) (c : Conv Bytes) → Base fs → step img s ≡ machine.to_text_label img c fs m → 2 ≤ rk → 2 ≤ n → R w m → Fw prog img trees_at placed rk n s (Qe fs) Fe (to_text_label prog c w)
-  text_local fs m (Got l) b e up le wr = return_local fs m l (return_of l) b e up le wr
-  text_local fs m (Bad x) b e up le wr = from prog img trees_at placed 1 (omega (arith, le)) e (faulted prog img trees_at placed x wr)
+  text_local : {rk : ℕ} {s : State} {w : W} (fs : List Frame) (m : MW) (c : Conv Bytes) → Base fs → step img s ≡ machine.to_text_label img c fs m → 2 ≤ rk → R w m → Fw prog img trees_at placed rk 2 s (Qe fs) Fe (to_text_label prog c w)
+  text_local fs m (Got l) b e up wr = return_local fs m l (return_of l) b e up wr
+  text_local fs m (Bad x) b e up wr = from prog img trees_at placed 1 (omega arith) e (faulted prog img trees_at placed x wr)
 
   abbrev place_rank : Option Place → ℕ
   place_rank None = 2
@@ -131,15 +131,15 @@ module _ (prog : Program) (img : Module) (trees_at : ℕ → Option Expr) (place
   abbrev bare : (p q : ℕ) (fs : List Frame) → Here
   bare p q fs = record { p = p; q = q; ops = []; hs = []; fs = fs; fit = tt }
 
-  goto_local : {rk n : ℕ} {fs : List Frame} {w : W} {m : MW} (k p : ℕ) (place : Option Place) → Base fs → (o : ℕ) × (img.stmt (suc k) ≡ Some o) → CodeG prog img trees_at k place p → place_rank place ≤ rk → 2 ≤ n → R w m
-      → Fw prog img trees_at placed rk n (Run p [] [] fs m) (Qe fs) Fe (go_on prog k place w)
-  goto_local k p None b next (inl st) up le wr = ask_exec b up (omega (arith, le)) st wr
-  goto_local {fs = fs} {m = m} k p None b next (inr (q, is)) up le wr = from prog img trees_at placed 1 (omega (arith, le)) (one prog img trees_at placed p q (op.Goto (suc k)) [] [] fs m is ∙ ap (λ o. to_stmt img o fs m) next.1) (ask_exec b up (omega (arith, le)) next.1 wr)
-  goto_local k p (Some (Label l)) b next code up le wr = label_local l (return_of l) b code up le wr
-  goto_local {fs = fs} {m = m} k p (Some (Computed e)) b next (r, q, code, is) up le wr =
+  goto_local : {rk : ℕ} {fs : List Frame} {w : W} {m : MW} (k p : ℕ) (place : Option Place) → Base fs → (o : ℕ) × (img.stmt (suc k) ≡ Some o) → CodeG prog img trees_at k place p → place_rank place ≤ rk → R w m
+      → Fw prog img trees_at placed rk 2 (Run p [] [] fs m) (Qe fs) Fe (go_on prog k place w)
+  goto_local k p None b next (inl st) up wr = shift prog img trees_at placed 0 1 (omega arith) refl (ask_exec b up st wr)
+  goto_local {fs = fs} {m = m} k p None b next (inr (q, is)) up wr = from prog img trees_at placed 1 (omega arith) (one prog img trees_at placed p q (op.Goto (suc k)) [] [] fs m is ∙ ap (λ o. to_stmt img o fs m) next.1) (ask_exec b up next.1 wr)
+  goto_local k p (Some (Label l)) b next code up wr = label_local l (return_of l) b code up wr
+  goto_local {fs = fs} {m = m} k p (Some (Computed e)) b next (r, q, code, is) up wr =
       ask_val prog img trees_at placed (bare p r fs) code wr up
       (λ u w1 x m1 hu r1. text_local fs m1 (to_label u) b
-      (one prog img trees_at placed r q op.GotoV (OV x ∷ []) [] fs m1 is ∙ ap (λ c. machine.to_text_label img c fs m1) (label_same trees_at hu)) (omega (arith, up)) le r1)
+      (one prog img trees_at placed r q op.GotoV (OV x ∷ []) [] fs m1 is ∙ ap (λ c. machine.to_text_label img c fs m1) (label_same trees_at hu)) (omega (arith, up)) r1)
       (λ w1 m1 r1. same prog img trees_at placed (base_fail fs b m1) (faulted prog img trees_at placed error.FailureInGoto r1))
 
   limit_same : {w : W} {m : MW} → R w m → over_limit m ≡ over_limit w
@@ -185,10 +185,10 @@ module _ (prog : Program) (img : Module) (trees_at : ℕ → Option Expr) (place
           n,
           ln,
           inl (omega arith),
-          4,
+          3,
           omega arith,
-          (λ _ w1 s (m1, r1, e1). (from prog img trees_at placed {b = 4} 1 (omega arith) (ap (steps img 1) e1 ∙ one prog img trees_at placed q r op.Body [] (OnBegin f ∷ []) fs m1 leave) (goto_local k r (onward_of g) bs next on lo (omega arith) r1)).by),
-          (λ w1 s (m1, r1, e1). (same prog img trees_at placed {b = 4} e1 (goto_local k f (other_of g) bs next oth lt (omega arith) (failure_same trees_at r1))).by),
+          (λ _ w1 s (m1, r1, e1). (from prog img trees_at placed {b = 3} 1 (omega arith) (ap (steps img 1) e1 ∙ one prog img trees_at placed q r op.Body [] (OnBegin f ∷ []) fs m1 leave) (goto_local k r (onward_of g) bs next on lo r1)).by),
+          (λ w1 s (m1, r1, e1). (shift prog img trees_at placed {b = 3} 0 2 (omega arith) e1 (goto_local k f (other_of g) bs next oth lt (failure_same trees_at r1))).by),
         );
       }
 
