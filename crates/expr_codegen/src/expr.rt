@@ -7,7 +7,7 @@ ghost use Rattle.model.specs.Trees.{Apply, Combine};
 ghost use Rattle.model.specs.TreeViews.{expr_of, args_of};
 ghost use Rattle.model.specs.Weights.{of_expr, of_args};
 ghost use Rattle.expr_codegen.specs.Code as code;
-ghost use Rattle.expr_codegen.specs.Emitting.{Emits, Countable, AllCountable, size, most_counted};
+ghost use Rattle.expr_codegen.specs.Emitting.{Emits, Extends, Countable, AllCountable, size, most_counted};
 ghost use Rattle.expr_codegen.specs.Views as views;
 ghost use Rattle.expr_codegen.specs.Views.{gen_of};
 
@@ -18,11 +18,13 @@ use std::alloc::{AllocError, Global};
 
 /// Puts the code for the value of an expression.
 #[cycle(tree)]
+#[tactic(auto, using(crate::proofs::Extensions::extends_trans))]
 pub fn value<'a>(alloc: Global, g: &mut Generator<'a>, e: &'a Expr) -> Result<(), AllocError>
     requires countable { Countable (expr_of e.now) }
     requires room { size (gen_of g.old) + 9 * of_expr (expr_of e.now) < 2 ^ 31 }
     ensures emits { OnOk result (Emits (code.value (expr_of e.now)) (gen_of g.old) (gen_of g.new)) }
     ensures size { OnOk result (size (gen_of g.new) ≤ size (gen_of g.old) + 9 * of_expr (expr_of e.now)) }
+    ensures extends { Extends (gen_of g.old) (gen_of g.new) }
 {
     match e {
         Expr::Name(x) => {
@@ -49,6 +51,7 @@ pub fn name<'a>(alloc: Global, g: &mut Generator<'a>, e: &'a Expr) -> Result<(),
     requires room { size (gen_of g.old) + 9 * of_expr (expr_of e.now) < 2 ^ 31 }
     ensures emits { OnOk result (Emits (code.name (expr_of e.now)) (gen_of g.old) (gen_of g.new)) }
     ensures size { OnOk result (size (gen_of g.new) ≤ size (gen_of g.old) + 9 * of_expr (expr_of e.now)) }
+    ensures extends { Extends (gen_of g.old) (gen_of g.new) }
 {
     match e {
         Expr::Name(x) => variable(alloc, g, x),
@@ -61,6 +64,7 @@ pub fn name<'a>(alloc: Global, g: &mut Generator<'a>, e: &'a Expr) -> Result<(),
 
 // Puts the code for the name that a unary operator and its operand give.
 #[cycle(tree)]
+#[tactic(auto, using(crate::proofs::Extensions::extends_trans))]
 fn applied_name<'a>(
     alloc: Global,
     g: &mut Generator<'a>,
@@ -71,6 +75,7 @@ fn applied_name<'a>(
     requires room { size (gen_of g.old) + 9 * of_expr (expr_of x.now) + 9 < 2 ^ 31 }
     ensures emits { OnOk result (Emits (code.name (Apply op (expr_of x.now))) (gen_of g.old) (gen_of g.new)) }
     ensures size { OnOk result (size (gen_of g.new) ≤ size (gen_of g.old) + 9 * of_expr (expr_of x.now) + 9) }
+    ensures extends { Extends (gen_of g.old) (gen_of g.new) }
 {
     match op {
         Unary::Indirect => {
@@ -83,6 +88,7 @@ fn applied_name<'a>(
 
 // Puts the code for the value of a unary operator and its operand.
 #[cycle(tree)]
+#[tactic(auto, using(crate::proofs::Extensions::extends_trans))]
 fn applied<'a>(
     alloc: Global,
     g: &mut Generator<'a>,
@@ -93,6 +99,7 @@ fn applied<'a>(
     requires room { size (gen_of g.old) + 9 * of_expr (expr_of x.now) + 9 < 2 ^ 31 }
     ensures emits { OnOk result (Emits (code.value (Apply op (expr_of x.now))) (gen_of g.old) (gen_of g.new)) }
     ensures size { OnOk result (size (gen_of g.new) ≤ size (gen_of g.old) + 9 * of_expr (expr_of x.now) + 9) }
+    ensures extends { Extends (gen_of g.old) (gen_of g.new) }
 {
     match op {
         Unary::NameOf => {
@@ -128,11 +135,13 @@ fn applied<'a>(
 
 // Puts the code for the value of `~` and its operand.
 #[cycle(tree)]
+#[tactic(auto, using(crate::proofs::Extensions::extends_trans))]
 fn negated<'a>(alloc: Global, g: &mut Generator<'a>, x: &'a Expr) -> Result<(), AllocError>
     requires countable { Countable (expr_of x.now) }
     requires room { size (gen_of g.old) + 9 * of_expr (expr_of x.now) + 9 < 2 ^ 31 }
     ensures emits { OnOk result (Emits (code.value (Apply u.Negate (expr_of x.now))) (gen_of g.old) (gen_of g.new)) }
     ensures size { OnOk result (size (gen_of g.new) ≤ size (gen_of g.old) + 9 * of_expr (expr_of x.now) + 9) }
+    ensures extends { Extends (gen_of g.old) (gen_of g.new) }
 {
     let number = g.len();
     g.put(Instr::Try(0))?;
@@ -148,6 +157,7 @@ fn negated<'a>(alloc: Global, g: &mut Generator<'a>, x: &'a Expr) -> Result<(), 
 
 // Puts the code for the value of a binary operator and its operands.
 #[cycle(tree)]
+#[tactic(auto, using(crate::proofs::Extensions::extends_trans))]
 fn combined<'a>(
     alloc: Global,
     g: &mut Generator<'a>,
@@ -160,6 +170,7 @@ fn combined<'a>(
     requires room { size (gen_of g.old) + 9 * (of_expr (expr_of x.now) + of_expr (expr_of y.now) + 1) < 2 ^ 31 }
     ensures emits { OnOk result (Emits (code.value (Combine op (expr_of x.now) (expr_of y.now))) (gen_of g.old) (gen_of g.new)) }
     ensures size { OnOk result (size (gen_of g.new) ≤ size (gen_of g.old) + 9 * (of_expr (expr_of x.now) + of_expr (expr_of y.now) + 1)) }
+    ensures extends { Extends (gen_of g.old) (gen_of g.new) }
 {
     value(alloc, g, x)?;
     wanted(alloc, g, takes_target(op), y)?;
@@ -179,6 +190,7 @@ fn wanted<'a>(
     requires room { size (gen_of g.old) + 9 * of_expr (expr_of e.now) < 2 ^ 31 }
     ensures emits { OnOk result (Emits (views.wanted wants_name (expr_of e.now)) (gen_of g.old) (gen_of g.new)) }
     ensures size { OnOk result (size (gen_of g.new) ≤ size (gen_of g.old) + 9 * of_expr (expr_of e.now)) }
+    ensures extends { Extends (gen_of g.old) (gen_of g.new) }
 {
     if wants_name {
         name(alloc, g, e)
@@ -189,6 +201,7 @@ fn wanted<'a>(
 
 // Puts the code of a call.
 #[cycle(tree)]
+#[tactic(auto, using(crate::proofs::Extensions::extends_trans))]
 fn called<'a>(
     alloc: Global,
     g: &mut Generator<'a>,
@@ -201,6 +214,7 @@ fn called<'a>(
     requires room { size (gen_of g.old) + 9 * of_args (args_of args.now) + 8 < 2 ^ 31 }
     ensures emits { OnOk result (Emits (views.called wants_name f.now (args_of args.now) (length args.now)) (gen_of g.old) (gen_of g.new)) }
     ensures size { OnOk result (size (gen_of g.new) ≤ size (gen_of g.old) + 9 * of_args (args_of args.now) + 8) }
+    ensures extends { Extends (gen_of g.old) (gen_of g.new) }
 {
     arguments(alloc, g, args)?;
     call(alloc, g, f, args.len(), wants_name)?;
@@ -209,6 +223,7 @@ fn called<'a>(
 
 // Puts the code for the name of a reference.
 #[cycle(tree)]
+#[tactic(auto, using(crate::proofs::Extensions::extends_trans))]
 fn element<'a>(
     alloc: Global,
     g: &mut Generator<'a>,
@@ -220,6 +235,7 @@ fn element<'a>(
     requires room { size (gen_of g.old) + 9 * of_args (args_of args.now) + 10 < 2 ^ 31 }
     ensures emits { OnOk result (Emits (views.element x.now (args_of args.now) (length args.now)) (gen_of g.old) (gen_of g.new)) }
     ensures size { OnOk result (size (gen_of g.new) ≤ size (gen_of g.old) + 9 * of_args (args_of args.now) + 10) }
+    ensures extends { Extends (gen_of g.old) (gen_of g.new) }
 {
     variable(alloc, g, x)?;
     g.put(Instr::Fetch)?;
@@ -239,6 +255,7 @@ fn arguments<'a>(
     requires room { size (gen_of g.old) + 9 * of_args (args_of args.now) < 2 ^ 31 }
     ensures emits { OnOk result (Emits (code.arguments (args_of args.now)) (gen_of g.old) (gen_of g.new)) }
     ensures size { OnOk result (size (gen_of g.new) ≤ size (gen_of g.old) + 9 * of_args (args_of args.now)) }
+    ensures extends { Extends (gen_of g.old) (gen_of g.new) }
 {
     for argument in args {
         match argument {

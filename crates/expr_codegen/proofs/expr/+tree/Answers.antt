@@ -16,6 +16,7 @@ use Rattle.expr_codegen.specs.Views as views
 use Rattle.expr_codegen.specs.Views.{gen_of}
 use Rattle.expr_codegen.proofs.Joins.{both, instr, deferred, changed, stays, nothing_put, on_ok}
 use Rattle.expr_codegen.proofs.Constructs.{value_of_tree, name_of_tree, value_of_op, name_of_op, value_as, name_as, as_part, combined_is, last_of_five, no_name, no_target}
+use Rattle.expr_codegen.proofs.Extensions.{extends_same, extends_trans, extends_changed}
 use Rattle.expr_codegen.proofs.Arguments.{loop_begins, loop_step, loop_ends, next_argument, no_heavier, call_of_slice, reference_of_slice, name_weighs}
 use Rattle.expr_codegen.proofs.expr.+tree.Goals as goal
 
@@ -64,6 +65,20 @@ negated-returns-clause-emits t c =
     c.at-target.ensures (instr op.Null _ _ c.in_ok-put-5.ensures.put)
     (c.change.ensures.put ∙ ap (λ n. with_changed n (op.Try c.at-target.result) (gen_of c.put-5.new.self)) c.len-number.ensures)
 
+pub negated-returns-in_err-put-4-clause-extends : goal.negated-returns-in_err-put-4-clause-extends
+negated-returns-in_err-put-4-clause-extends t c =
+    extends_trans c.put.ensures.extends (extends_trans c.value.ensures.extends (extends_trans c.put-2.ensures.extends (extends_trans c.put-3.ensures.extends c.put-4.ensures.extends)))
+
+pub negated-returns-in_err-put-5-clause-extends : goal.negated-returns-in_err-put-5-clause-extends
+negated-returns-in_err-put-5-clause-extends t c =
+    extends_trans c.put.ensures.extends (extends_trans c.value.ensures.extends (extends_trans c.put-2.ensures.extends (extends_trans c.put-3.ensures.extends (extends_trans c.put-4.ensures.extends c.put-5.ensures.extends))))
+
+pub negated-returns-clause-extends : goal.negated-returns-clause-extends
+negated-returns-clause-extends t c =
+    extends_changed c.len-number.result (op.Try c.at-target.result)
+    (extends_trans c.put.ensures.extends (extends_trans c.value.ensures.extends (extends_trans c.put-2.ensures.extends (extends_trans c.put-3.ensures.extends (extends_trans c.put-4.ensures.extends c.put-5.ensures.extends)))))
+    c.len-number.ensures c.change.ensures.put
+
 pub applied_name-returns-in_ok-value-in-Indirect-clause-emits : goal.applied_name-returns-in_ok-value-in-Indirect-clause-emits
 applied_name-returns-in_ok-value-in-Indirect-clause-emits t c =
     on_ok _ _ _ c.put.ensures.put (λ put. name_of_op c.args.op u.Indirect (expr_of c.args.x.now) c.in-Indirect.is (both c.in_ok-value-in-Indirect.ensures.emits (instr op.Indir _ _ put)))
@@ -85,9 +100,9 @@ arguments-loop-argument-preserved t c =
     let x = c.argument-item.result in
     elim c.match-argument.branch [
       | goal.arguments-in-Absent+in_ok-put-in-Absent w ↦ loop_step xs i x m.Absent (gen_of c.args.g.now) (gen_of c.loop-argument.g) _ _ (ap gen_of w.g-is) (ap arg_of w.in-Absent.is) c.loop-argument-test.true c.argument-item.is c.loop-argument.invariant
-          (instr op.Null _ _ w.in_ok-put-in-Absent.ensures.put) (let s = w.in_ok-put-in-Absent.ensures.size in omega (arith, s))
+          (instr op.Null _ _ w.in_ok-put-in-Absent.ensures.put) (let s = w.in_ok-put-in-Absent.ensures.size in omega (arith, s)) w.in_ok-put-in-Absent.ensures.extends
       | goal.arguments-in-Given+in_ok-value-in-Given w ↦ loop_step xs i x (m.Given (expr_of w.in-Given.e)) (gen_of c.args.g.now) (gen_of c.loop-argument.g) _ _ (ap gen_of w.g-is) (ap arg_of w.in-Given.is) c.loop-argument-test.true c.argument-item.is c.loop-argument.invariant
-          w.in_ok-value-in-Given.ensures.emits (let s = w.in_ok-value-in-Given.ensures.size in omega (arith, s))
+          w.in_ok-value-in-Given.ensures.emits (let s = w.in_ok-value-in-Given.ensures.size in omega (arith, s)) w.in_ok-value-in-Given.ensures.extends
     ]
 
 pub arguments-put-requires : goal.arguments-put-requires
@@ -115,6 +130,15 @@ pub arguments-returns-clause-emits : goal.arguments-returns-clause-emits
 arguments-returns-clause-emits t c =
     let none : drop c.loop-argument.argument-index c.args.args.now ≡ [] = grind (arith, common_steps, c.loop-argument-test.false) in
     loop_ends c.args.args.now c.loop-argument.argument-index (gen_of c.args.g.now) (gen_of c.loop-argument.g) none c.loop-argument.invariant
+
+pub arguments-returns-clause-extends : goal.arguments-returns-clause-extends
+arguments-returns-clause-extends t c = c.loop-argument.invariant.3
+
+pub arguments-returns-in_err-put-in-Absent-clause-extends : goal.arguments-returns-in_err-put-in-Absent-clause-extends
+arguments-returns-in_err-put-in-Absent-clause-extends t c = extends_trans c.loop-argument.invariant.3 c.put.ensures.extends
+
+pub arguments-returns-in_err-value-in-Given-clause-extends : goal.arguments-returns-in_err-value-in-Given-clause-extends
+arguments-returns-in_err-value-in-Given-clause-extends t c = extends_trans c.loop-argument.invariant.3 c.value.ensures.extends
 
 -- ---- calls and references
 
@@ -243,4 +267,4 @@ pub name-returns-in-Integer-4-clause-emits : goal.name-returns-in-Integer-4-clau
 name-returns-in-Integer-4-clause-emits t c = no_target c.args.e.now c.in-Integer.is
 
 pub applied_name-returns-in_default : goal.applied_name-returns-in_default
-applied_name-returns-in_default t c = record { emits = as_part (nothing_put _) (no_name c.args.op (expr_of c.args.x.now) c.in_default.not-Indirect); size = omega arith }
+applied_name-returns-in_default t c = record { emits = as_part (nothing_put _) (no_name c.args.op (expr_of c.args.x.now) c.in_default.not-Indirect); size = omega arith; extends = extends_same _ _ refl }
