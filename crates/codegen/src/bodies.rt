@@ -55,7 +55,6 @@ fn key_set<'a>(g: &mut Generator<'a>, name: &[u8]) -> Result<(), AllocError>
 }
 
 // Puts the code of an assignment.
-#[tactic(auto, using(expr_codegen::proofs::Extensions::extends_trans))]
 fn assignment<'a>(
     alloc: Global,
     g: &mut Generator<'a>,
@@ -83,7 +82,6 @@ fn assignment<'a>(
 }
 
 // Puts the code of a replacement.
-#[tactic(auto, using(expr_codegen::proofs::Extensions::extends_trans))]
 fn replacement<'a>(
     alloc: Global,
     g: &mut Generator<'a>,
@@ -108,7 +106,6 @@ fn replacement<'a>(
 }
 
 /// Puts the code of a body.
-#[tactic(auto, using(expr_codegen::proofs::Extensions::extends_trans))]
 pub fn body<'a>(alloc: Global, g: &mut Generator<'a>, b: &'a Body) -> Result<(), AllocError>
     requires countable { CountableBody (body_of b.now) }
     requires room { size (gen_of g.old) + 9 * weights.of_body (body_of b.now) < 2 ^ 31 }

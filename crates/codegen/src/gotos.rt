@@ -45,7 +45,6 @@ fn to_label(labels: &Labels, label: &[u8]) -> Instr
 }
 
 /// Puts the code that goes to a place.
-#[tactic(auto, using(expr_codegen::proofs::Extensions::extends_trans))]
 pub fn place<'a>(
     alloc: Global,
     g: &mut Generator<'a>,

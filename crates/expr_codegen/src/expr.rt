@@ -18,7 +18,6 @@ use std::alloc::{AllocError, Global};
 
 /// Puts the code for the value of an expression.
 #[cycle(tree)]
-#[tactic(auto, using(crate::proofs::Extensions::extends_trans))]
 pub fn value<'a>(alloc: Global, g: &mut Generator<'a>, e: &'a Expr) -> Result<(), AllocError>
     requires countable { Countable (expr_of e.now) }
     requires room { size (gen_of g.old) + 9 * of_expr (expr_of e.now) < 2 ^ 31 }
@@ -64,7 +63,6 @@ pub fn name<'a>(alloc: Global, g: &mut Generator<'a>, e: &'a Expr) -> Result<(),
 
 // Puts the code for the name that a unary operator and its operand give.
 #[cycle(tree)]
-#[tactic(auto, using(crate::proofs::Extensions::extends_trans))]
 fn applied_name<'a>(
     alloc: Global,
     g: &mut Generator<'a>,
@@ -88,7 +86,6 @@ fn applied_name<'a>(
 
 // Puts the code for the value of a unary operator and its operand.
 #[cycle(tree)]
-#[tactic(auto, using(crate::proofs::Extensions::extends_trans))]
 fn applied<'a>(
     alloc: Global,
     g: &mut Generator<'a>,
@@ -135,7 +132,6 @@ fn applied<'a>(
 
 // Puts the code for the value of `~` and its operand.
 #[cycle(tree)]
-#[tactic(auto, using(crate::proofs::Extensions::extends_trans))]
 fn negated<'a>(alloc: Global, g: &mut Generator<'a>, x: &'a Expr) -> Result<(), AllocError>
     requires countable { Countable (expr_of x.now) }
     requires room { size (gen_of g.old) + 9 * of_expr (expr_of x.now) + 9 < 2 ^ 31 }
@@ -157,7 +153,6 @@ fn negated<'a>(alloc: Global, g: &mut Generator<'a>, x: &'a Expr) -> Result<(), 
 
 // Puts the code for the value of a binary operator and its operands.
 #[cycle(tree)]
-#[tactic(auto, using(crate::proofs::Extensions::extends_trans))]
 fn combined<'a>(
     alloc: Global,
     g: &mut Generator<'a>,
@@ -201,7 +196,6 @@ fn wanted<'a>(
 
 // Puts the code of a call.
 #[cycle(tree)]
-#[tactic(auto, using(crate::proofs::Extensions::extends_trans))]
 fn called<'a>(
     alloc: Global,
     g: &mut Generator<'a>,
@@ -223,7 +217,6 @@ fn called<'a>(
 
 // Puts the code for the name of a reference.
 #[cycle(tree)]
-#[tactic(auto, using(crate::proofs::Extensions::extends_trans))]
 fn element<'a>(
     alloc: Global,
     g: &mut Generator<'a>,

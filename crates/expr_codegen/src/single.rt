@@ -12,7 +12,6 @@ use model::{Instr, KeyId, PrimId};
 use std::alloc::{AllocError, Global};
 
 /// Puts a variable's name.
-#[tactic(auto, using(crate::proofs::Extensions::extends_trans))]
 pub fn variable<'a>(alloc: Global, g: &mut Generator<'a>, name: &[u8]) -> Result<(), AllocError>
     requires { size (gen_of g.old) + 6 < 2 ^ 31 }
     ensures emits { OnOk result (Emits (with_string (λ k. Instr.Var k) name.now) (gen_of g.old) (gen_of g.new)) }
@@ -24,7 +23,6 @@ pub fn variable<'a>(alloc: Global, g: &mut Generator<'a>, name: &[u8]) -> Result
 }
 
 /// Puts a literal.
-#[tactic(auto, using(crate::proofs::Extensions::extends_trans))]
 pub fn literal<'a>(alloc: Global, g: &mut Generator<'a>, text: &[u8]) -> Result<(), AllocError>
     requires { size (gen_of g.old) + 6 < 2 ^ 31 }
     ensures emits { OnOk result (Emits (with_string (λ k. Instr.Str k) text.now) (gen_of g.old) (gen_of g.new)) }
@@ -71,7 +69,6 @@ fn own_call(wants_name: bool, name: u32, count: u16) -> Instr
 }
 
 /// Puts the call of a function behind its arguments, for a name or for a value.
-#[tactic(auto, using(crate::proofs::Extensions::extends_trans))]
 pub fn call<'a>(
     alloc: Global,
     g: &mut Generator<'a>,

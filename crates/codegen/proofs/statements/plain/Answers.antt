@@ -30,3 +30,9 @@ returns-clause-extends c =
     extends_changed c.len-begin.result (op.Begin c.at-failed.result)
     (extends_trans c.put.ensures.extends (extends_trans c.body.ensures.extends (extends_trans c.put-2.ensures.extends (extends_trans c.after_success.ensures.extends c.after_failure.ensures.extends))))
     c.len-begin.ensures c.change.ensures.put
+
+pub returns-in_err-body-clause-extends : goal.returns-in_err-body-clause-extends
+returns-in_err-body-clause-extends c = extends_trans c.put.ensures.extends c.body.ensures.extends
+
+pub returns-in_err-put-2-clause-extends : goal.returns-in_err-put-2-clause-extends
+returns-in_err-put-2-clause-extends c = extends_trans c.put.ensures.extends (extends_trans c.body.ensures.extends c.put-2.ensures.extends)

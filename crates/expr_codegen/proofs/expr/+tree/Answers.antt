@@ -65,20 +65,6 @@ negated-returns-clause-emits t c =
     c.at-target.ensures (instr op.Null _ _ c.in_ok-put-5.ensures.put)
     (c.change.ensures.put ∙ ap (λ n. with_changed n (op.Try c.at-target.result) (gen_of c.put-5.new.self)) c.len-number.ensures)
 
-pub negated-returns-in_err-put-4-clause-extends : goal.negated-returns-in_err-put-4-clause-extends
-negated-returns-in_err-put-4-clause-extends t c =
-    extends_trans c.put.ensures.extends (extends_trans c.value.ensures.extends (extends_trans c.put-2.ensures.extends (extends_trans c.put-3.ensures.extends c.put-4.ensures.extends)))
-
-pub negated-returns-in_err-put-5-clause-extends : goal.negated-returns-in_err-put-5-clause-extends
-negated-returns-in_err-put-5-clause-extends t c =
-    extends_trans c.put.ensures.extends (extends_trans c.value.ensures.extends (extends_trans c.put-2.ensures.extends (extends_trans c.put-3.ensures.extends (extends_trans c.put-4.ensures.extends c.put-5.ensures.extends))))
-
-pub negated-returns-clause-extends : goal.negated-returns-clause-extends
-negated-returns-clause-extends t c =
-    extends_changed c.len-number.result (op.Try c.at-target.result)
-    (extends_trans c.put.ensures.extends (extends_trans c.value.ensures.extends (extends_trans c.put-2.ensures.extends (extends_trans c.put-3.ensures.extends (extends_trans c.put-4.ensures.extends c.put-5.ensures.extends)))))
-    c.len-number.ensures c.change.ensures.put
-
 pub applied_name-returns-in_ok-value-in-Indirect-clause-emits : goal.applied_name-returns-in_ok-value-in-Indirect-clause-emits
 applied_name-returns-in_ok-value-in-Indirect-clause-emits t c =
     on_ok _ _ _ c.put.ensures.put (λ put. name_of_op c.args.op u.Indirect (expr_of c.args.x.now) c.in-Indirect.is (both c.in_ok-value-in-Indirect.ensures.emits (instr op.Indir _ _ put)))
@@ -268,3 +254,88 @@ name-returns-in-Integer-4-clause-emits t c = no_target c.args.e.now c.in-Integer
 
 pub applied_name-returns-in_default : goal.applied_name-returns-in_default
 applied_name-returns-in_default t c = record { emits = as_part (nothing_put _) (no_name c.args.op (expr_of c.args.x.now) c.in_default.not-Indirect); size = omega arith; extends = extends_same _ _ refl }
+
+-- ---- what was put stands
+
+pub value-returns-in_ok-variable-in-Name-clause-extends : goal.value-returns-in_ok-variable-in-Name-clause-extends
+value-returns-in_ok-variable-in-Name-clause-extends t c = extends_trans c.variable.ensures.extends c.put.ensures.extends
+
+pub value-returns-in_ok-element-in-Reference-clause-extends : goal.value-returns-in_ok-element-in-Reference-clause-extends
+value-returns-in_ok-element-in-Reference-clause-extends t c = extends_trans c.element.ensures.extends c.put-in-Reference.ensures.extends
+
+pub applied_name-returns-in_ok-value-in-Indirect-clause-extends : goal.applied_name-returns-in_ok-value-in-Indirect-clause-extends
+applied_name-returns-in_ok-value-in-Indirect-clause-extends t c = extends_trans c.value.ensures.extends c.put.ensures.extends
+
+pub applied-returns-in_ok-name-in-NameOf-clause-extends : goal.applied-returns-in_ok-name-in-NameOf-clause-extends
+applied-returns-in_ok-name-in-NameOf-clause-extends t c = extends_trans c.name.ensures.extends c.put.ensures.extends
+
+pub applied-returns-in_ok-name-in-Cursor-clause-extends : goal.applied-returns-in_ok-name-in-Cursor-clause-extends
+applied-returns-in_ok-name-in-Cursor-clause-extends t c = extends_trans c.name-in-Cursor.ensures.extends c.put-in-Cursor.ensures.extends
+
+pub applied-returns-in_err-put-in-Indirect-clause-extends : goal.applied-returns-in_err-put-in-Indirect-clause-extends
+applied-returns-in_err-put-in-Indirect-clause-extends t c = extends_trans c.value.ensures.extends c.put-in-Indirect.ensures.extends
+
+pub applied-returns-in_ok-put-in-Indirect-clause-extends : goal.applied-returns-in_ok-put-in-Indirect-clause-extends
+applied-returns-in_ok-put-in-Indirect-clause-extends t c = extends_trans c.value.ensures.extends (extends_trans c.put-in-Indirect.ensures.extends c.put-in-Indirect-2.ensures.extends)
+
+pub applied-returns-in_ok-value-in-Plus-clause-extends : goal.applied-returns-in_ok-value-in-Plus-clause-extends
+applied-returns-in_ok-value-in-Plus-clause-extends t c = extends_trans c.value-in-Plus.ensures.extends c.put-in-Plus.ensures.extends
+
+pub applied-returns-in_ok-value-in-Minus-clause-extends : goal.applied-returns-in_ok-value-in-Minus-clause-extends
+applied-returns-in_ok-value-in-Minus-clause-extends t c = extends_trans c.value-in-Minus.ensures.extends c.put-in-Minus.ensures.extends
+
+pub applied-returns-in_err-put-in-Interrogate-clause-extends : goal.applied-returns-in_err-put-in-Interrogate-clause-extends
+applied-returns-in_err-put-in-Interrogate-clause-extends t c = extends_trans c.value-in-Interrogate.ensures.extends c.put-in-Interrogate.ensures.extends
+
+pub applied-returns-in_ok-put-in-Interrogate-clause-extends : goal.applied-returns-in_ok-put-in-Interrogate-clause-extends
+applied-returns-in_ok-put-in-Interrogate-clause-extends t c = extends_trans c.value-in-Interrogate.ensures.extends (extends_trans c.put-in-Interrogate.ensures.extends c.put-in-Interrogate-2.ensures.extends)
+
+pub negated-returns-in_err-value-clause-extends : goal.negated-returns-in_err-value-clause-extends
+negated-returns-in_err-value-clause-extends t c = extends_trans c.put.ensures.extends c.value.ensures.extends
+
+pub negated-returns-in_err-put-2-clause-extends : goal.negated-returns-in_err-put-2-clause-extends
+negated-returns-in_err-put-2-clause-extends t c = extends_trans c.put.ensures.extends (extends_trans c.value.ensures.extends c.put-2.ensures.extends)
+
+pub negated-returns-in_err-put-3-clause-extends : goal.negated-returns-in_err-put-3-clause-extends
+negated-returns-in_err-put-3-clause-extends t c = extends_trans c.put.ensures.extends (extends_trans c.value.ensures.extends (extends_trans c.put-2.ensures.extends c.put-3.ensures.extends))
+
+pub negated-returns-in_err-put-4-clause-extends : goal.negated-returns-in_err-put-4-clause-extends
+negated-returns-in_err-put-4-clause-extends t c =
+    extends_trans c.put.ensures.extends (extends_trans c.value.ensures.extends (extends_trans c.put-2.ensures.extends (extends_trans c.put-3.ensures.extends c.put-4.ensures.extends)))
+
+pub negated-returns-in_err-put-5-clause-extends : goal.negated-returns-in_err-put-5-clause-extends
+negated-returns-in_err-put-5-clause-extends t c =
+    extends_trans c.put.ensures.extends (extends_trans c.value.ensures.extends (extends_trans c.put-2.ensures.extends (extends_trans c.put-3.ensures.extends (extends_trans c.put-4.ensures.extends c.put-5.ensures.extends))))
+
+pub negated-returns-clause-extends : goal.negated-returns-clause-extends
+negated-returns-clause-extends t c =
+    extends_changed c.len-number.result (op.Try c.at-target.result)
+    (extends_trans c.put.ensures.extends (extends_trans c.value.ensures.extends (extends_trans c.put-2.ensures.extends (extends_trans c.put-3.ensures.extends (extends_trans c.put-4.ensures.extends c.put-5.ensures.extends)))))
+    c.len-number.ensures c.change.ensures.put
+
+pub combined-returns-in_err-wanted-clause-extends : goal.combined-returns-in_err-wanted-clause-extends
+combined-returns-in_err-wanted-clause-extends t c = extends_trans c.value.ensures.extends c.wanted.ensures.extends
+
+pub combined-returns-in_err-put-clause-extends : goal.combined-returns-in_err-put-clause-extends
+combined-returns-in_err-put-clause-extends t c = extends_trans c.value.ensures.extends (extends_trans c.wanted.ensures.extends c.put.ensures.extends)
+
+pub combined-returns-clause-extends : goal.combined-returns-clause-extends
+combined-returns-clause-extends t c = extends_trans c.value.ensures.extends (extends_trans c.wanted.ensures.extends c.put.ensures.extends)
+
+pub called-returns-in_err-call-clause-extends : goal.called-returns-in_err-call-clause-extends
+called-returns-in_err-call-clause-extends t c = extends_trans c.arguments.ensures.extends c.call.ensures.extends
+
+pub called-returns-clause-extends : goal.called-returns-clause-extends
+called-returns-clause-extends t c = extends_trans c.arguments.ensures.extends c.call.ensures.extends
+
+pub element-returns-in_err-put-clause-extends : goal.element-returns-in_err-put-clause-extends
+element-returns-in_err-put-clause-extends t c = extends_trans c.variable.ensures.extends c.put.ensures.extends
+
+pub element-returns-in_err-arguments-clause-extends : goal.element-returns-in_err-arguments-clause-extends
+element-returns-in_err-arguments-clause-extends t c = extends_trans c.variable.ensures.extends (extends_trans c.put.ensures.extends c.arguments.ensures.extends)
+
+pub element-returns-in_err-put-2-clause-extends : goal.element-returns-in_err-put-2-clause-extends
+element-returns-in_err-put-2-clause-extends t c = extends_trans c.variable.ensures.extends (extends_trans c.put.ensures.extends (extends_trans c.arguments.ensures.extends c.put-2.ensures.extends))
+
+pub element-returns-clause-extends : goal.element-returns-clause-extends
+element-returns-clause-extends t c = extends_trans c.variable.ensures.extends (extends_trans c.put.ensures.extends (extends_trans c.arguments.ensures.extends c.put-2.ensures.extends))
