@@ -7,7 +7,7 @@ ghost use Rattle.model.specs.Trees as trees;
 ghost use Rattle.model.specs.TreeViews.{body_of, expr_of, object_of};
 ghost use Rattle.model.specs.Weights as weights;
 ghost use Rattle.expr_codegen.specs.Code.{with_key};
-ghost use Rattle.expr_codegen.specs.Emitting.{Countable, Emits, size};
+ghost use Rattle.expr_codegen.specs.Emitting.{Countable, Emits, Extends, size};
 ghost use Rattle.expr_codegen.specs.Views.{gen_of};
 ghost use Rattle.codegen.specs.Countable.{CountableBody, CountableObject};
 ghost use Rattle.codegen.specs.Layout as layout;
@@ -33,6 +33,7 @@ fn object<'a>(alloc: Global, g: &mut Generator<'a>, o: &'a Option<Expr>) -> Resu
     requires room { size (gen_of g.old) + 9 * weights.of_object (object_of o.now) + 1 < 2 ^ 31 }
     ensures emits { OnOk result (Emits (layout.object (object_of o.now)) (gen_of g.old) (gen_of g.new)) }
     ensures size { OnOk result (size (gen_of g.new) ≤ size (gen_of g.old) + 9 * weights.of_object (object_of o.now) + 1) }
+    ensures extends { Extends (gen_of g.old) (gen_of g.new) }
 {
     match o {
         Some(e) => value(alloc, g, e),
@@ -45,6 +46,7 @@ fn key_set<'a>(g: &mut Generator<'a>, name: &[u8]) -> Result<(), AllocError>
     requires { size (gen_of g.old) + 2 < 2 ^ 31 }
     ensures emits { OnOk result (Emits (with_key (λ k. Instr.KeySet k) (key_named name.now)) (gen_of g.old) (gen_of g.new)) }
     ensures size { OnOk result (size (gen_of g.new) ≤ size (gen_of g.old) + 2) }
+    ensures extends { Extends (gen_of g.old) (gen_of g.new) }
 {
     if let Some(key) = KeyId::named(name) {
         g.put(Instr::KeySet(key))?;
@@ -64,6 +66,7 @@ fn assignment<'a>(
     requires room { size (gen_of g.old) + 9 * (weights.of_expr (expr_of subject.now) + weights.of_object (object_of o.now) + 3) < 2 ^ 31 }
     ensures emits { OnOk result (Emits (layout.assignment (meaning.key_target (expr_of subject.now)) (expr_of subject.now) (object_of o.now)) (gen_of g.old) (gen_of g.new)) }
     ensures size { OnOk result (size (gen_of g.new) ≤ size (gen_of g.old) + 9 * (weights.of_expr (expr_of subject.now) + weights.of_object (object_of o.now) + 3)) }
+    ensures extends { Extends (gen_of g.old) (gen_of g.new) }
 {
     match key_target(subject) {
         Some(key) => {
@@ -92,6 +95,7 @@ fn replacement<'a>(
     requires room { size (gen_of g.old) + 9 * (weights.of_expr (expr_of subject.now) + weights.of_expr (expr_of pattern.now) + weights.of_object (object_of o.now) + 4) < 2 ^ 31 }
     ensures emits { OnOk result (Emits (layout.body (trees.Replace (expr_of subject.now) (expr_of pattern.now) (object_of o.now))) (gen_of g.old) (gen_of g.new)) }
     ensures size { OnOk result (size (gen_of g.new) ≤ size (gen_of g.old) + 9 * (weights.of_expr (expr_of subject.now) + weights.of_expr (expr_of pattern.now) + weights.of_object (object_of o.now) + 4)) }
+    ensures extends { Extends (gen_of g.old) (gen_of g.new) }
 {
     name(alloc, g, subject)?;
     g.put(Instr::FetchK)?;
@@ -107,6 +111,7 @@ pub fn body<'a>(alloc: Global, g: &mut Generator<'a>, b: &'a Body) -> Result<(),
     requires room { size (gen_of g.old) + 9 * weights.of_body (body_of b.now) < 2 ^ 31 }
     ensures emits { OnOk result (Emits (layout.body (body_of b.now)) (gen_of g.old) (gen_of g.new)) }
     ensures size { OnOk result (size (gen_of g.new) ≤ size (gen_of g.old) + 9 * weights.of_body (body_of b.now)) }
+    ensures extends { Extends (gen_of g.old) (gen_of g.new) }
 {
     match b {
         Body::Nothing => Ok(()),

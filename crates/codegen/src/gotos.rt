@@ -4,7 +4,7 @@ ghost use Rattle.std.specs.Prelude.{◌≡◌, ◌<◌, ◌≤◌, ◌+◌, ◌*
 ghost use Rattle.model.specs.Calls as calls;
 ghost use Rattle.model.specs.TreeViews.{goto_of, place_of};
 ghost use Rattle.model.specs.Weights as weights;
-ghost use Rattle.expr_codegen.specs.Emitting.{Emits, size};
+ghost use Rattle.expr_codegen.specs.Emitting.{Emits, Extends, size};
 ghost use Rattle.expr_codegen.specs.Views.{gen_of};
 ghost use Rattle.codegen.specs.Countable as countables;
 ghost use Rattle.codegen.specs.Countable.{CountableGoto, CountablePlace};
@@ -55,6 +55,7 @@ pub fn place<'a>(
     requires room { size (gen_of g.old) + 9 * weights.of_place (place_of p.now) < 2 ^ 31 }
     ensures emits { OnOk result (Emits (layout.place (number_in labels.now) (place_of p.now)) (gen_of g.old) (gen_of g.new)) }
     ensures size { OnOk result (size (gen_of g.new) ≤ size (gen_of g.old) + 9 * weights.of_place (place_of p.now)) }
+    ensures extends { Extends (gen_of g.old) (gen_of g.new) }
 {
     match p {
         Place::Label(l) => g.put(to_label(labels, l)),
@@ -78,6 +79,7 @@ pub fn after_success<'a>(
     requires room { size (gen_of g.old) + 9 * weights.of_goto (goto_of goto.now) < 2 ^ 31 }
     ensures emits { OnOk result (Emits (layout.after_success (number_in labels.now) number (goto_of goto.now)) (gen_of g.old) (gen_of g.new)) }
     ensures size { OnOk result (size (gen_of g.new) + 9 * countables.of_failure (goto_of goto.now) ≤ size (gen_of g.old) + 9 * weights.of_goto (goto_of goto.now)) }
+    ensures extends { Extends (gen_of g.old) (gen_of g.new) }
 {
     match goto {
         Goto::OnSuccess(p) => place(alloc, g, labels, p),
@@ -99,6 +101,7 @@ pub fn after_failure<'a>(
     requires room { size (gen_of g.old) + 9 * countables.of_failure (goto_of goto.now) < 2 ^ 31 }
     ensures emits { OnOk result (Emits (layout.after_failure (number_in labels.now) (goto_of goto.now)) (gen_of g.old) (gen_of g.new)) }
     ensures size { OnOk result (size (gen_of g.new) ≤ size (gen_of g.old) + 9 * countables.of_failure (goto_of goto.now)) }
+    ensures extends { Extends (gen_of g.old) (gen_of g.new) }
 {
     match goto {
         Goto::Always(p) => place(alloc, g, labels, p),

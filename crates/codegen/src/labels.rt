@@ -1,6 +1,6 @@
 //! The table of labels.
 
-ghost use Rattle.std.specs.Prelude.{◌≡◌, ◌<◌, ◌^◌, List, [], ℕ, map, length, option_map, OnOk, IfOk};
+ghost use Rattle.std.specs.Prelude.{◌≡◌, ◌<◌, ◌^◌, List, [], ℕ, map, length, option_map, OnOk, OnErr, IfOk};
 ghost use Rattle.model.specs.Programs as programs;
 ghost use Rattle.model.specs.TreeViews.{stmt_of};
 ghost use Rattle.codegen.specs.Labels.{entry_by, entry_of, number_in, with_label};
@@ -47,7 +47,8 @@ impl Labels {
 
     /// Notes the number of a label's statement, unless the label has one.
     pub fn note(&mut self, alloc: Global, label: &[u8], number: u32) -> Result<(), AllocError>
-        ensures { OnOk result (self.new ≡ with_label label.now number self.old) }
+        ensures noted { OnOk result (self.new ≡ with_label label.now number self.old) }
+        ensures refused { OnErr result (self.new ≡ self.old) }
     {
         if self.find(label).is_some() {
             return Ok(());

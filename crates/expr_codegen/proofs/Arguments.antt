@@ -13,8 +13,9 @@ use Rattle.model.specs.Faults.{count}
 use Rattle.model.specs.Weights.{of_name, of_arg, of_args}
 use Rattle.model.proofs.ArgumentLists.{call_is, reference_is, count_is}
 use Rattle.expr_codegen.specs.Code.{Part, nothing, one, ◌>>◌, value, arguments}
-use Rattle.expr_codegen.specs.Emitting.{Gen, Emits, Countable, AllCountable, size}
+use Rattle.expr_codegen.specs.Emitting.{Gen, Emits, Extends, Countable, AllCountable, size}
 use Rattle.expr_codegen.proofs.Joins.{both, nothing_put}
+use Rattle.expr_codegen.proofs.Extensions.{extends_same, extends_trans}
 
 -- ---- calls and references
 
@@ -59,13 +60,14 @@ Kept xs i g h =
     ((j : Gen) → Emits (arguments (args_of (drop i xs))) h j → Emits (arguments (args_of xs)) g j)
     × AllCountable (args_of (drop i xs))
     × (size h + 9 * of_args (args_of (drop i xs)) ≤ size g + 9 * of_args (args_of xs))
+    × Extends g h
 
 pub loop_begins : (xs : List Argument) (g : Gen) → AllCountable (args_of xs) → Kept xs 0 g g
-loop_begins xs g h = (λ j x. x, h, omega arith)
+loop_begins xs g h = (λ j x. x, h, omega arith, extends_same g g refl)
 
 pub loop_step : (xs : List Argument) (i : ℕ) (x : Argument) (a : Arg) (g h k j : Gen) → j ≡ k → arg_of x ≡ a → i < length xs → x ≡ get_or xs i x → Kept xs i g h → Emits (argument a) h k
-    → size k ≤ size h + 9 * of_arg a + 9 → Kept xs (i + 1) g j
-loop_step xs i x a g h k j same is t at inv put s =
+    → size k ≤ size h + 9 * of_arg a + 9 → Extends h k → Kept xs (i + 1) g j
+loop_step xs i x a g h k j same is t at inv put s more =
     let rest : Args = args_of (drop (i + 1) xs) in
     let next : args_of (drop i xs) ≡ More a rest = next_argument xs i x t at ∙ ap (λ a. More a rest) is in
     let w = ap of_args next in
@@ -74,6 +76,7 @@ loop_step xs i x a g h k j same is t at inv put s =
       (λ o z. inv.0 o (subst (λ p. Emits p h o) (argument_first a rest ∙ ap arguments (sym next)) (both put z))),
       rest_countable a rest (subst AllCountable next inv.1),
       omega (arith, w, y, s),
+      extends_trans inv.3 more,
     )
 
 pub loop_ends : (xs : List Argument) (i : ℕ) (g h : Gen) → drop i xs ≡ [] → Kept xs i g h → Emits (arguments (args_of xs)) g h

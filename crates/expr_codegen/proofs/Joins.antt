@@ -75,7 +75,7 @@ size_waiting x g w h e =
 
 -- ---- strings
 
-longer_text : (t : Bytes) (ss : List Bytes) → Longer ss (with_text t ss)
+pub longer_text : (t : Bytes) (ss : List Bytes) → Longer ss (with_text t ss)
 longer_text t [] = (t ∷ [], refl)
 longer_text t (s ∷ ss) = elim (bytes_eq t s) as (λ b. Longer (s ∷ ss) (if b then s ∷ ss else s ∷ with_text t ss)) [
   | true ↦ ([], nil_right (s ∷ ss))

@@ -2,3 +2,4 @@ pub mod TextPlaces
 pub mod Joins
 pub mod Constructs
 pub mod Arguments
+pub mod Extensions

@@ -28,6 +28,13 @@ pub record Emits (p : Part) (g h : Gen) : Type 0 where
   pub waiting : h.waiting ≡ g.waiting ++ p.later
   pub taken : h.taken ≡ g.taken
 
+-- what was put stands, and further instructions, strings and expressions may stand at the ends
+pub record Extends (g h : Gen) : Type 0 where
+  pub code : Longer g.code h.code
+  pub texts : Longer g.texts h.texts
+  pub waiting : Longer g.waiting h.waiting
+  pub taken : h.taken ≡ g.taken
+
 -- ---- single steps
 
 abbrev pub with_instr : Instr → Gen → Gen

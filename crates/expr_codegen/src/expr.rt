@@ -7,7 +7,7 @@ ghost use Rattle.model.specs.Trees.{Apply, Combine};
 ghost use Rattle.model.specs.TreeViews.{expr_of, args_of};
 ghost use Rattle.model.specs.Weights.{of_expr, of_args};
 ghost use Rattle.expr_codegen.specs.Code as code;
-ghost use Rattle.expr_codegen.specs.Emitting.{Emits, Countable, AllCountable, size, most_counted};
+ghost use Rattle.expr_codegen.specs.Emitting.{Emits, Extends, Countable, AllCountable, size, most_counted};
 ghost use Rattle.expr_codegen.specs.Views as views;
 ghost use Rattle.expr_codegen.specs.Views.{gen_of};
 
@@ -23,6 +23,7 @@ pub fn value<'a>(alloc: Global, g: &mut Generator<'a>, e: &'a Expr) -> Result<()
     requires room { size (gen_of g.old) + 9 * of_expr (expr_of e.now) < 2 ^ 31 }
     ensures emits { OnOk result (Emits (code.value (expr_of e.now)) (gen_of g.old) (gen_of g.new)) }
     ensures size { OnOk result (size (gen_of g.new) ≤ size (gen_of g.old) + 9 * of_expr (expr_of e.now)) }
+    ensures extends { Extends (gen_of g.old) (gen_of g.new) }
 {
     match e {
         Expr::Name(x) => {
@@ -49,6 +50,7 @@ pub fn name<'a>(alloc: Global, g: &mut Generator<'a>, e: &'a Expr) -> Result<(),
     requires room { size (gen_of g.old) + 9 * of_expr (expr_of e.now) < 2 ^ 31 }
     ensures emits { OnOk result (Emits (code.name (expr_of e.now)) (gen_of g.old) (gen_of g.new)) }
     ensures size { OnOk result (size (gen_of g.new) ≤ size (gen_of g.old) + 9 * of_expr (expr_of e.now)) }
+    ensures extends { Extends (gen_of g.old) (gen_of g.new) }
 {
     match e {
         Expr::Name(x) => variable(alloc, g, x),
@@ -71,6 +73,7 @@ fn applied_name<'a>(
     requires room { size (gen_of g.old) + 9 * of_expr (expr_of x.now) + 9 < 2 ^ 31 }
     ensures emits { OnOk result (Emits (code.name (Apply op (expr_of x.now))) (gen_of g.old) (gen_of g.new)) }
     ensures size { OnOk result (size (gen_of g.new) ≤ size (gen_of g.old) + 9 * of_expr (expr_of x.now) + 9) }
+    ensures extends { Extends (gen_of g.old) (gen_of g.new) }
 {
     match op {
         Unary::Indirect => {
@@ -93,6 +96,7 @@ fn applied<'a>(
     requires room { size (gen_of g.old) + 9 * of_expr (expr_of x.now) + 9 < 2 ^ 31 }
     ensures emits { OnOk result (Emits (code.value (Apply op (expr_of x.now))) (gen_of g.old) (gen_of g.new)) }
     ensures size { OnOk result (size (gen_of g.new) ≤ size (gen_of g.old) + 9 * of_expr (expr_of x.now) + 9) }
+    ensures extends { Extends (gen_of g.old) (gen_of g.new) }
 {
     match op {
         Unary::NameOf => {
@@ -133,6 +137,7 @@ fn negated<'a>(alloc: Global, g: &mut Generator<'a>, x: &'a Expr) -> Result<(), 
     requires room { size (gen_of g.old) + 9 * of_expr (expr_of x.now) + 9 < 2 ^ 31 }
     ensures emits { OnOk result (Emits (code.value (Apply u.Negate (expr_of x.now))) (gen_of g.old) (gen_of g.new)) }
     ensures size { OnOk result (size (gen_of g.new) ≤ size (gen_of g.old) + 9 * of_expr (expr_of x.now) + 9) }
+    ensures extends { Extends (gen_of g.old) (gen_of g.new) }
 {
     let number = g.len();
     g.put(Instr::Try(0))?;
@@ -160,6 +165,7 @@ fn combined<'a>(
     requires room { size (gen_of g.old) + 9 * (of_expr (expr_of x.now) + of_expr (expr_of y.now) + 1) < 2 ^ 31 }
     ensures emits { OnOk result (Emits (code.value (Combine op (expr_of x.now) (expr_of y.now))) (gen_of g.old) (gen_of g.new)) }
     ensures size { OnOk result (size (gen_of g.new) ≤ size (gen_of g.old) + 9 * (of_expr (expr_of x.now) + of_expr (expr_of y.now) + 1)) }
+    ensures extends { Extends (gen_of g.old) (gen_of g.new) }
 {
     value(alloc, g, x)?;
     wanted(alloc, g, takes_target(op), y)?;
@@ -179,6 +185,7 @@ fn wanted<'a>(
     requires room { size (gen_of g.old) + 9 * of_expr (expr_of e.now) < 2 ^ 31 }
     ensures emits { OnOk result (Emits (views.wanted wants_name (expr_of e.now)) (gen_of g.old) (gen_of g.new)) }
     ensures size { OnOk result (size (gen_of g.new) ≤ size (gen_of g.old) + 9 * of_expr (expr_of e.now)) }
+    ensures extends { Extends (gen_of g.old) (gen_of g.new) }
 {
     if wants_name {
         name(alloc, g, e)
@@ -201,6 +208,7 @@ fn called<'a>(
     requires room { size (gen_of g.old) + 9 * of_args (args_of args.now) + 8 < 2 ^ 31 }
     ensures emits { OnOk result (Emits (views.called wants_name f.now (args_of args.now) (length args.now)) (gen_of g.old) (gen_of g.new)) }
     ensures size { OnOk result (size (gen_of g.new) ≤ size (gen_of g.old) + 9 * of_args (args_of args.now) + 8) }
+    ensures extends { Extends (gen_of g.old) (gen_of g.new) }
 {
     arguments(alloc, g, args)?;
     call(alloc, g, f, args.len(), wants_name)?;
@@ -220,6 +228,7 @@ fn element<'a>(
     requires room { size (gen_of g.old) + 9 * of_args (args_of args.now) + 10 < 2 ^ 31 }
     ensures emits { OnOk result (Emits (views.element x.now (args_of args.now) (length args.now)) (gen_of g.old) (gen_of g.new)) }
     ensures size { OnOk result (size (gen_of g.new) ≤ size (gen_of g.old) + 9 * of_args (args_of args.now) + 10) }
+    ensures extends { Extends (gen_of g.old) (gen_of g.new) }
 {
     variable(alloc, g, x)?;
     g.put(Instr::Fetch)?;
@@ -239,6 +248,7 @@ fn arguments<'a>(
     requires room { size (gen_of g.old) + 9 * of_args (args_of args.now) < 2 ^ 31 }
     ensures emits { OnOk result (Emits (code.arguments (args_of args.now)) (gen_of g.old) (gen_of g.new)) }
     ensures size { OnOk result (size (gen_of g.new) ≤ size (gen_of g.old) + 9 * of_args (args_of args.now)) }
+    ensures extends { Extends (gen_of g.old) (gen_of g.new) }
 {
     for argument in args {
         match argument {

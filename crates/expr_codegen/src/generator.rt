@@ -1,6 +1,6 @@
 //! The state of a generator.
 
-ghost use Rattle.std.specs.Prelude.{◌≡◌, ◌<◌, ◌≤◌, ◌+◌, ◌*◌, ◌^◌, [], length, map, option_map, IfOk, OnOk};
+ghost use Rattle.std.specs.Prelude.{◌≡◌, ◌<◌, ◌≤◌, ◌+◌, ◌*◌, ◌^◌, [], length, map, option_map, IfOk, OnOk, OnErr};
 ghost use Rattle.model.specs.Modules.{bytes, total};
 ghost use Rattle.model.specs.TreeViews.{expr_of};
 ghost use Rattle.model.specs.Weights.{of_expr};
@@ -71,6 +71,8 @@ impl<'a> Generator<'a> {
         requires { size (gen_of self.old) + bytes i < 2 ^ 31 }
         ensures put { OnOk result (gen_of self.new ≡ spec.with_instr i (gen_of self.old)) }
         ensures size { OnOk result (size (gen_of self.new) ≡ size (gen_of self.old) + bytes i) }
+        ensures refused { OnErr result (gen_of self.new ≡ gen_of self.old) }
+        ensures extends { spec.Extends (gen_of self.old) (gen_of self.new) }
     {
         self.code.push(i)?;
         self.at += length_of(i);
@@ -83,6 +85,8 @@ impl<'a> Generator<'a> {
         requires { size (gen_of self.old) < 2 ^ 31 }
         ensures numbered { IfOk result (λ k. spec.Numbered text.now k (gen_of self.old) (gen_of self.new)) }
         ensures size { OnOk result (size (gen_of self.new) ≤ size (gen_of self.old) + 1) }
+        ensures refused { OnErr result (gen_of self.new ≡ gen_of self.old) }
+        ensures extends { spec.Extends (gen_of self.old) (gen_of self.new) }
     {
         self.strings.number(alloc, text)
     }
@@ -93,6 +97,7 @@ impl<'a> Generator<'a> {
         requires { size (gen_of self.old) + 9 * of_expr (expr_of x.now) + 7 < 2 ^ 31 }
         ensures put { OnOk result (gen_of self.new ≡ spec.with_waiting (expr_of x.now) (spec.with_instr (Instr.Expr (length (gen_of self.old).waiting)) (gen_of self.old))) }
         ensures size { OnOk result (size (gen_of self.new) ≡ size (gen_of self.old) + 9 * of_expr (expr_of x.now) + 7) }
+        ensures extends { spec.Extends (gen_of self.old) (gen_of self.new) }
     {
         let number = self.waiting.len() as u32;
         self.put(Instr::Expr(number))?;

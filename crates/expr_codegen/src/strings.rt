@@ -41,6 +41,7 @@ impl Strings {
         ensures put { OnOk result (self.new ≡ with_text text.now self.old) }
         ensures place { IfOk result (λ k. k ≡ place_of text.now self.new) }
         ensures few { OnOk result (length self.new ≤ length self.old + 1) }
+        ensures refused { OnErr result (self.new ≡ self.old) }
     {
         let text = Vec::from_slice(alloc, text)?;
         let (index, _) = self.set.insert_full(text)?;

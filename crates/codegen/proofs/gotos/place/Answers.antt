@@ -9,6 +9,7 @@ use Rattle.expr_codegen.proofs.Joins.{both, instr, on_ok}
 use Rattle.expr_codegen.proofs.Constructs.{as_part}
 use Rattle.codegen.specs.Labels.{number_in}
 use Rattle.codegen.specs.Layout as layout
+use Rattle.expr_codegen.proofs.Extensions.{extends_trans}
 use Rattle.codegen.proofs.gotos.place.Goals as goal
 
 pub returns-in-Label-clause-emits : goal.returns-in-Label-clause-emits
@@ -19,3 +20,6 @@ returns-in-Label-clause-emits c =
 pub returns-in_ok-value-in-Computed-clause-emits : goal.returns-in_ok-value-in-Computed-clause-emits
 returns-in_ok-value-in-Computed-clause-emits c =
     on_ok _ _ _ c.put-in-Computed.ensures.put (λ put. as_part (both c.in_ok-value-in-Computed.ensures.emits (instr op.GotoV _ _ put)) (ap (λ d. layout.place (number_in c.args.labels.now) (place_of d)) (sym c.in-Computed.is)))
+
+pub returns-in_ok-value-in-Computed-clause-extends : goal.returns-in_ok-value-in-Computed-clause-extends
+returns-in_ok-value-in-Computed-clause-extends c = extends_trans c.value.ensures.extends c.put-in-Computed.ensures.extends

@@ -16,6 +16,7 @@ use Rattle.expr_codegen.specs.Views as views
 use Rattle.expr_codegen.specs.Views.{gen_of}
 use Rattle.expr_codegen.proofs.Joins.{both, instr, deferred, changed, stays, nothing_put, on_ok}
 use Rattle.expr_codegen.proofs.Constructs.{value_of_tree, name_of_tree, value_of_op, name_of_op, value_as, name_as, as_part, combined_is, last_of_five, no_name, no_target}
+use Rattle.expr_codegen.proofs.Extensions.{extends_same, extends_trans, extends_changed}
 use Rattle.expr_codegen.proofs.Arguments.{loop_begins, loop_step, loop_ends, next_argument, no_heavier, call_of_slice, reference_of_slice, name_weighs}
 use Rattle.expr_codegen.proofs.expr.+tree.Goals as goal
 
@@ -85,9 +86,9 @@ arguments-loop-argument-preserved t c =
     let x = c.argument-item.result in
     elim c.match-argument.branch [
       | goal.arguments-in-Absent+in_ok-put-in-Absent w ↦ loop_step xs i x m.Absent (gen_of c.args.g.now) (gen_of c.loop-argument.g) _ _ (ap gen_of w.g-is) (ap arg_of w.in-Absent.is) c.loop-argument-test.true c.argument-item.is c.loop-argument.invariant
-          (instr op.Null _ _ w.in_ok-put-in-Absent.ensures.put) (let s = w.in_ok-put-in-Absent.ensures.size in omega (arith, s))
+          (instr op.Null _ _ w.in_ok-put-in-Absent.ensures.put) (let s = w.in_ok-put-in-Absent.ensures.size in omega (arith, s)) w.in_ok-put-in-Absent.ensures.extends
       | goal.arguments-in-Given+in_ok-value-in-Given w ↦ loop_step xs i x (m.Given (expr_of w.in-Given.e)) (gen_of c.args.g.now) (gen_of c.loop-argument.g) _ _ (ap gen_of w.g-is) (ap arg_of w.in-Given.is) c.loop-argument-test.true c.argument-item.is c.loop-argument.invariant
-          w.in_ok-value-in-Given.ensures.emits (let s = w.in_ok-value-in-Given.ensures.size in omega (arith, s))
+          w.in_ok-value-in-Given.ensures.emits (let s = w.in_ok-value-in-Given.ensures.size in omega (arith, s)) w.in_ok-value-in-Given.ensures.extends
     ]
 
 pub arguments-put-requires : goal.arguments-put-requires
@@ -115,6 +116,15 @@ pub arguments-returns-clause-emits : goal.arguments-returns-clause-emits
 arguments-returns-clause-emits t c =
     let none : drop c.loop-argument.argument-index c.args.args.now ≡ [] = grind (arith, common_steps, c.loop-argument-test.false) in
     loop_ends c.args.args.now c.loop-argument.argument-index (gen_of c.args.g.now) (gen_of c.loop-argument.g) none c.loop-argument.invariant
+
+pub arguments-returns-clause-extends : goal.arguments-returns-clause-extends
+arguments-returns-clause-extends t c = c.loop-argument.invariant.3
+
+pub arguments-returns-in_err-put-in-Absent-clause-extends : goal.arguments-returns-in_err-put-in-Absent-clause-extends
+arguments-returns-in_err-put-in-Absent-clause-extends t c = extends_trans c.loop-argument.invariant.3 c.put.ensures.extends
+
+pub arguments-returns-in_err-value-in-Given-clause-extends : goal.arguments-returns-in_err-value-in-Given-clause-extends
+arguments-returns-in_err-value-in-Given-clause-extends t c = extends_trans c.loop-argument.invariant.3 c.value.ensures.extends
 
 -- ---- calls and references
 
@@ -243,4 +253,89 @@ pub name-returns-in-Integer-4-clause-emits : goal.name-returns-in-Integer-4-clau
 name-returns-in-Integer-4-clause-emits t c = no_target c.args.e.now c.in-Integer.is
 
 pub applied_name-returns-in_default : goal.applied_name-returns-in_default
-applied_name-returns-in_default t c = record { emits = as_part (nothing_put _) (no_name c.args.op (expr_of c.args.x.now) c.in_default.not-Indirect); size = omega arith }
+applied_name-returns-in_default t c = record { emits = as_part (nothing_put _) (no_name c.args.op (expr_of c.args.x.now) c.in_default.not-Indirect); size = omega arith; extends = extends_same _ _ refl }
+
+-- ---- what was put stands
+
+pub value-returns-in_ok-variable-in-Name-clause-extends : goal.value-returns-in_ok-variable-in-Name-clause-extends
+value-returns-in_ok-variable-in-Name-clause-extends t c = extends_trans c.variable.ensures.extends c.put.ensures.extends
+
+pub value-returns-in_ok-element-in-Reference-clause-extends : goal.value-returns-in_ok-element-in-Reference-clause-extends
+value-returns-in_ok-element-in-Reference-clause-extends t c = extends_trans c.element.ensures.extends c.put-in-Reference.ensures.extends
+
+pub applied_name-returns-in_ok-value-in-Indirect-clause-extends : goal.applied_name-returns-in_ok-value-in-Indirect-clause-extends
+applied_name-returns-in_ok-value-in-Indirect-clause-extends t c = extends_trans c.value.ensures.extends c.put.ensures.extends
+
+pub applied-returns-in_ok-name-in-NameOf-clause-extends : goal.applied-returns-in_ok-name-in-NameOf-clause-extends
+applied-returns-in_ok-name-in-NameOf-clause-extends t c = extends_trans c.name.ensures.extends c.put.ensures.extends
+
+pub applied-returns-in_ok-name-in-Cursor-clause-extends : goal.applied-returns-in_ok-name-in-Cursor-clause-extends
+applied-returns-in_ok-name-in-Cursor-clause-extends t c = extends_trans c.name-in-Cursor.ensures.extends c.put-in-Cursor.ensures.extends
+
+pub applied-returns-in_err-put-in-Indirect-clause-extends : goal.applied-returns-in_err-put-in-Indirect-clause-extends
+applied-returns-in_err-put-in-Indirect-clause-extends t c = extends_trans c.value.ensures.extends c.put-in-Indirect.ensures.extends
+
+pub applied-returns-in_ok-put-in-Indirect-clause-extends : goal.applied-returns-in_ok-put-in-Indirect-clause-extends
+applied-returns-in_ok-put-in-Indirect-clause-extends t c = extends_trans c.value.ensures.extends (extends_trans c.put-in-Indirect.ensures.extends c.put-in-Indirect-2.ensures.extends)
+
+pub applied-returns-in_ok-value-in-Plus-clause-extends : goal.applied-returns-in_ok-value-in-Plus-clause-extends
+applied-returns-in_ok-value-in-Plus-clause-extends t c = extends_trans c.value-in-Plus.ensures.extends c.put-in-Plus.ensures.extends
+
+pub applied-returns-in_ok-value-in-Minus-clause-extends : goal.applied-returns-in_ok-value-in-Minus-clause-extends
+applied-returns-in_ok-value-in-Minus-clause-extends t c = extends_trans c.value-in-Minus.ensures.extends c.put-in-Minus.ensures.extends
+
+pub applied-returns-in_err-put-in-Interrogate-clause-extends : goal.applied-returns-in_err-put-in-Interrogate-clause-extends
+applied-returns-in_err-put-in-Interrogate-clause-extends t c = extends_trans c.value-in-Interrogate.ensures.extends c.put-in-Interrogate.ensures.extends
+
+pub applied-returns-in_ok-put-in-Interrogate-clause-extends : goal.applied-returns-in_ok-put-in-Interrogate-clause-extends
+applied-returns-in_ok-put-in-Interrogate-clause-extends t c = extends_trans c.value-in-Interrogate.ensures.extends (extends_trans c.put-in-Interrogate.ensures.extends c.put-in-Interrogate-2.ensures.extends)
+
+pub negated-returns-in_err-value-clause-extends : goal.negated-returns-in_err-value-clause-extends
+negated-returns-in_err-value-clause-extends t c = extends_trans c.put.ensures.extends c.value.ensures.extends
+
+pub negated-returns-in_err-put-2-clause-extends : goal.negated-returns-in_err-put-2-clause-extends
+negated-returns-in_err-put-2-clause-extends t c = extends_trans c.put.ensures.extends (extends_trans c.value.ensures.extends c.put-2.ensures.extends)
+
+pub negated-returns-in_err-put-3-clause-extends : goal.negated-returns-in_err-put-3-clause-extends
+negated-returns-in_err-put-3-clause-extends t c = extends_trans c.put.ensures.extends (extends_trans c.value.ensures.extends (extends_trans c.put-2.ensures.extends c.put-3.ensures.extends))
+
+pub negated-returns-in_err-put-4-clause-extends : goal.negated-returns-in_err-put-4-clause-extends
+negated-returns-in_err-put-4-clause-extends t c =
+    extends_trans c.put.ensures.extends (extends_trans c.value.ensures.extends (extends_trans c.put-2.ensures.extends (extends_trans c.put-3.ensures.extends c.put-4.ensures.extends)))
+
+pub negated-returns-in_err-put-5-clause-extends : goal.negated-returns-in_err-put-5-clause-extends
+negated-returns-in_err-put-5-clause-extends t c =
+    extends_trans c.put.ensures.extends (extends_trans c.value.ensures.extends (extends_trans c.put-2.ensures.extends (extends_trans c.put-3.ensures.extends (extends_trans c.put-4.ensures.extends c.put-5.ensures.extends))))
+
+pub negated-returns-clause-extends : goal.negated-returns-clause-extends
+negated-returns-clause-extends t c =
+    extends_changed c.len-number.result (op.Try c.at-target.result)
+    (extends_trans c.put.ensures.extends (extends_trans c.value.ensures.extends (extends_trans c.put-2.ensures.extends (extends_trans c.put-3.ensures.extends (extends_trans c.put-4.ensures.extends c.put-5.ensures.extends)))))
+    c.len-number.ensures c.change.ensures.put
+
+pub combined-returns-in_err-wanted-clause-extends : goal.combined-returns-in_err-wanted-clause-extends
+combined-returns-in_err-wanted-clause-extends t c = extends_trans c.value.ensures.extends c.wanted.ensures.extends
+
+pub combined-returns-in_err-put-clause-extends : goal.combined-returns-in_err-put-clause-extends
+combined-returns-in_err-put-clause-extends t c = extends_trans c.value.ensures.extends (extends_trans c.wanted.ensures.extends c.put.ensures.extends)
+
+pub combined-returns-clause-extends : goal.combined-returns-clause-extends
+combined-returns-clause-extends t c = extends_trans c.value.ensures.extends (extends_trans c.wanted.ensures.extends c.put.ensures.extends)
+
+pub called-returns-in_err-call-clause-extends : goal.called-returns-in_err-call-clause-extends
+called-returns-in_err-call-clause-extends t c = extends_trans c.arguments.ensures.extends c.call.ensures.extends
+
+pub called-returns-clause-extends : goal.called-returns-clause-extends
+called-returns-clause-extends t c = extends_trans c.arguments.ensures.extends c.call.ensures.extends
+
+pub element-returns-in_err-put-clause-extends : goal.element-returns-in_err-put-clause-extends
+element-returns-in_err-put-clause-extends t c = extends_trans c.variable.ensures.extends c.put.ensures.extends
+
+pub element-returns-in_err-arguments-clause-extends : goal.element-returns-in_err-arguments-clause-extends
+element-returns-in_err-arguments-clause-extends t c = extends_trans c.variable.ensures.extends (extends_trans c.put.ensures.extends c.arguments.ensures.extends)
+
+pub element-returns-in_err-put-2-clause-extends : goal.element-returns-in_err-put-2-clause-extends
+element-returns-in_err-put-2-clause-extends t c = extends_trans c.variable.ensures.extends (extends_trans c.put.ensures.extends (extends_trans c.arguments.ensures.extends c.put-2.ensures.extends))
+
+pub element-returns-clause-extends : goal.element-returns-clause-extends
+element-returns-clause-extends t c = extends_trans c.variable.ensures.extends (extends_trans c.put.ensures.extends (extends_trans c.arguments.ensures.extends c.put-2.ensures.extends))
