@@ -38,6 +38,7 @@ impl<R: Read> LineReader<R> {
     pub fn next_record(&mut self) -> Result<Option<Text>, UnitFault>
         ensures { TellsNext result (R.remaining self.old.source) (R.remaining self.new.source) self.old.held self.new.held }
     {
+        // The bound is there so that each call returns, also where each read is interrupted.
         'turns: for _ in 0..u64::MAX {
             if let Some(k) = self.held.find_feed() {
                 return self.take_line(k);

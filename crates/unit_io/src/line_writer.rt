@@ -52,6 +52,7 @@ fn write_whole<W: Write>(target: &mut W, bytes: &[u8]) -> Result<(), UnitFault>
     ensures fault { IfErr result (λ fault. fault ≡ UnitFault.WriteFailed) }
 {
     let mut at = 0;
+    // The bound is there so that each call returns, also where each write is interrupted.
     'turns: for _ in 0..u64::MAX {
         if at >= bytes.len() {
             return Ok(());
