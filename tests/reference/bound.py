@@ -2,6 +2,7 @@
 
 import argparse
 import concurrent.futures
+import functools
 import os
 import pathlib
 import resource
@@ -49,24 +50,25 @@ class Result(typing.NamedTuple):
         return self.steps / (self.rules + 1)
 
 
-def limit_memory():
-    """Keeps a program from taking all the machine's memory."""
-    resource.setrlimit(resource.RLIMIT_AS, (MEMORY, MEMORY))
-
-
 class Program(typing.NamedTuple):
     """A program `sno`, the folder in which it runs, and its standard input."""
 
     path: str
     folder: str
+    memory: int
     given: bytes = b""
 
     def run(self, *words):
         """What is seen of the program with these words."""
         how = {"stdout": subprocess.PIPE, "stderr": subprocess.PIPE, "input": self.given, "timeout": SECONDS}
-        how.update(cwd=self.folder, check=False, preexec_fn=limit_memory)
+        how.update(cwd=self.folder, check=False, preexec_fn=self.limit_memory)
         ran = subprocess.run([self.path, *words], **how)
         return ran.stdout, ran.stderr, ran.returncode
+
+    def limit_memory(self):
+        """Keeps the program from taking all the machine's memory."""
+        if self.memory:
+            resource.setrlimit(resource.RLIMIT_AS, (self.memory, self.memory))
 
     def compile(self, deck):
         """Compiles a deck to the file `module`."""
@@ -111,19 +113,19 @@ def compared(program, case):
     return Result(case, False, [], steps, seen.rules)
 
 
-def result_of(path, case):
+def result_of(path, memory, case):
     """The result of a case, in a folder of its own."""
     with tempfile.TemporaryDirectory(prefix="sno-bound-") as folder:
         try:
-            return compared(Program(path, folder, case.given), case)
+            return compared(Program(path, folder, memory, case.given), case)
         except subprocess.TimeoutExpired:
             return Result(case, False, [f"no end within {SECONDS} seconds"])
 
 
-def constructs(path):
+def constructs(path, memory):
     """The constructs that only some programs run, of those that this one runs."""
     with tempfile.TemporaryDirectory(prefix="sno-bound-") as folder:
-        program = Program(path, folder)
+        program = Program(path, folder, memory)
         shown = generate.LATER.items()
         return [name for name, text in shown if program.compile(f"{text}\nEND\n".encode())[2] == 0]
 
@@ -170,6 +172,7 @@ def arguments():
         "mangled": (200, "how many decks with something wrong"),
         "seed": (1, "the seed of the first"),
         "jobs": (os.cpu_count(), "how many at once"),
+        "memory": (MEMORY, "how many bytes of memory the program may have; 0 is any number"),
     }
     for name, (usual, about) in numbers.items():
         parser.add_argument(f"--{name}", type=int, default=usual, metavar="N", help=about)
@@ -181,10 +184,11 @@ def arguments():
 def main():
     """Compares all cases; the last lines are the largest ratio, and `N passed, M failed`."""
     given = arguments()
-    later = constructs(given.program)
+    later = constructs(given.program, given.memory)
     cases = cases_of(given, later)
+    one = functools.partial(result_of, given.program, given.memory)
     with concurrent.futures.ProcessPoolExecutor(given.jobs) as pool:
-        results = list(pool.map(result_of, [given.program] * len(cases), cases))
+        results = list(pool.map(one, cases))
     done = [it for it in results if not it.left_out]
     failed = [it for it in done if it.lines]
     if given.all:

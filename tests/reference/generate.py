@@ -206,7 +206,8 @@ class Deck:
             self.pattern_assignment,
             self.pattern_assignment,
             lambda: f"{self.subject()} {self.pattern()}",
-            lambda: f"{self.subject()} {self.pattern()}",
+            lambda: f"{self.subject()} ({self.pattern(2)}) . OUTPUT",
+            *[lambda: f"{self.subject()} ({self.row()}) . OUTPUT"] * 5,
             lambda: f"{self.pick(*STRINGS)} {self.pattern()} = {self.pick(self.value, '')}",
             lambda: f"{self.pick(*STRINGS)} {self.pattern()} = {self.pick(self.value, '')}",
             lambda: f"({self.value()})",
@@ -215,6 +216,17 @@ class Deck:
             lambda: f"OUTPUT = '[' {self.variable()} ']'",
             self.key_assignment,
         ).rstrip()
+
+    def row(self):
+        """A few short patterns after one another, which often match."""
+        parts = [self.pick(self.basic, self.basic, self.literal, self.word, self.small) for _ in range(3)]
+        return " ".join(parts[: self.random.randrange(1, 4)])
+
+    def small(self):
+        """A short pattern with others in it."""
+        first, second = self.pick(self.basic, self.literal), self.pick(self.basic, self.literal, self.word)
+        forms = [f"ARBNO({first})", f"({first} | {second})", f"({second} . W | {first})", f"ARBNO({first} | {second})"]
+        return self.pick(*forms)
 
     def pattern_assignment(self):
         """An assignment of a pattern, in which only later variables of patterns stand, and itself at most once.
@@ -230,7 +242,11 @@ class Deck:
 
     def subject(self):
         """The subject of a match."""
-        return self.pick(*STRINGS, self.literal, lambda: f"({self.value()})", "'AABBAB'", "'(A)B(AB)'")
+        return self.pick(*STRINGS, self.literal, lambda: f"({self.value()})", self.long, self.long, self.long)
+
+    def long(self):
+        """A literal of more bytes."""
+        return "'" + "".join(self.random.choice(ALPHABET) for _ in range(self.random.randrange(4, 10))) + "'"
 
     def key_assignment(self):
         """An assignment to a keyword."""
@@ -239,8 +255,8 @@ class Deck:
     def goto(self):
         """Where a statement leads."""
         place = lambda: self.pick(*LABELS, *LABELS, "END", "$V") if self.rare(5) else self.pick(*LABELS)  # noqa: E731
-        forms = ("", "", "", f" :S({place()})", f" :F({place()})", f" :S({place()})F({place()})")
-        return f" :({place()})" if self.rare(12) else self.pick(*forms)
+        forms = [f" :S({place()})", f" :F({place()})", f" :S({place()})F({place()})"]
+        return f" :({place()})" if self.rare(20) else self.pick(*[""] * 6, *forms)
 
     def functions(self):
         """The statements of functions."""
@@ -257,8 +273,8 @@ class Deck:
         statements = [f" &STLIMIT = {self.random.choice([10, 30, 100, 300])}"]
         statements += [f" {name} = {self.pick(self.literal, self.number)}" for name in STRINGS]
         statements += [f" {self.pattern_assignment()}" for _ in PATTERNS]
-        labels = dict(zip(self.random.sample(range(16), len(LABELS)), LABELS))
-        for number in range(16):
+        labels = dict(zip(self.random.sample(range(24), len(LABELS)), LABELS))
+        for number in range(24):
             statements.append(f"{labels.get(number, '')} {self.body()}{self.goto()}")
         if "calls" in self.later:
             statements = DEFINING + statements + self.functions()
