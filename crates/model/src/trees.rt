@@ -77,7 +77,6 @@ pub enum Argument {
 }
 
 /// Where a goto leads.
-#[derive(Drop)]
 pub enum Place {
     /// To a label.
     Label(Vec<u8>),
@@ -85,8 +84,16 @@ pub enum Place {
     Computed(Expr),
 }
 
+impl Drop for Place {
+    fn drop(self) {
+        match self {
+            Place::Label(_) => {}
+            Place::Computed(_) => {}
+        }
+    }
+}
+
 /// The goto part of a statement.
-#[derive(Drop)]
 pub enum Goto {
     /// None: to the next statement.
     Next,
@@ -100,8 +107,17 @@ pub enum Goto {
     Both(Place, Place),
 }
 
+impl Drop for Goto {
+    fn drop(self) {
+        match self {
+            Goto::Next => {}
+            Goto::Always(_) | Goto::OnSuccess(_) | Goto::OnFailure(_) => {}
+            Goto::Both(_, _) => {}
+        }
+    }
+}
+
 /// What a statement does. An absent object is `None`.
-#[derive(Drop)]
 pub enum Body {
     /// A label, a goto or both alone.
     Nothing,
@@ -115,8 +131,18 @@ pub enum Body {
     Replace(Expr, Expr, Option<Expr>),
 }
 
+impl Drop for Body {
+    fn drop(self) {
+        match self {
+            Body::Nothing => {}
+            Body::Evaluate(_) => {}
+            Body::Match(_, _) | Body::Assign(_, _) => {}
+            Body::Replace(_, _, _) => {}
+        }
+    }
+}
+
 /// A statement.
-#[derive(Drop)]
 pub enum Stmt {
     /// Every statement but END.
     Plain {
@@ -132,6 +158,15 @@ pub enum Stmt {
         /// The label where execution begins; without one it begins at the first statement.
         entry: Option<Vec<u8>>,
     },
+}
+
+impl Drop for Stmt {
+    fn drop(self) {
+        match self {
+            Stmt::Plain { label: _, body: _, goto: _ } => {}
+            Stmt::End { entry: _ } => {}
+        }
+    }
 }
 
 /// A deck without faults, as trees.
