@@ -46,7 +46,6 @@ pub enum Binary {
 
 /// An expression. Round brackets leave no trace in it.
 #[cycle(trees)]
-#[derive(Drop)]
 pub enum Expr {
     /// A variable, by its name.
     Name(Vec<u8>),
@@ -66,14 +65,36 @@ pub enum Expr {
     Binary(Binary, Box<Expr>, Box<Expr>),
 }
 
+impl Drop for Expr {
+    #[cycle(trees)]
+    fn drop(self) {
+        match self {
+            Expr::Name(_) | Expr::Literal(_) | Expr::Keyword(_) => {}
+            Expr::Integer(_) => {}
+            Expr::Call(_, _) | Expr::Reference(_, _) => {}
+            Expr::Unary(_, _) => {}
+            Expr::Binary(_, _, _) => {}
+        }
+    }
+}
+
 /// An argument, which may be absent.
 #[cycle(trees)]
-#[derive(Drop)]
 pub enum Argument {
     /// Nothing stands there; it counts as the null string.
     Absent,
     /// An expression stands there.
     Given(Expr),
+}
+
+impl Drop for Argument {
+    #[cycle(trees)]
+    fn drop(self) {
+        match self {
+            Argument::Absent => {}
+            Argument::Given(_) => {}
+        }
+    }
 }
 
 /// Where a goto leads.
