@@ -184,7 +184,11 @@ pub enum Stmt {
 impl Drop for Stmt {
     fn drop(self) {
         match self {
-            Stmt::Plain { label: _, body: _, goto: _ } => {}
+            Stmt::Plain {
+                label: _,
+                body: _,
+                goto: _,
+            } => {}
             Stmt::End { entry: _ } => {}
         }
     }
