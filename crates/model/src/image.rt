@@ -43,7 +43,6 @@ pub struct Label {
 }
 
 /// A module before it is spelt as bytes. Offsets count bytes of the code, numbers of statements begin at 1, others at 0.
-#[derive(Drop)]
 pub struct Image {
     /// The number of the first statement to run.
     pub entry: u32,
@@ -59,4 +58,18 @@ pub struct Image {
     pub patterns: Seq<Seq<PatInstr>>,
     /// The instructions, one after another.
     pub code: Seq<Instr>,
+}
+
+impl Drop for Image {
+    fn drop(self) {
+        let Image {
+            entry: _,
+            strings: _,
+            labels: _,
+            statements: _,
+            expressions: _,
+            patterns: _,
+            code: _,
+        } = self;
+    }
 }

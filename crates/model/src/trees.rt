@@ -46,7 +46,6 @@ pub enum Binary {
 
 /// An expression. Round brackets leave no trace in it.
 #[cycle(trees)]
-#[derive(Drop)]
 pub enum Expr {
     /// A variable, by its name.
     Name(Vec<u8>),
@@ -66,9 +65,21 @@ pub enum Expr {
     Binary(Binary, Box<Expr>, Box<Expr>),
 }
 
+impl Drop for Expr {
+    #[cycle(trees)]
+    fn drop(self) {
+        match self {
+            Expr::Name(_) | Expr::Literal(_) | Expr::Keyword(_) => {}
+            Expr::Integer(_) => {}
+            Expr::Call(_, _) | Expr::Reference(_, _) => {}
+            Expr::Unary(_, _) => {}
+            Expr::Binary(_, _, _) => {}
+        }
+    }
+}
+
 /// An argument, which may be absent.
 #[cycle(trees)]
-#[derive(Drop)]
 pub enum Argument {
     /// Nothing stands there; it counts as the null string.
     Absent,
@@ -76,8 +87,17 @@ pub enum Argument {
     Given(Expr),
 }
 
+impl Drop for Argument {
+    #[cycle(trees)]
+    fn drop(self) {
+        match self {
+            Argument::Absent => {}
+            Argument::Given(_) => {}
+        }
+    }
+}
+
 /// Where a goto leads.
-#[derive(Drop)]
 pub enum Place {
     /// To a label.
     Label(Vec<u8>),
@@ -85,8 +105,16 @@ pub enum Place {
     Computed(Expr),
 }
 
+impl Drop for Place {
+    fn drop(self) {
+        match self {
+            Place::Label(_) => {}
+            Place::Computed(_) => {}
+        }
+    }
+}
+
 /// The goto part of a statement.
-#[derive(Drop)]
 pub enum Goto {
     /// None: to the next statement.
     Next,
@@ -100,8 +128,17 @@ pub enum Goto {
     Both(Place, Place),
 }
 
+impl Drop for Goto {
+    fn drop(self) {
+        match self {
+            Goto::Next => {}
+            Goto::Always(_) | Goto::OnSuccess(_) | Goto::OnFailure(_) => {}
+            Goto::Both(_, _) => {}
+        }
+    }
+}
+
 /// What a statement does. An absent object is `None`.
-#[derive(Drop)]
 pub enum Body {
     /// A label, a goto or both alone.
     Nothing,
@@ -115,8 +152,18 @@ pub enum Body {
     Replace(Expr, Expr, Option<Expr>),
 }
 
+impl Drop for Body {
+    fn drop(self) {
+        match self {
+            Body::Nothing => {}
+            Body::Evaluate(_) => {}
+            Body::Match(_, _) | Body::Assign(_, _) => {}
+            Body::Replace(_, _, _) => {}
+        }
+    }
+}
+
 /// A statement.
-#[derive(Drop)]
 pub enum Stmt {
     /// Every statement but END.
     Plain {
@@ -132,6 +179,19 @@ pub enum Stmt {
         /// The label where execution begins; without one it begins at the first statement.
         entry: Option<Vec<u8>>,
     },
+}
+
+impl Drop for Stmt {
+    fn drop(self) {
+        match self {
+            Stmt::Plain {
+                label: _,
+                body: _,
+                goto: _,
+            } => {}
+            Stmt::End { entry: _ } => {}
+        }
+    }
 }
 
 /// A deck without faults, as trees.

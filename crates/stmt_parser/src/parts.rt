@@ -69,7 +69,7 @@ pub(crate) fn shown(arguments: Vec<Argument>) -> Vec<Argument>
     ensures { args_of result.items ≡ grammar.shown (args_of arguments.items) }
 {
     match arguments.as_slice() {
-        [Argument::Absent] => {
+        [Argument::Absent { .. }] => {
             let mut none = arguments;
             none.clear();
             none
