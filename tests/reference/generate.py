@@ -224,8 +224,9 @@ class Deck:
 
     def small(self):
         """A short pattern with others in it."""
-        first, second = self.pick(self.basic, self.literal), self.pick(self.basic, self.literal, self.word)
-        forms = [f"ARBNO({first})", f"({first} | {second})", f"({second} . W | {first})", f"ARBNO({first} | {second})"]
+        first = self.pick("'A'", "'B'", "LEN(1)", "ANY('A(')", "SPAN('AB')", "BAL")
+        second = self.pick("'AB'", "')'", "BREAK('B')", "ARB", "BAL", "NOTANY('A')", self.literal)
+        forms = [f"ARBNO({first})", f"({first} | {second})", f"({second} . W | {first})", f"{first} {second}"]
         return self.pick(*forms)
 
     def pattern_assignment(self):
@@ -268,6 +269,26 @@ class Deck:
             statements += [f"{label} {self.body()}", f" {name} = {given} {self.pick(*returns)}"]
         return statements + [" :(RETURN)"]
 
+    def probe(self):
+        """A statement that prints what comes of one short expression or match."""
+        self.held = ["'A'"]
+        fenced = f"FENCE({self.small()} | 'A')" if "fence" in self.later else "FENCE"
+        words = self.pick("ARB", "BAL", "BAL", "REM", "FENCE", "('A' FENCE | 'B')", "(ABORT | 'A')", fenced, fenced)
+        numbers = [self.pick("7", "-7", "(0 - 3)", "3", "2", "-2") for _ in range(3)]
+        marks = [self.pick("+", "-", "*", "/", "/") for _ in range(2)]
+        return self.pick(
+            lambda: f"{self.long()} ({words} {self.small()}) . OUTPUT",
+            lambda: f"{self.long()} ({self.small()} {words}) . OUTPUT",
+            lambda: f"{self.long()} ({self.small()} {words} {self.small()}) . OUTPUT",
+            lambda: f"OUTPUT = {numbers[0]} {marks[0]} {numbers[1]} {marks[1]} {numbers[2]}",
+        )
+
+    def probes(self):
+        """A deck of such statements."""
+        statements = [" &STLIMIT = 100", " V = 'A'", " W = 'AB'", " X = 3", " Y = '('"]
+        statements += [f" {self.probe()}" for _ in range(20)] + ["END"]
+        return "\n".join(card for it in statements for card in cards_of(it)) + "\n"
+
     def text(self):
         """The deck."""
         statements = [f" &STLIMIT = {self.random.choice([10, 30, 100, 300])}"]
@@ -283,5 +304,6 @@ class Deck:
 
 
 def deck(seed, later):
-    """The deck of a seed."""
-    return Deck(seed, later).text().encode()
+    """The deck of a seed: every other one is of short statements that print."""
+    drawn = Deck(seed, later)
+    return (drawn.probes() if seed % 2 else drawn.text()).encode()
