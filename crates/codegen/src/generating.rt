@@ -70,6 +70,7 @@ fn put_labels<'a>(
     requires room { size (gen_of g.old) + length statements.now < 2 ^ 31 }
     ensures texts { OnOk result ((gen_of g.new).texts ≡ with_texts (layout.label_texts (map stmt_of statements.now)) (gen_of g.old).texts) }
     ensures code { OnOk result ((gen_of g.new).code ≡ (gen_of g.old).code) }
+    ensures extends { Extends (gen_of g.old) (gen_of g.new) }
     ensures labels { IfOk result (λ ls. ls.items ≡ layout.labels (gen_of g.new).texts 1 (map stmt_of statements.now)) }
 {
     let mut labels = Vec::new(alloc);
