@@ -11,7 +11,8 @@ use Rattle.model.specs.TreeViews.{stmt_of}
 use Rattle.model.specs.Weights as weights
 use Rattle.expr_codegen.specs.Texts.{place_of, with_text, with_texts}
 use Rattle.expr_codegen.specs.Code.{Part}
-use Rattle.expr_codegen.specs.Emitting.{Gen, Emits, Longer, Countable, Numbered, size}
+use Rattle.expr_codegen.specs.Emitting.{Gen, Emits, Longer, Countable, Extends, Numbered, size}
+use Rattle.expr_codegen.proofs.Extensions.{extends_same, extends_trans}
 use Rattle.expr_codegen.proofs.Joins.{both, longer_trans, longer_texts}
 use Rattle.expr_codegen.proofs.TextPlaces.{place_stays}
 use Rattle.codegen.specs.Countable.{CountableStmt, Fits}
@@ -50,9 +51,10 @@ Kept xs i n done g h =
     × (with_texts (label_texts (map stmt_of (drop i xs))) h.texts ≡ with_texts (label_texts (map stmt_of xs)) g.texts)
     × ((texts : List Bytes) → Longer h.texts texts → layout.labels texts 1 (map stmt_of xs) ≡ done ++ layout.labels texts n (map stmt_of (drop i xs)))
     × (size h + length (drop i xs) ≤ size g + length xs)
+    × Extends g h
 
 pub begins : (xs : List Statement) (g : Gen) → Kept xs 0 1 [] g g
-begins xs g = (refl, refl, refl, (λ texts l. refl), omega arith)
+begins xs g = (refl, refl, refl, (λ texts l. refl), omega arith, extends_same g g refl)
 
 abbrev entry_for : List Bytes → ℕ → Bytes → image.Label
 entry_for texts n l = record { string = place_of l texts; statement = n }
@@ -78,8 +80,8 @@ labels_none texts n (Plain (Some m) b g) ss h = cc
 labels_none texts n (End e) ss h = refl
 
 pub step_own : (xs : List Statement) (i n m k : ℕ) (x : Statement) (l : Bytes) (done now : List image.Label) (g h j : Gen) → i < length xs → x ≡ get_or xs i x → m ≡ n + 1 → own_label (stmt_of x) ≡ Some l
-    → Numbered l k h j → size j ≤ size h + 1 → now ≡ done ++ record { string = k; statement = n } ∷ [] → Kept xs i n done g h → Kept xs (i + 1) m now g j
-step_own xs i n m k x l done now g h j less is number own numbered s put (counted, code, texts, all, room) =
+    → Numbered l k h j → size j ≤ size h + 1 → Extends h j → now ≡ done ++ record { string = k; statement = n } ∷ [] → Kept xs i n done g h → Kept xs (i + 1) m now g j
+step_own xs i n m k x l done now g h j less is number own numbered s more_put put (counted, code, texts, all, room, stands) =
     let rest : List Statement = drop (i + 1) xs in
     let more : drop i xs ≡ x ∷ rest = next (λ l. None) xs i x less is in
     let m1 : suc n ≡ m = omega (arith, number) in
@@ -95,10 +97,11 @@ step_own xs i n m k x l done now g h j less is number own numbered s put (counte
           ∙ ap (λ q. done ++ record { string = k; statement = n } ∷ layout.labels t q (map stmt_of rest)) m1
           ∙ sym (ap (λ d. d ++ layout.labels t m (map stmt_of rest)) put ∙ append_assoc done (record { string = k; statement = n } ∷ []) (layout.labels t m (map stmt_of rest)))),
       omega (arith, room, len, s),
+      extends_trans stands more_put,
     )
 
 pub step_none : (xs : List Statement) (i n m : ℕ) (x : Statement) (done : List image.Label) (g h : Gen) → i < length xs → x ≡ get_or xs i x → m ≡ n + 1 → own_label (stmt_of x) ≡ None → Kept xs i n done g h → Kept xs (i + 1) m done g h
-step_none xs i n m x done g h less is number own (counted, code, texts, all, room) =
+step_none xs i n m x done g h less is number own (counted, code, texts, all, room, stands) =
     let rest : List Statement = drop (i + 1) xs in
     let more : drop i xs ≡ x ∷ rest = next (λ l. None) xs i x less is in
     let m1 : suc n ≡ m = omega (arith, number) in
@@ -108,13 +111,14 @@ step_none xs i n m x done g h less is number own (counted, code, texts, all, roo
       ap (λ t. with_texts t h.texts) (sym (ap (λ r. label_texts (map stmt_of r)) more ∙ without_own (stmt_of x) (map stmt_of rest) own)) ∙ texts,
       (λ t longer. all t longer ∙ ap (λ r. done ++ layout.labels t n (map stmt_of r)) more ∙ ap (λ r. done ++ r) (labels_none t n (stmt_of x) (map stmt_of rest) own) ∙ ap (λ q. done ++ layout.labels t q (map stmt_of rest)) m1),
       omega (arith, room, len),
+      stands,
     )
 
 pub ends_texts : (xs : List Statement) (i n : ℕ) (done : List image.Label) (g h : Gen) → drop i xs ≡ [] → Kept xs i n done g h → h.texts ≡ with_texts (label_texts (map stmt_of xs)) g.texts
-ends_texts xs i n done g h none (counted, code, texts, all, room) = ap (λ r. with_texts (label_texts (map stmt_of r)) h.texts) (sym none) ∙ texts
+ends_texts xs i n done g h none (counted, code, texts, all, room, stands) = ap (λ r. with_texts (label_texts (map stmt_of r)) h.texts) (sym none) ∙ texts
 
 pub ends_labels : (xs : List Statement) (i n : ℕ) (done : List image.Label) (g h : Gen) → drop i xs ≡ [] → Kept xs i n done g h → done ≡ layout.labels h.texts 1 (map stmt_of xs)
-ends_labels xs i n done g h none (counted, code, texts, all, room) = sym (all h.texts ([], sym (append-nil h.texts)) ∙ ap (λ r. done ++ layout.labels h.texts n (map stmt_of r)) none ∙ append-nil done)
+ends_labels xs i n done g h none (counted, code, texts, all, room, stands) = sym (all h.texts ([], sym (append-nil h.texts)) ∙ ap (λ r. done ++ layout.labels h.texts n (map stmt_of r)) none ∙ append-nil done)
 
 -- ---- the image
 

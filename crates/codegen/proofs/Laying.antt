@@ -8,8 +8,9 @@ use Rattle.model.specs.Trees.{Bytes, Expr, Stmt}
 use Rattle.model.specs.TreeViews.{stmt_of}
 use Rattle.model.specs.Weights as weights
 use Rattle.expr_codegen.specs.Code.{Part, nothing, one, ◌>>◌}
-use Rattle.expr_codegen.specs.Emitting.{Gen, Emits, Longer, size}
+use Rattle.expr_codegen.specs.Emitting.{Gen, Emits, Extends, Longer, size}
 use Rattle.expr_codegen.proofs.Joins.{both, nothing_put, total_append, longer_trans, longer_texts}
+use Rattle.expr_codegen.proofs.Extensions.{extends_same, extends_trans}
 use Rattle.codegen.specs.Countable.{CountableStmt}
 use Rattle.codegen.specs.Laying.{Laid, retaken, left}
 use Rattle.codegen.specs.Layout as layout
@@ -40,27 +41,27 @@ module _ (number_of : Bytes → Option ℕ) where
   abbrev pub Kept : List Statement → ℕ → ℕ → List ℕ → Gen → Gen → Type 0
   Kept xs i n os g h =
       (n ≡ 1 + i)
-      × (h.taken ≡ g.taken)
+      × Extends g h
       × ((j : Gen) (ps : List ℕ) → Laid (layout.statements number_of n (map stmt_of (drop i xs))) ps h j → Laid (layout.statements number_of 1 (map stmt_of xs)) (os ++ ps) g j)
       × AllByRecursion CountableStmt (map stmt_of (drop i xs))
       × (size h + 9 * weights.total weights.weight (map stmt_of (drop i xs)) + 6 * length (drop i xs) ≤ size g + 9 * weights.total weights.weight (map stmt_of xs) + 6 * length xs)
 
   pub begins : (xs : List Statement) (g : Gen) → AllByRecursion CountableStmt (map stmt_of xs) → Kept xs 0 1 [] g g
-  begins xs g h = (refl, refl, (λ j ps z. z), h, omega arith)
+  begins xs g h = (refl, extends_same g g refl, (λ j ps z. z), h, omega arith)
 
   pub next : (xs : List Statement) (i : ℕ) (x : Statement) → i < length xs → x ≡ get_or xs i x → drop i xs ≡ x ∷ drop (i + 1) xs
   next xs i x h e = at_drop_more (λ l. l) xs i x h ∙ ap (λ y. y ∷ drop (i + 1) xs) (sym e)
 
   pub step : (xs : List Statement) (i n m : ℕ) (x : Statement) (os now : List ℕ) (at : ℕ) (g h k : Gen) → i < length xs → x ≡ get_or xs i x → m ≡ n + 1 → at ≡ total h.code → now ≡ os ++ at ∷ [] → Kept xs i n os g h
-      → Emits (layout.statement number_of n (stmt_of x)) h k → size k ≤ size h + 9 * weights.weight (stmt_of x) + 6 → Kept xs (i + 1) m now g k
-  step xs i n m x os now at g h k less is number place put (counted, taken, all, countable, room) emits s =
+      → Emits (layout.statement number_of n (stmt_of x)) h k → size k ≤ size h + 9 * weights.weight (stmt_of x) + 6 → Extends h k → Kept xs (i + 1) m now g k
+  step xs i n m x os now at g h k less is number place put (counted, stands, all, countable, room) emits s more_put =
       let rest : List Statement = drop (i + 1) xs in
       let more : drop i xs ≡ x ∷ rest = next xs i x less is in
       let m1 : m ≡ suc n = omega (arith, number) in
       let w = ap (λ l. weights.total weights.weight (map stmt_of l)) more in
       let l = ap length more in (
         omega (arith, counted, number),
-        emits.taken ∙ taken,
+        extends_trans stands more_put,
         (λ j ps z.
             let z1 : Laid (layout.statements number_of (suc n) (map stmt_of rest)) ps k j = subst (λ m. Laid (layout.statements number_of m (map stmt_of rest)) ps k j) m1 z in
             let z2 : Laid (layout.statements number_of n (map stmt_of (x ∷ rest))) (total h.code ∷ ps) h j = laid_more (layout.statement number_of n (stmt_of x)) (layout.statements number_of (suc n) (map stmt_of rest)) ps emits z1 in
@@ -71,6 +72,6 @@ module _ (number_of : Bytes → Option ℕ) where
       )
 
   pub ends : (xs : List Statement) (i n : ℕ) (os : List ℕ) (g h : Gen) → drop i xs ≡ [] → Kept xs i n os g h → Laid (layout.statements number_of 1 (map stmt_of xs)) os g h
-  ends xs i n os g h none (counted, taken, all, countable, room) =
+  ends xs i n os g h none (counted, stands, all, countable, room) =
       subst (λ o. Laid (layout.statements number_of 1 (map stmt_of xs)) o g h) (append-nil os)
       (all h [] (subst (λ l. Laid (layout.statements number_of n (map stmt_of l)) [] h h) (sym none) (laid_none h)))

@@ -6,7 +6,7 @@ ghost use Rattle.model.specs.Programs as programs;
 ghost use Rattle.model.specs.TreeViews.{expr_of, program_of, stmt_of};
 ghost use Rattle.model.specs.Trees.{Bytes};
 ghost use Rattle.model.specs.Weights as weights;
-ghost use Rattle.expr_codegen.specs.Emitting.{Countable, size};
+ghost use Rattle.expr_codegen.specs.Emitting.{Countable, Extends, size};
 ghost use Rattle.expr_codegen.specs.Texts.{with_texts};
 ghost use Rattle.expr_codegen.specs.Views.{gen_of};
 ghost use Rattle.codegen.specs.Countable.{CountableStmt, Fits};
@@ -31,8 +31,8 @@ fn put_statements<'a>(
     requires countable { AllByRecursion CountableStmt (map stmt_of statements.now) }
     requires room { size (gen_of g.old) + 9 * weights.total weights.weight (map stmt_of statements.now) + 6 * length statements.now < 2 ^ 30 }
     ensures laid { IfOk result (λ os. Laid (layout.statements (number_in labels.now) 1 (map stmt_of statements.now)) os.items (gen_of g.old) (gen_of g.new)) }
-    ensures taken { OnOk result ((gen_of g.new).taken ≡ (gen_of g.old).taken) }
     ensures size { OnOk result (size (gen_of g.new) ≤ size (gen_of g.old) + 9 * weights.total weights.weight (map stmt_of statements.now) + 6 * length statements.now) }
+    ensures extends { Extends (gen_of g.old) (gen_of g.new) }
 {
     let mut offsets = Vec::new(alloc);
     let mut number = 1;
@@ -70,6 +70,7 @@ fn put_labels<'a>(
     requires room { size (gen_of g.old) + length statements.now < 2 ^ 31 }
     ensures texts { OnOk result ((gen_of g.new).texts ≡ with_texts (layout.label_texts (map stmt_of statements.now)) (gen_of g.old).texts) }
     ensures code { OnOk result ((gen_of g.new).code ≡ (gen_of g.old).code) }
+    ensures extends { Extends (gen_of g.old) (gen_of g.new) }
     ensures labels { IfOk result (λ ls. ls.items ≡ layout.labels (gen_of g.new).texts 1 (map stmt_of statements.now)) }
 {
     let mut labels = Vec::new(alloc);

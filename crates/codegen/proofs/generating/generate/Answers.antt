@@ -22,7 +22,7 @@ pub put_expressions-requires-clause-countable : goal.put_expressions-requires-cl
 put_expressions-requires-clause-countable c =
     let xs = c.as_slice-statements.result.now in
     let fits : Fits (map stmt_of xs) = subst (λ l. Fits (map stmt_of l)) (sym c.as_slice-statements.ensures.value) c.requires in
-    left_countable (map stmt_of xs) (number_in c.in_ok-labels.labels) _ (gen_of c.new-g.result) (gen_of c.put_statements.new.g) c.new-g.ensures c.in_ok-offsets.ensures.laid c.in_ok-offsets.ensures.taken fits
+    left_countable (map stmt_of xs) (number_in c.in_ok-labels.labels) _ (gen_of c.new-g.result) (gen_of c.put_statements.new.g) c.new-g.ensures c.in_ok-offsets.ensures.laid c.in_ok-offsets.ensures.extends.taken fits
 
 pub put_expressions-requires-clause-room : goal.put_expressions-requires-clause-room
 put_expressions-requires-clause-room c =
@@ -53,7 +53,7 @@ returns c =
       image =
           (λ j. record { entry = c.entry_number.result; strings = c.in_ok-strings.strings; labels = c.from_vec.ensures j; statements = c.from_vec-2.ensures j; expressions = c.from_vec-3.ensures j; patterns = c.new.ensures j; code = c.into_code.ensures j })
           ∙ image_is (map stmt_of xs) (number_in c.in_ok-labels.labels) c.in_ok-offsets.offsets.items c.in_ok-expressions.expressions.items c.in_ok-named.named.items c.entry_number.result c.in_ok-strings.strings
-          (gen_of c.new-g.result) (gen_of c.put_statements.new.g) (gen_of c.put_expressions.new.g) (gen_of c.put_labels.new.g) c.in_ok-labels.ensures c.new-g.ensures c.in_ok-offsets.ensures.laid c.in_ok-offsets.ensures.taken
+          (gen_of c.new-g.result) (gen_of c.put_statements.new.g) (gen_of c.put_expressions.new.g) (gen_of c.put_labels.new.g) c.in_ok-labels.ensures c.new-g.ensures c.in_ok-offsets.ensures.laid c.in_ok-offsets.ensures.extends.taken
           c.in_ok-expressions.ensures.laid fits c.in_ok-named.ensures.texts c.in_ok-named.ensures.code c.in_ok-named.ensures.labels c.entry_number.ensures c.in_ok-strings.ensures
           ∙ ap (λ l. image_of (map stmt_of l)) c.as_slice-statements.ensures.value;
     }
