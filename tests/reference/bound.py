@@ -16,7 +16,7 @@ from .compare import DECKS, bytes_of, is_left_out
 from .today import not_yet
 from .units import Units
 
-STEPS_PER_RULE = 8
+STEPS_PER_RULE = 7
 # Runs that use more rules are left out: of a deck that may go on for ever, and of a family.
 MOST_RULES = 20000
 MOST_RULES_OF_FAMILIES = 400000

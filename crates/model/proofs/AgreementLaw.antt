@@ -16,7 +16,8 @@ use Rattle.model.specs.Agreement.{Records, IsBeginning, seen_of, seen_at, Inputs
 use Rattle.model.proofs.MeaningGrows.{Before, before_refl, Goes_on}
 use Rattle.model.proofs.Following.{Follows, Fits, Goes, sim_all, follow_fits, follow_goes, goes_all, steps_add, Still}
 use Rattle.model.proofs.StatementsFollow.{local}
-use Rattle.model.proofs.Asking.{from, faulted}
+use Rattle.model.proofs.OperationsAlike.{keys_same}
+use Rattle.model.proofs.Asking.{stops}
 use Rattle.model.proofs.MeaningPrints.{on}
 use Rattle.model.proofs.MachinePrints.{steps_on}
 
@@ -33,7 +34,7 @@ module _ (prog : Program) (img : Module) (trees_at : ℕ → Option Expr) (place
   start_is : begun img m ≡ Run placed.entry_is.0 [] [] [] m
   start_is = ap (λ k. to_stmt img (img.stmt k) [] m) placed.entry ∙ ap (λ o. to_stmt img o [] m) placed.entry_is.1
 
-  pub run_follows : Follows prog img trees_at 2 2 (begun img m) Never Nowhere (run_rule prog w)
+  pub run_follows : Follows prog img trees_at 2 0 (begun img m) Never Nowhere (run_rule prog w)
   run_follows = (
     0,
     (placed.entry_is.0, [], placed.entry_is.1, tt),
@@ -43,9 +44,9 @@ module _ (prog : Program) (img : Module) (trees_at : ℕ → Option Expr) (place
     2,
     le_refl 2,
     inr (le_refl 2),
-    1,
+    0,
     omega arith,
-    (λ l v s (m1, r1, e1). (from prog img trees_at placed {r = 2} {b = 1} {Q = Never} {F = Nowhere} 1 (omega arith) e1 (faulted prog img trees_at placed error.ReturnAtLevelZero r1)).by),
+    (λ l v s (m1, r1, e1). (stops prog img trees_at placed {r = 2} {b = 0} {Q = Never} {F = Nowhere} 1 (omega arith) (m1, r1, e1 ∙ ap (λ k. Over (ending.Error error.ReturnAtLevelZero k.stno) m1) (keys_same trees_at r1))).by),
     (λ v s b. absurd b),
   )
 
@@ -53,10 +54,10 @@ module _ (prog : Program) (img : Module) (trees_at : ℕ → Option Expr) (place
   run_on = (before_refl w, (λ l v b. before_refl v), (λ v b. before_refl v))
 
   fits : (n : ℕ) → Fits prog img trees_at 0 (begun img m) Never Nowhere (run prog n w)
-  fits n = follow_fits prog img trees_at n (sim_all prog img trees_at (local prog img trees_at placed) n) 2 2 (begun img m) Never Nowhere (run_rule prog w) run_follows
+  fits n = follow_fits prog img trees_at n (sim_all prog img trees_at (local prog img trees_at placed) n) 2 0 (begun img m) Never Nowhere (run_rule prog w) run_follows
 
   goes : (l : ℕ) → Goes prog img trees_at l (begun img m) Never Nowhere (λ n. run prog n w)
-  goes l = follow_goes prog img trees_at (on prog) (local prog img trees_at placed) l 2 2 ((λ q h. goes_all prog img trees_at (on prog) (local prog img trees_at placed) l q), (λ q. goes_all prog img trees_at (on prog) (local prog img trees_at placed) (pred l) q)) w (begun img m) Never Nowhere (run_rule prog w) run_on run_follows
+  goes l = follow_goes prog img trees_at (on prog) (local prog img trees_at placed) l 2 0 ((λ q h. goes_all prog img trees_at (on prog) (local prog img trees_at placed) l q), (λ q. goes_all prog img trees_at (on prog) (local prog img trees_at placed) (pred l) q)) w (begun img m) Never Nowhere (run_rule prog w) run_on run_follows
 
   -- what is known at the depth n: an ending of both, or the machine runs on after k steps or more
   data Known (k n : ℕ) : Type 0 where

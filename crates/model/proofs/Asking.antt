@@ -81,7 +81,7 @@ module _ (prog : Program) (img : Module) (trees_at : ℕ → Option Expr) (place
   pub fails : {A : Type 0} {r b : ℕ} {c : State} {Q : A → W → State → Type 0} {F : W → State → Type 0} {w : W} (j : ℕ) → j ≤ b → F w (steps img j c) → Fw r b c Q F (Fail w)
   fails j le x = record { by = (j, le, x) }
 
-  pub stops : {A : Type 0} {r b : ℕ} {c : State} {Q : A → W → State → Type 0} {F : W → State → Type 0} {e : Ending} {w : W} (j : ℕ) → j ≤ b → Stopped prog img trees_at e w (steps img j c) → Fw r b c Q F (Stop e w)
+  pub stops : {A : Type 0} {r b : ℕ} {c : State} {Q : A → W → State → Type 0} {F : W → State → Type 0} {e : Ending} {w : W} (j : ℕ) → j ≤ suc b → Stopped prog img trees_at e w (steps img j c) → Fw r b c Q F (Stop e w)
   stops j le x = record { by = (j, le, x) }
 
   -- the same from some steps before

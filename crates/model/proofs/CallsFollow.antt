@@ -33,12 +33,12 @@ module _ (prog : Program) (img : Module) (trees_at : ℕ → Option Expr) (place
       → KeptR trees_at k k' → R w m → 2 ≤ rk
       → ((g : Back) (g' : MBack) (w1 : W) (m1 : MW) → GR trees_at g g' → R w1 m1 → Fw prog img trees_at placed rk 0 (resume c fs g' m1) Q F (f g w1))
       → ((w1 : W) (m1 : MW) → R w1 m1 → F w1 (fail_to c.hs c.ops fs m1))
-      → Fw prog img trees_at placed rk 2 (to_return img entry r (InCall k' c ∷ fs) m) Q F (entered prog k r (prog.label entry) w f)
+      → Fw prog img trees_at placed rk 1 (to_return img entry r (InCall k' c ∷ fs) m) Q F (entered prog k r (prog.label entry) w f)
   entered_follows c fs k k' f entry (Some r) hk wr up hg hf = op_follows prog img trees_at placed (GR trees_at) c.hs c.ops fs f (λ g w1. resume c fs g w1) (leave_same trees_at r hk wr) (λ g g' w1 m1 x r1. shift prog img trees_at placed 0 0 (omega arith) refl (hg g g' w1 m1 x r1)) hf
   entered_follows {A} {rk} {Q} {F} {w} {m} c fs k k' f entry None hk wr up hg hf =
       same prog img trees_at placed (ap (λ o. to_known img o (InCall k' c ∷ fs) m) (placed.labels entry)) (go (prog.label entry) refl)
     where
-      go : (o : Option ℕ) → prog.label entry ≡ o → Fw prog img trees_at placed rk 2 (to_known img o (InCall k' c ∷ fs) m) Q F (entered prog k None o w f)
+      go : (o : Option ℕ) → prog.label entry ≡ o → Fw prog img trees_at placed rk 1 (to_known img o (InCall k' c ∷ fs) m) Q F (entered prog k None o w f)
       go None e = faulted prog img trees_at placed error.UndefinedLabel wr
       go (Some j) e =
           let g = placed.gone_to entry j e in
@@ -63,7 +63,7 @@ module _ (prog : Program) (img : Module) (trees_at : ℕ → Option Expr) (place
       → VRs trees_at vs ms → R w m → 2 ≤ rk
       → ((g : Back) (g' : MBack) (w1 : W) (m1 : MW) → GR trees_at g g' → R w1 m1 → Fw prog img trees_at placed rk 0 (resume c fs g' m1) Q F (k g w1))
       → ((w1 : W) (m1 : MW) → R w1 m1 → F w1 (fail_to c.hs c.ops fs m1))
-      → Fw prog img trees_at placed rk 2 (call img f ms d c fs m) Q F (call_rule prog f vs d w k)
+      → Fw prog img trees_at placed rk 1 (call img f ms d c fs m) Q F (call_rule prog f vs d w k)
   call_follows c fs k f None hs wr up hg hf = faulted prog img trees_at placed error.UndefinedFunction wr
   call_follows {w = w} {m} c fs k f (Some (Defined entry xs ys)) hs wr up hg hf =
       entered_follows c fs (kept_of f xs ys w) (kept_of f xs ys m) k entry (return_of entry) (kept_same trees_at f xs ys wr) (enter_call_same trees_at f xs ys hs wr) up hg hf
@@ -75,10 +75,10 @@ module _ (prog : Program) (img : Module) (trees_at : ℕ → Option Expr) (place
       → OutcomeR trees_at r r' → R w m → 2 ≤ rk
       → ((g : Back) (g' : MBack) (w1 : W) (m1 : MW) → GR trees_at g g' → R w1 m1 → Fw prog img trees_at placed rk 0 (resume c fs g' m1) Q F (k g w1))
       → ((w1 : W) (m1 : MW) → R w1 m1 → F w1 (fail_to c.hs c.ops fs m1))
-      → Fw prog img trees_at placed rk 2 (machine.finish img r' c fs m) Q F (finish prog r w k)
+      → Fw prog img trees_at placed rk 1 (machine.finish img r' c fs m) Q F (finish prog r w k)
   finish_follows c fs k (returns x) wr up hg hf = shift prog img trees_at placed 0 0 (omega arith) refl (hg _ _ _ _ x wr)
   finish_follows {rk = rk} {Q} {F} {w} {m} c fs k (calling f {vs} {ms} hs) wr up hg hf =
-      by_plain trees_at (λ m. Fw prog img trees_at placed rk 2 (call img f ms (m.plain.functions f) c fs m) Q F (call_rule prog f vs (w.plain.functions f) w k)) wr (λ wr'. call_follows c fs k f (w.plain.functions f) hs wr' up hg hf)
+      by_plain trees_at (λ m. Fw prog img trees_at placed rk 1 (call img f ms (m.plain.functions f) c fs m) Q F (call_rule prog f vs (w.plain.functions f) w k)) wr (λ wr'. call_follows c fs k f (w.plain.functions f) hs wr' up hg hf)
 
   abbrev pub caller_at : Here → Bool → Caller
   caller_at h want = record { ops = h.ops; hs = h.hs; place = h.q; want_name = want }
@@ -89,7 +89,7 @@ module _ (prog : Program) (img : Module) (trees_at : ℕ → Option Expr) (place
       → ((i n p : ℕ) (ops : List Operand) (m : MW) → act img (call' i n) h.q p ops h.hs h.fs m ≡ load (img.string i) m (λ f. calls img want f n h.q ops h.hs h.fs m))
       → (r n : ℕ) → CodeA prog img trees_at args n h.p r → CallAt prog img trees_at prim call' (prim_named f) f n r h.q → R w m → suc (rank (QArgs args)) ≤ rk
       → ((g : Back) (g' : MBack) (w1 : W) (m1 : MW) → GR trees_at g g' → R w1 m1 → Fw prog img trees_at placed rk 0 (resume (caller_at h want) h.fs g' m1) Q (Fv prog img trees_at placed h) (k g w1))
-      → Fw prog img trees_at placed rk 8 (Run h.p h.ops h.hs h.fs m) Q (Fv prog img trees_at placed h) (function_rule prog f args w k)
+      → Fw prog img trees_at placed rk 7 (Run h.p h.ops h.hs h.fs m) Q (Fv prog img trees_at placed h) (function_rule prog f args w k)
   function_follows {A} {rk} {Q} want h f args k prim call' does_prim does_call r n code at wr up hg =
       ask_args prog img trees_at placed (at_place h h.p r) n code wr up (λ us w1 xs m1 hu len r1. go us w1 xs m1 hu len r1 (prim_named f) at) (fail_here prog img trees_at placed h)
     where
@@ -100,15 +100,15 @@ module _ (prog : Program) (img : Module) (trees_at : ℕ → Option Expr) (place
       asks = omega (arith, up)
 
       go : (us : List Val) (w1 : W) (xs : List MVal) (m1 : MW) → VRs trees_at us xs → length xs ≡ n → R w1 m1 → (o : Option PrimId) → CallAt prog img trees_at prim call' o f n r h.q
-          → Fw prog img trees_at placed rk 8 (Run r (push_all xs h.ops) h.hs h.fs m1) Q (Fv prog img trees_at placed h) (doing (function_op o f us w1) (λ r w2. finish prog r w2 k))
+          → Fw prog img trees_at placed rk 7 (Run r (push_all xs h.ops) h.hs h.fs m1) Q (Fv prog img trees_at placed h) (doing (function_op o f us w1) (λ r w2. finish prog r w2 k))
       go us w1 xs m1 hu len r1 (Some x) is =
-          shift prog img trees_at placed 1 2 (omega arith)
+          shift prog img trees_at placed 1 1 (omega arith)
           (one prog img trees_at placed r h.q (prim x n) (push_all xs h.ops) h.hs h.fs m1 is ∙ does_prim x n r (push_all xs h.ops) m1
           ∙ ap (λ n. pop_many n (push_all xs h.ops) [] m1 (λ vs rest. primitive img want (prim_op codes_of x vs m1) h.q rest h.hs h.fs)) (sym len)
           ∙ pop_pushed xs h.ops m1 (λ vs rest. primitive img want (prim_op codes_of x vs m1) h.q rest h.hs h.fs))
           (op_follows prog img trees_at placed (OutcomeR trees_at) h.hs h.ops h.fs _ _ (prim_same trees_at x hu r1) (λ a b w2 m2 ho r2. finish_follows (caller_at h want) h.fs k ho r2 asks hg fails) fails)
       go us w1 xs m1 hu len r1 None (i, str, is) =
-          shift prog img trees_at placed 1 2 (omega arith)
+          shift prog img trees_at placed 1 1 (omega arith)
           (one prog img trees_at placed r h.q (call' i n) (push_all xs h.ops) h.hs h.fs m1 is ∙ does_call i n r (push_all xs h.ops) m1
           ∙ ap (λ o. load o m1 (λ f. calls img want f n h.q (push_all xs h.ops) h.hs h.fs m1)) str
           ∙ ap (λ n. calls img want f n h.q (push_all xs h.ops) h.hs h.fs m1) (sym len)
@@ -123,7 +123,7 @@ module _ (prog : Program) (img : Module) (trees_at : ℕ → Option Expr) (place
   pub element_follows : {A : Type 0} {rk : ℕ} {Q : A → W → State → Type 0} {w : W} {m : MW} (h : Here) (x : Bytes) (args : Args) (k : Name → W → Rule A) (r s t n e : ℕ)
       → TextAt prog img trees_at op.Var x h.p r → Is prog img trees_at r op.Fetch s → CodeA prog img trees_at args n s t → Is prog img trees_at t (op.Elem n) e → R w m → suc (rank (QArgs args)) ≤ rk
       → ((a : Name) (w1 : W) (m1 : MW) → R w1 m1 → Fw prog img trees_at placed rk 1 (Run e (ON a ∷ h.ops) h.hs h.fs m1) Q (Fv prog img trees_at placed h) (k a w1))
-      → Fw prog img trees_at placed rk 8 (Run h.p h.ops h.hs h.fs m) Q (Fv prog img trees_at placed h) (doing (fetch_op (Variable x) w) (λ a w1. ask (QArgs args) w1 (λ vs w2. doing (element_op a vs w2) k)))
+      → Fw prog img trees_at placed rk 7 (Run h.p h.ops h.hs h.fs m) Q (Fv prog img trees_at placed h) (doing (fetch_op (Variable x) w) (λ a w1. ask (QArgs args) w1 (λ vs w2. doing (element_op a vs w2) k)))
   element_follows {m = m} h x args k r s t n e var fetch code elem wr up hk =
       from prog img trees_at placed 2 (omega arith) (ap (steps img 1) (var_at x h.p r h m var) ∙ one prog img trees_at placed r s op.Fetch (ON (Variable x) ∷ h.ops) h.hs h.fs m fetch)
       (op_follows prog img trees_at placed (VR trees_at) h.hs h.ops h.fs _ _ (fetch_same trees_at (Variable x) wr)

@@ -35,7 +35,7 @@ module _ (prog : Program) (img : Module) (trees_at : ℕ → Option Expr) (place
       → ((x y : MVal) (m : MW) → act img i h.q s (OV y ∷ OV x ∷ h.ops) h.hs h.fs m ≡ after_op (f' x y m) h.hs h.ops h.fs (λ v w1. Run h.q (OV v ∷ h.ops) h.hs h.fs w1))
       → ((u v : Val) (x y : MVal) (w : W) (m : MW) → VR trees_at u x → VR trees_at v y → R w m → OpR trees_at (VR trees_at) (f u v w) (f' x y m))
       → CodeV prog img trees_at x h.p r → CodeV prog img trees_at y r s → Is prog img trees_at s i h.q → R w w'
-      → Fw prog img trees_at placed (rank (QVal (Combine o x y))) 8 (Run h.p h.ops h.hs h.fs w') (Qv prog img trees_at placed h) (Fv prog img trees_at placed h) (two_values x y w f)
+      → Fw prog img trees_at placed (rank (QVal (Combine o x y))) 7 (Run h.p h.ops h.hs h.fs w') (Qv prog img trees_at placed h) (Fv prog img trees_at placed h) (two_values x y w f)
   binary o h r s f f' i acts same cx cy is wr =
       ask_val prog img trees_at placed (at_place h h.p r) cx wr (omega arith)
       (λ u w1 x m1 hu r1. ask_val prog img trees_at placed (more h r s (OV x)) cy r1 (omega arith)
@@ -47,7 +47,7 @@ module _ (prog : Program) (img : Module) (trees_at : ℕ → Option Expr) (place
       → ((x : MVal) (a : target.Name) (m : MW) → act img i h.q s (ON a ∷ OV x ∷ h.ops) h.hs h.fs m ≡ after_op (f' x a m) h.hs h.ops h.fs (λ v w1. Run h.q (OV v ∷ h.ops) h.hs h.fs w1))
       → ((u : Val) (x : MVal) (a : target.Name) (w : W) (m : MW) → VR trees_at u x → R w m → OpR trees_at (VR trees_at) (f u a w) (f' x a m))
       → CodeV prog img trees_at x h.p r → CodeN prog img trees_at y r s → Is prog img trees_at s i h.q → R w w'
-      → Fw prog img trees_at placed (rank (QVal (Combine o x y))) 8 (Run h.p h.ops h.hs h.fs w') (Qv prog img trees_at placed h) (Fv prog img trees_at placed h) (value_and_name x y w f)
+      → Fw prog img trees_at placed (rank (QVal (Combine o x y))) 7 (Run h.p h.ops h.hs h.fs w') (Qv prog img trees_at placed h) (Fv prog img trees_at placed h) (value_and_name x y w f)
   with_name o h r s f f' i acts same cx cy is wr =
       ask_val prog img trees_at placed (at_place h h.p r) cx wr (omega arith)
       (λ u w1 x m1 hu r1. ask_name prog img trees_at placed (more h r s (OV x)) cy r1 (omega arith)
@@ -56,12 +56,12 @@ module _ (prog : Program) (img : Module) (trees_at : ℕ → Option Expr) (place
       (fail_here prog img trees_at placed h)
 
   signed : {x : Expr} {w : W} {w' : MW} (u : Unary) (h : Here) (r : ℕ) (o : SignOp) → CodeV prog img trees_at x h.p r → Is prog img trees_at r (op.Sign o) h.q → R w w'
-      → Fw prog img trees_at placed (rank (QVal (Apply u x))) 8 (Run h.p h.ops h.hs h.fs w') (Qv prog img trees_at placed h) (Fv prog img trees_at placed h) (ask (QVal x) w (λ v w1. doing (sign_op o v w1) Ret))
+      → Fw prog img trees_at placed (rank (QVal (Apply u x))) 7 (Run h.p h.ops h.hs h.fs w') (Qv prog img trees_at placed h) (Fv prog img trees_at placed h) (ask (QVal x) w (λ v w1. doing (sign_op o v w1) Ret))
   signed u h r o code is wr =
       ask_val prog img trees_at placed (at_place h h.p r) code wr (omega arith) (λ u w1 x m1 hu r1. fin_val prog img trees_at placed h (op.Sign o) (omega arith) is refl (sign_same trees_at o hu r1)) (fail_here prog img trees_at placed h)
 
   key_local : (o : Option KeyId) (h : Here) → KeyAt prog img trees_at op.KeyGet o h.p h.q → {rk : ℕ} (w : W) (m : MW) → R w m
-      → Fw prog img trees_at placed rk 8 (Run h.p h.ops h.hs h.fs m) (Qv prog img trees_at placed h) (Fv prog img trees_at placed h) (key_rule o w)
+      → Fw prog img trees_at placed rk 7 (Run h.p h.ops h.hs h.fs m) (Qv prog img trees_at placed h) (Fv prog img trees_at placed h) (key_rule o w)
   key_local None h x w m wr = absurd x
   key_local (Some k) h is w m wr = fin_val prog img trees_at placed h (op.KeyGet k) (omega arith) is refl (keyget_same trees_at k wr)
 
@@ -69,7 +69,7 @@ module _ (prog : Program) (img : Module) (trees_at : ℕ → Option Expr) (place
   under h r s t = record { p = r; q = s; ops = h.ops; hs = OnTry t (length h.ops) ∷ h.hs; fs = h.fs; fit = le_refl (length h.ops) }
 
   pub val_local : (e : Expr) (h : Here) → CodeV prog img trees_at e h.p h.q → (w : W) (m : MW) → R w m
-      → Fw prog img trees_at placed (rank (QVal e)) 8 (Run h.p h.ops h.hs h.fs m) (Qv prog img trees_at placed h) (Fv prog img trees_at placed h) (rule prog (QVal e) w)
+      → Fw prog img trees_at placed (rank (QVal e)) 7 (Run h.p h.ops h.hs h.fs m) (Qv prog img trees_at placed h) (Fv prog img trees_at placed h) (rule prog (QVal e) w)
   val_local (Name x) h (r, var, is) w m wr = from prog img trees_at placed 1 (omega arith) (var_at prog img trees_at placed x h.p r h m var) (fin_val prog img trees_at placed h op.Fetch (omega arith) is refl (fetch_same trees_at (target.Variable x) wr))
   val_local (Integer z) h is w m wr = answers prog img trees_at placed 1 (omega arith) (Int z, m, rint z, wr, one prog img trees_at placed h.p h.q (op.Int z) h.ops h.hs h.fs m is)
   val_local (Literal s) h (k, str, is) w m wr =
@@ -136,7 +136,7 @@ module _ (prog : Program) (img : Module) (trees_at : ℕ → Option Expr) (place
       binary b.Alternate h r s (alt_op trees) (alt_op codes_of) op.Alt (λ x y m. refl) (λ u v x y w m hu hv r. alt_same trees_at hu hv r) cx cy is wr
 
   pub name_local : (e : Expr) (h : Here) → CodeN prog img trees_at e h.p h.q → (w : W) (m : MW) → R w m
-      → Fw prog img trees_at placed (rank (QName e)) 8 (Run h.p h.ops h.hs h.fs m) (Qn prog img trees_at placed h) (Fv prog img trees_at placed h) (rule prog (QName e) w)
+      → Fw prog img trees_at placed (rank (QName e)) 7 (Run h.p h.ops h.hs h.fs m) (Qn prog img trees_at placed h) (Fv prog img trees_at placed h) (rule prog (QName e) w)
   name_local (Name x) h var w m wr = answers prog img trees_at placed 1 (omega arith) (m, wr, var_at prog img trees_at placed x h.p h.q h m var)
   name_local (Apply u.Indirect e) h (r, code, is) w m wr =
       ask_val prog img trees_at placed (at_place h h.p r) code wr (omega arith) (λ u w1 x m1 hu r1. fin_name prog img trees_at placed h op.Indir (omega arith) is refl (indir_same trees_at hu r1)) (fail_here prog img trees_at placed h)
@@ -152,7 +152,7 @@ module _ (prog : Program) (img : Module) (trees_at : ℕ → Option Expr) (place
   Qa h n vs w c = (ms : List MVal) × (w' : MW) × VRs trees_at vs ms × (length ms ≡ n) × R w w' × (c ≡ Run h.q (push_all ms h.ops) h.hs h.fs w')
 
   pub args_local : (args : Args) (h : Here) (n : ℕ) → CodeA prog img trees_at args n h.p h.q → (w : W) (m : MW) → R w m
-      → Fw prog img trees_at placed (rank (QArgs args)) (8 * own prog img trees_at (QArgs args) w + extra (QArgs args)) (Run h.p h.ops h.hs h.fs m) (Qa h n) (Fv prog img trees_at placed h) (rule prog (QArgs args) w)
+      → Fw prog img trees_at placed (rank (QArgs args)) (7 * own prog img trees_at (QArgs args) w + extra (QArgs args)) (Run h.p h.ops h.hs h.fs m) (Qa h n) (Fv prog img trees_at placed h) (rule prog (QArgs args) w)
   args_local Nil h n (len, at) w m wr = answers prog img trees_at placed 0 (omega arith) ([], m, rnil, sym len, wr, ap (λ p. Run p h.ops h.hs h.fs m) (sym at))
   args_local (More Absent args) h n (r, l, is, codes, len) w m wr =
       from prog img trees_at placed 1 (omega arith) (one prog img trees_at placed h.p r op.Null h.ops h.hs h.fs m is) (ask_args prog img trees_at placed (more h r h.q (OV (Str []))) l codes wr (omega arith)

@@ -67,10 +67,9 @@ rank (QBody b) = 3 + 2 * body_size b
 rank (QExec k) = 1
 rank (QMatch s p left t) = 0
 
--- the steps that a query takes beside eight for each rule that it uses
+-- the steps that a query takes beside seven for each rule that it uses
 abbrev pub extra : Query → ℕ
 extra (QBody b) = 4
-extra (QExec k) = 1
 extra _ = 0
 
 -- the frames of a goto: none, or a call's on top
@@ -147,12 +146,13 @@ module _ (prog : Program) (img : Module) (trees_at : ℕ → Option Expr) where
   Still (Stuck m) w = ⊥
 
   -- the machine follows a rule from this state, Q where it answers and F where it fails: it comes to what is asked, of a rank
-  -- below r or, after a step, below any number, and goes on from there. It takes b steps beside those of what is asked. A
+  -- below r or, after a step, below any number, and goes on from there. It takes b steps beside those of what is asked, and
+  -- to end the run one more. A
   -- search is of rank 0: its steps have a bound of their own, and what follows an event takes one at most
   abbrev pub Follows : {A : Type 0} → (r b : ℕ) → State → (A → W → State → Type 0) → (W → State → Type 0) → Rule A → Type 0
   Follows r b c Q F (Ret a w) = (j : ℕ) × (j ≤ b) × Q a w (steps img j c)
   Follows r b c Q F (Fail w) = (j : ℕ) × (j ≤ b) × F w (steps img j c)
-  Follows r b c Q F (Stop e w) = (j : ℕ) × (j ≤ b) × Stopped e w (steps img j c)
+  Follows r b c Q F (Stop e w) = (j : ℕ) × (j ≤ suc b) × Stopped e w (steps img j c)
   Follows r b c Q F (Ask q w k f) =
       (j : ℕ) × (t : Task q) × (w' : MW) × (steps img j c ≡ start q t w') × WR trees_at w w' × (r' : ℕ) × (suc (rank q) ≤ r') × ((1 ≤ j) ⊎ (r' ≤ r)) × (b' : ℕ) × (j + extra q + b' ≤ b)
       × ((a : Ans q) (u : W) (d : State) → done q t a u d → Follows r' b' d Q F (k a u))
@@ -200,7 +200,7 @@ module _ (prog : Program) (img : Module) (trees_at : ℕ → Option Expr) where
   Sim n = (q : Query) (t : Task q) (w : W) (w' : MW) → WR trees_at w w' → Fits 0 (start q t w') (done q t) (failed q t) (meaning prog n q w)
 
   abbrev pub Local : Type 0
-  Local = (q : Query) (t : Task q) (w : W) (w' : MW) → WR trees_at w w' → Follows (rank q) (8 * own q w + extra q) (start q t w') (done q t) (failed q t) (rule prog q w)
+  Local = (q : Query) (t : Task q) (w : W) (w' : MW) → WR trees_at w w' → Follows (rank q) (7 * own q w + extra q) (start q t w') (done q t) (failed q t) (rule prog q w)
 
   seek_fits : {A : Type 0} (n : ℕ) (c : State) (Q : A → W → State → Type 0) (F : W → State → Type 0) (g : ℕ → Option Event) (w : W) (k : Event → Rule A)
       → ((e : Event) → g (suc n) ≡ Some e → Fits 0 c Q F (at_depth prog n (k e))) → (i : ℕ) × Still (steps img i c) w → Fits 0 c Q F (at_depth prog n (Seek g w k))
@@ -233,7 +233,7 @@ module _ (prog : Program) (img : Module) (trees_at : ℕ → Option Expr) where
   pub sim_all : Local → (n : ℕ) → Sim n
   unfolding meaning
   sim_all loc zero q t w w' wr = (0, zero-le, start_prints q t w w' (ap (λ p. p.printed) (sym wr.io)))
-  sim_all loc (suc n) q t w w' wr = follow_fits n (sim_all loc n) (rank q) (8 * own q w + extra q) (start q t w') (done q t) (failed q t) (rule prog q w) (loc q t w w' wr)
+  sim_all loc (suc n) q t w w' wr = follow_fits n (sim_all loc n) (rank q) (7 * own q w + extra q) (start q t w') (done q t) (failed q t) (rule prog q w) (loc q t w w' wr)
 
   goes_from : {A : Type 0} (i m l : ℕ) (c b : State) (Q : A → W → State → Type 0) (F : W → State → Type 0) (r : ℕ → Res A) → l ≤ i + m → steps img i c ≡ b → Goes m b Q F r → Goes l c Q F r
   goes_from i m l c b Q F r le e (n, inl s) = (n, inl s)
@@ -369,10 +369,10 @@ module _ (prog : Program) (img : Module) (trees_at : ℕ → Option Expr) where
     goes_rank : (l : ℕ) → ((q : Query) → Prog' (pred l) q) → (r : ℕ) (q : Query) → rank q ≤ r → Prog' l q
     goes_rank l h1 zero q le t w w' wr =
         shifted l q (start q t w') (done q t) (failed q t) w
-        (follow_goes l (rank q) (8 * own q w + extra q) ((λ q' lt. absurd (omega arith)), h1) w (start q t w') (done q t) (failed q t) (rule prog q w) (on q w) (loc q t w w' wr))
+        (follow_goes l (rank q) (7 * own q w + extra q) ((λ q' lt. absurd (omega arith)), h1) w (start q t w') (done q t) (failed q t) (rule prog q w) (on q w) (loc q t w w' wr))
     goes_rank l h1 (suc r) q le t w w' wr =
         shifted l q (start q t w') (done q t) (failed q t) w
-        (follow_goes l (rank q) (8 * own q w + extra q) ((λ q' lt. goes_rank l h1 r q' (omega arith)), h1) w (start q t w') (done q t) (failed q t) (rule prog q w) (on q w) (loc q t w w' wr))
+        (follow_goes l (rank q) (7 * own q w + extra q) ((λ q' lt. goes_rank l h1 r q' (omega arith)), h1) w (start q t w') (done q t) (failed q t) (rule prog q w) (on q w) (loc q t w w' wr))
 
     pub goes_all : (l : ℕ) (q : Query) → Prog' l q
     goes_all zero q t w w' wr = (0, inr (λ d. sim_all loc (d + 0) q t w w' wr))

@@ -54,11 +54,11 @@ module _ (prog : Program) (img : Module) (trees_at : ℕ → Option Expr) (place
   as_it_is i m m' c (Open w) le x = tt
 
   again_paced : {y : Answer Pt.Pat} {z : Answer PCode} {w : W} {m : MW} (i : ℕ) (v : Pt.Ask ℕ) → AlikeAnswer trees_at y z → S.event_of (at i) ≡ Running → S.event_of (at (suc i)) ≡ Asks v → R w m
-      → Rm (t.so_far + suc i) (8 * count_at prog img trees_at n (again s p left u y w)) (InMatch t.g (S.with_more (z ∷ []) (at (suc i))) t.fs m) (at_depth prog n (again s p left u y w))
+      → Rm (t.so_far + suc i) (7 * count_at prog img trees_at n (again s p left u y w)) (InMatch t.g (S.with_more (z ∷ []) (at (suc i))) t.fs m) (at_depth prog n (again s p left u y w))
   unfolding more_task
   again_paced {y} {z} {w} {m} i v al run is wr =
       let c : ℕ = count prog n (QMatch s p left (u ++ y ∷ [])) w in
-      as_it_is (t.so_far + suc i) (8 * c + 0) (8 * count_at prog img trees_at n (again s p left u y w)) (InMatch t.g (S.with_more (z ∷ []) (at (suc i))) t.fs m) (meaning prog n (QMatch s p left (u ++ y ∷ [])) w) (omega arith)
+      as_it_is (t.so_far + suc i) (7 * c + 0) (7 * count_at prog img trees_at n (again s p left u y w)) (InMatch t.g (S.with_more (z ∷ []) (at (suc i))) t.fs m) (meaning prog n (QMatch s p left (u ++ y ∷ [])) w) (omega arith)
       (sim (QMatch s p left (u ++ y ∷ [])) (more_task prog img trees_at placed s p left u t i v al run is) w m wr)
 
   -- ---- what follows each event
@@ -67,16 +67,16 @@ module _ (prog : Program) (img : Module) (trees_at : ℕ → Option Expr) (place
   C = scan_count s (suc n) p left 0 u
 
   answer_paced : {c : Conv (Answer Pt.Pat)} {c' : Conv (Answer PCode)} {w : W} {m : MW} (i : ℕ) (v : Pt.Ask ℕ) → ConvR (AlikeAnswer trees_at) c c' → S.event_of (at i) ≡ Running → S.event_of (at (suc i)) ≡ Asks v → t.so_far + suc i ≤ 4 * C → R w m
-      → Rm (t.so_far + suc i) (4 * answer_count C c + 8 * count_at prog img trees_at n (answering s p left u c w)) (supplied c' t.g (at (suc i)) t.fs m) (at_depth prog n (answering s p left u c w))
+      → Rm (t.so_far + suc i) (4 * answer_count C c + 7 * count_at prog img trees_at n (answering s p left u c w)) (supplied c' t.g (at (suc i)) t.fs m) (at_depth prog n (answering s p left u c w))
   answer_paced {w = w} {m} i v (got {a = y} {b = z} al) run is le wr =
-      reaches_from prog img trees_at 0 (t.so_far + suc i) (t.so_far + suc i) (8 * count_at prog img trees_at n (again s p left u y w)) (4 * 1 + 8 * count_at prog img trees_at n (again s p left u y w)) (InMatch t.g (S.with_more (z ∷ []) (at (suc i))) t.fs m) Qm Fm (at_depth prog n (again s p left u y w)) (omega arith)
+      reaches_from prog img trees_at 0 (t.so_far + suc i) (t.so_far + suc i) (7 * count_at prog img trees_at n (again s p left u y w)) (4 * 1 + 7 * count_at prog img trees_at n (again s p left u y w)) (InMatch t.g (S.with_more (z ∷ []) (at (suc i))) t.fs m) Qm Fm (at_depth prog n (again s p left u y w)) (omega arith)
       (again_paced i v al run is wr)
   answer_paced {m = m} i v (bad e) run is le wr = (0, omega (arith, le), (m, wr, ap (λ k. Over (ending.Error e k.stno) m) (keys_same trees_at wr)))
 
   said_paced : {o : Op W (record {})} {o' : Op MW (record {})} (i : ℕ) (v : Pt.Ask ℕ) → OpR trees_at Any o o' → S.event_of (at i) ≡ Running → S.event_of (at (suc i)) ≡ Asks v → t.so_far + suc i ≤ 4 * C
-      → Rm (t.so_far + suc i) (8 * (said_count C o + count_at prog img trees_at n (doing o (λ _ w1. again s p left u IsSaid w1)))) (after_op o' t.g.hs t.g.ops t.fs (λ _ w1. InMatch t.g (S.with_more (IsSaid ∷ []) (at (suc i))) t.fs w1)) (at_depth prog n (doing o (λ _ w1. again s p left u IsSaid w1)))
+      → Rm (t.so_far + suc i) (7 * (said_count C o + count_at prog img trees_at n (doing o (λ _ w1. again s p left u IsSaid w1)))) (after_op o' t.g.hs t.g.ops t.fs (λ _ w1. InMatch t.g (S.with_more (IsSaid ∷ []) (at (suc i))) t.fs w1)) (at_depth prog n (doing o (λ _ w1. again s p left u IsSaid w1)))
   said_paced i v (gives {w = w} {m = m} x wr) run is le =
-      reaches_from prog img trees_at 0 (t.so_far + suc i) (t.so_far + suc i) (8 * count_at prog img trees_at n (again s p left u IsSaid w)) (8 * (1 + count_at prog img trees_at n (again s p left u IsSaid w))) (InMatch t.g (S.with_more (IsSaid ∷ []) (at (suc i))) t.fs m) Qm Fm (at_depth prog n (again s p left u IsSaid w)) (omega arith)
+      reaches_from prog img trees_at 0 (t.so_far + suc i) (t.so_far + suc i) (7 * count_at prog img trees_at n (again s p left u IsSaid w)) (7 * (1 + count_at prog img trees_at n (again s p left u IsSaid w))) (InMatch t.g (S.with_more (IsSaid ∷ []) (at (suc i))) t.fs m) Qm Fm (at_depth prog n (again s p left u IsSaid w)) (omega arith)
       (again_paced i v St.said run is wr)
   said_paced i v (refuses {m = m} wr) run is le = (0, omega (arith, le), (m, wr, refl))
   said_paced i v (faults e {m = m} wr) run is le = (0, omega (arith, le), (m, wr, ap (λ k. Over (ending.Error e k.stno) m) (keys_same trees_at wr)))
@@ -90,8 +90,8 @@ module _ (prog : Program) (img : Module) (trees_at : ℕ → Option Expr) (place
 
   -- an evaluation that a match asked for, and what follows it
   eval_paced : (m : MW) (e : Expr) (w : W) (k : Want) (l i p' q' r' : ℕ) (code : CodeV prog img trees_at e p' q') → Is prog img trees_at q' op.Ret r' → S.event_of (at i) ≡ Running → S.event_of (at (suc i)) ≡ Asks (AskFor l k) → t.so_far + suc i ≤ 4 * C
-      → (cq : ℕ) (r : Res Val) → Reaches prog img trees_at 0 (8 * cq + 0) (Run p' [] [] (InEval t.g k (at (suc i)) ∷ t.fs) m) (done prog img trees_at (QVal e) (inner p' q' k i, code)) (failed prog img trees_at (QVal e) (inner p' q' k i, code)) r
-      → Rm (t.so_far + suc i) (8 * (evaluated_count C k r + (cq + after_count r (λ a w1. count_at prog img trees_at n (answering s p left u (answer_of trees k a) w1)) (λ w1. count_at prog img trees_at n (again s p left u IsFailed w1)))))
+      → (cq : ℕ) (r : Res Val) → Reaches prog img trees_at 0 (7 * cq + 0) (Run p' [] [] (InEval t.g k (at (suc i)) ∷ t.fs) m) (done prog img trees_at (QVal e) (inner p' q' k i, code)) (failed prog img trees_at (QVal e) (inner p' q' k i, code)) r
+      → Rm (t.so_far + suc i) (7 * (evaluated_count C k r + (cq + after_count r (λ a w1. count_at prog img trees_at n (answering s p left u (answer_of trees k a) w1)) (λ w1. count_at prog img trees_at n (again s p left u IsFailed w1)))))
       (Run p' [] [] (InEval t.g k (at (suc i)) ∷ t.fs) m) (after r (λ a w1. at_depth prog n (answering s p left u (answer_of trees k a) w1)) (λ w1. at_depth prog n (again s p left u IsFailed w1)))
   eval_paced m e w k l i p' q' r' code ret run is le cq (Done a w1) (j, h, (x, m1, ha, r1, e1)) =
       let fs' = InEval t.g k (at (suc i)) ∷ t.fs in
@@ -103,27 +103,27 @@ module _ (prog : Program) (img : Module) (trees_at : ℕ → Option Expr) (place
       let ca : ℕ = count_at prog img trees_at n (answering s p left u (answer_of trees k a) w1) in
       let some : 1 ≤ ac = answer_some (answer_of trees k a) (omega (arith, le)) in
       let q : steps img 1 c1 ≡ c2 = one prog img trees_at placed q' r' op.Ret (OV x ∷ []) [] (InEval t.g k (at (suc i)) ∷ t.fs) m1 ret in
-      let last : Rm (t.so_far + suc i) (4 * ac + 8 * ca) c2 y = answer_paced i (AskFor l k) (answer_same trees_at k ha) run is le r1 in
-      let mid : Rm (t.so_far + suc i) (1 + (4 * ac + 8 * ca)) c1 y = reaches_from prog img trees_at 1 (t.so_far + suc i) (t.so_far + suc i) (4 * ac + 8 * ca) (1 + (4 * ac + 8 * ca)) c1 Qm Fm y (omega arith) (subst (λ z. Rm (t.so_far + suc i) (4 * ac + 8 * ca) z y) (sym q) last) in
-      reaches_from prog img trees_at j (t.so_far + suc i) (t.so_far + suc i) (1 + (4 * ac + 8 * ca)) (8 * (ac + (cq + ca))) c0 Qm Fm y (omega (arith, h, some)) (subst (λ z. Rm (t.so_far + suc i) (1 + (4 * ac + 8 * ca)) z y) (sym e1) mid)
+      let last : Rm (t.so_far + suc i) (4 * ac + 7 * ca) c2 y = answer_paced i (AskFor l k) (answer_same trees_at k ha) run is le r1 in
+      let mid : Rm (t.so_far + suc i) (1 + (4 * ac + 7 * ca)) c1 y = reaches_from prog img trees_at 1 (t.so_far + suc i) (t.so_far + suc i) (4 * ac + 7 * ca) (1 + (4 * ac + 7 * ca)) c1 Qm Fm y (omega arith) (subst (λ z. Rm (t.so_far + suc i) (4 * ac + 7 * ca) z y) (sym q) last) in
+      reaches_from prog img trees_at j (t.so_far + suc i) (t.so_far + suc i) (1 + (4 * ac + 7 * ca)) (7 * (ac + (cq + ca))) c0 Qm Fm y (omega (arith, h, some)) (subst (λ z. Rm (t.so_far + suc i) (1 + (4 * ac + 7 * ca)) z y) (sym e1) mid)
   eval_paced m e w k l i p' q' r' code ret run is le cq (Fails w1) (j, h, (m1, r1, e1)) =
       let c0 : State = Run p' [] [] (InEval t.g k (at (suc i)) ∷ t.fs) m in
       let c1 : State = InMatch t.g (S.with_more (IsFailed ∷ []) (at (suc i))) t.fs m1 in
       let y : Res Span = at_depth prog n (again s p left u IsFailed w1) in
       let ca : ℕ = count_at prog img trees_at n (again s p left u IsFailed w1) in
-      let last : Rm (t.so_far + suc i) (8 * ca) c1 y = again_paced i (AskFor l k) St.failed run is r1 in
-      reaches_from prog img trees_at j (t.so_far + suc i) (t.so_far + suc i) (8 * ca) (8 * (1 + (cq + ca))) c0 Qm Fm y (omega (arith, h)) (subst (λ z. Rm (t.so_far + suc i) (8 * ca) z y) (sym e1) last)
+      let last : Rm (t.so_far + suc i) (7 * ca) c1 y = again_paced i (AskFor l k) St.failed run is r1 in
+      reaches_from prog img trees_at j (t.so_far + suc i) (t.so_far + suc i) (7 * ca) (7 * (1 + (cq + ca))) c0 Qm Fm y (omega (arith, h)) (subst (λ z. Rm (t.so_far + suc i) (7 * ca) z y) (sym e1) last)
   eval_paced m e w k l i p' q' r' code ret run is le cq (Ends x w1) (j, h, y) = (j, omega (arith, h, le), y)
   eval_paced m e w k l i p' q' r' code ret run is le cq (Open w1) x = tt
 
   event_paced : {w : W} {m : MW} (i : ℕ) (x : Event) (y : Pt.Event ℕ) → AlikeEvent trees_at x y → S.event_of (at i) ≡ Running → S.event_of (at (suc i)) ≡ y → t.so_far + suc i ≤ 4 * C → R w m
-      → Rm (t.so_far + suc i) (8 * (match_count (λ r v. meaning prog n r v) x C w + count_at prog img trees_at n (match_rule s p left u w x))) (on_event img y t.g (at (suc i)) t.fs m) (at_depth prog n (match_rule s p left u w x))
+      → Rm (t.so_far + suc i) (7 * (match_count (λ r v. meaning prog n r v) x C w + count_at prog img trees_at n (match_rule s p left u w x))) (on_event img y t.g (at (suc i)) t.fs m) (at_depth prog n (match_rule s p left u w x))
   event_paced {m = m} i x y St.fail run is le wr = (0, omega (arith, le), (m, wr, refl))
   event_paced {w} {m} i x y (St.match {b = b} {e = e} {a = a}) run is le wr =
       let fw : Fw prog img trees_at placed 1 0 (on_event img (Matched b e a) t.g (at (suc i)) t.fs m) Qm Fm (match_rule s p left u w (Matched b e a)) =
       op_follows prog img trees_at placed Any t.g.hs t.g.ops t.fs _ _ (assign_all_same trees_at a wr) (λ x y w1 m1 hx r1. answers prog img trees_at placed 0 (omega arith) (m1, r1, refl)) (λ w1 m1 r1. (m1, r1, refl)) in
       let ca : ℕ = count_at prog img trees_at n (match_rule s p left u w (Matched b e a)) in
-      reaches_from prog img trees_at 0 (t.so_far + suc i) 0 (0 + 8 * ca) (8 * (C + ca)) (on_event img (Matched b e a) t.g (at (suc i)) t.fs m) Qm Fm (at_depth prog n (match_rule s p left u w (Matched b e a))) (omega (arith, le))
+      reaches_from prog img trees_at 0 (t.so_far + suc i) 0 (0 + 7 * ca) (7 * (C + ca)) (on_event img (Matched b e a) t.g (at (suc i)) t.fs m) Qm Fm (at_depth prog n (match_rule s p left u w (Matched b e a))) (omega (arith, le))
       (follow_reaches prog img trees_at n sim 1 0 (omega arith) (on_event img (Matched b e a) t.g (at (suc i)) t.fs m) Qm Fm (match_rule s p left u w (Matched b e a)) fw.by)
   event_paced i x y (St.ask (St.says {x = o} {v = v})) run is le wr =
       said_paced i (SayThat o v) (assign_same trees_at o (told_same trees_at v) wr) run is le
@@ -133,9 +133,9 @@ module _ (prog : Program) (img : Module) (trees_at : ℕ → Option Expr) (place
       x' = Asks (AskFor e k)
 
       go : (p' q' r' : ℕ) × (img.expr l ≡ Some p') × CodeV prog img trees_at e p' q' × Is prog img trees_at q' op.Ret r'
-          → Rm (t.so_far + suc i) (8 * (match_count (λ r v. meaning prog n r v) (Asks (AskFor e k)) C w + count_at prog img trees_at n (match_rule s p left u w (Asks (AskFor e k))))) (on_event img (Asks (AskFor l k)) t.g (at (suc i)) t.fs m) (at_depth prog n (match_rule s p left u w (Asks (AskFor e k))))
+          → Rm (t.so_far + suc i) (7 * (match_count (λ r v. meaning prog n r v) (Asks (AskFor e k)) C w + count_at prog img trees_at n (match_rule s p left u w (Asks (AskFor e k))))) (on_event img (Asks (AskFor l k)) t.g (at (suc i)) t.fs m) (at_depth prog n (match_rule s p left u w (Asks (AskFor e k))))
       go (p', q', r', at', code, ret) =
-          subst (λ c. Rm (t.so_far + suc i) (8 * (match_count (λ r v. meaning prog n r v) (Asks (AskFor e k)) C w + count_at prog img trees_at n (match_rule s p left u w (Asks (AskFor e k))))) c (at_depth prog n (match_rule s p left u w (Asks (AskFor e k)))))
+          subst (λ c. Rm (t.so_far + suc i) (7 * (match_count (λ r v. meaning prog n r v) (Asks (AskFor e k)) C w + count_at prog img trees_at n (match_rule s p left u w (Asks (AskFor e k))))) c (at_depth prog n (match_rule s p left u w (Asks (AskFor e k)))))
           (sym (ap (λ o. to_stmt img o (InEval t.g k (at (suc i)) ∷ t.fs) m) at'))
           (eval_paced m e w k l i p' q' r' code ret run is le (count prog n (QVal e) w) (meaning prog n (QVal e) w) (sim (QVal e) (inner p' q' k i, code) w m wr))
 
@@ -168,20 +168,20 @@ module _ (prog : Program) (img : Module) (trees_at : ℕ → Option Expr) (place
           absurd (subst (IsOver t.g.subject t.g.code) (sym (later t.g.subject t.g.code l c.i t.st (S.event_of (at l)) over ge refl) ∙ c.last) over)
 
   seen_paced : (w : W) (m : MW) → R w m → (x : Event) → told_at x ≡ Some x → First m x
-      → Rm t.so_far (8 * (match_count (λ r v. meaning prog n r v) x C w + count_at prog img trees_at n (match_rule s p left u w x))) (InMatch t.g t.st t.fs m) (at_depth prog n (match_rule s p left u w x))
+      → Rm t.so_far (7 * (match_count (λ r v. meaning prog n r v) x C w + count_at prog img trees_at n (match_rule s p left u w x))) (InMatch t.g t.st t.fs m) (at_depth prog n (match_rule s p left u w x))
   unfolding First
   seen_paced w m wr x told (c, le, h) =
-      let b : ℕ = 8 * (match_count (λ r v. meaning prog n r v) x C w + count_at prog img trees_at n (match_rule s p left u w x)) in
+      let b : ℕ = 7 * (match_count (λ r v. meaning prog n r v) x C w + count_at prog img trees_at n (match_rule s p left u w x)) in
       reaches_from prog img trees_at (suc c.i) t.so_far (t.so_far + suc c.i) b b (InMatch t.g t.st t.fs m) Qm Fm (at_depth prog n (match_rule s p left u w x)) (omega arith)
       (subst (λ z. Rm (t.so_far + suc c.i) b z (at_depth prog n (match_rule s p left u w x))) (sym c.at)
       (event_paced c.i x (S.event_of (at (suc c.i))) h c.last refl le wr))
 
-  pub match_paced : (w : W) (m : MW) → R w m → Rm t.so_far (8 * count prog (suc n) (QMatch s p left u) w) (InMatch t.g t.st t.fs m) (meaning prog (suc n) (QMatch s p left u) w)
+  pub match_paced : (w : W) (m : MW) → R w m → Rm t.so_far (7 * count prog (suc n) (QMatch s p left u) w) (InMatch t.g t.st t.fs m) (meaning prog (suc n) (QMatch s p left u) w)
   unfolding meaning count C
   match_paced w m wr = go (scan s (suc n) p left 0 u) (λ o. law o)
     where
       go : (x : Event) → ((x ≡ Running → ⊥) → (l : ℕ) × (t.so_far + l ≤ 4 * C) × AlikeEvent trees_at x (S.event_of (at l)))
-          → Rm t.so_far (8 * (match_count (λ r v. meaning prog n r v) x C w + event_count (told_at x) (λ e. count_at prog img trees_at n (match_rule s p left u w e)))) (InMatch t.g t.st t.fs m) (sought (told_at x) w (λ e. at_depth prog n (match_rule s p left u w e)))
+          → Rm t.so_far (7 * (match_count (λ r v. meaning prog n r v) x C w + event_count (told_at x) (λ e. count_at prog img trees_at n (match_rule s p left u w e)))) (InMatch t.g t.st t.fs m) (sought (told_at x) w (λ e. at_depth prog n (match_rule s p left u w e)))
       go Running h = tt
       go Failed h = seen_paced w m wr Failed refl (first m Failed (h (λ q. subst IsEvent q tt)))
       go (Asks v) h = seen_paced w m wr (Asks v) refl (first m (Asks v) (h (λ q. subst IsEvent q tt)))

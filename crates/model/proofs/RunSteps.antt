@@ -1,4 +1,4 @@
--- The run of a module takes at most eight steps for each rule used, and eight more.
+-- The run of a module takes at most seven steps for each rule used, and one more.
 use Rattle.std.proofs.Common.{◌≡◌, ℕ, zero, suc, ◌+◌, ◌-◌, ◌*◌, ◌≤◌, Option, Some, None, refl, sym, ap, ◌∙◌, subst, arith}
 use Rattle.model.specs.declared.run.Ending.{Ending}
 use Rattle.model.specs.Trees.{Nil, More, Absent, Given}
@@ -20,13 +20,13 @@ use Rattle.model.proofs.AgreementLaw.{Never, Nowhere, run_follows, over_stays, f
 module _ (prog : Program) (img : Module) (trees_at : ℕ → Option _) (placed : Placed prog img trees_at) where
   -- a rule is the meaning one level up
   level_up : (n : ℕ) → SimPaced prog img trees_at n → (q : Query) → 1 ≤ rank q → own_count prog (suc n) (λ r v. meaning prog n r v) q ≡ own prog img trees_at q
-      → (t : Task prog img trees_at q) (w : W) (w' : MW) → WR trees_at w w' → Reaches prog img trees_at 0 (8 * count prog (suc n) q w + extra q) (start prog img trees_at q t w') (done prog img trees_at q t) (failed prog img trees_at q t) (meaning prog (suc n) q w)
+      → (t : Task prog img trees_at q) (w : W) (w' : MW) → WR trees_at w w' → Reaches prog img trees_at 0 (7 * count prog (suc n) q w + extra q) (start prog img trees_at q t w') (done prog img trees_at q t) (failed prog img trees_at q t) (meaning prog (suc n) q w)
   unfolding meaning count
   level_up n sim q up own_is t w w' wr =
-      let b : ℕ = 8 * own prog img trees_at q w + extra q in
-      let c : ℕ = b + 8 * count_at prog img trees_at n (rule prog q w) in
+      let b : ℕ = 7 * own prog img trees_at q w + extra q in
+      let c : ℕ = b + 7 * count_at prog img trees_at n (rule prog q w) in
       let same : own_count prog (suc n) (λ r v. meaning prog n r v) q w ≡ own prog img trees_at q w = ap (λ f. f w) own_is in
-      reaches_from prog img trees_at 0 0 0 c (8 * count prog (suc n) q w + extra q) (start prog img trees_at q t w') (done prog img trees_at q t) (failed prog img trees_at q t) (meaning prog (suc n) q w) (omega (arith, same))
+      reaches_from prog img trees_at 0 0 0 c (7 * count prog (suc n) q w + extra q) (start prog img trees_at q t w') (done prog img trees_at q t) (failed prog img trees_at q t) (meaning prog (suc n) q w) (omega (arith, same))
       (follow_reaches prog img trees_at n sim (rank q) b up (start prog img trees_at q t w') (done prog img trees_at q t) (failed prog img trees_at q t) (rule prog q w) (local prog img trees_at placed q t w w' wr))
 
   pub sim_paced : (n : ℕ) → SimPaced prog img trees_at n
@@ -40,7 +40,7 @@ module _ (prog : Program) (img : Module) (trees_at : ℕ → Option _) (placed :
   sim_paced (suc n) (QBody b) t w w' wr = level_up n (sim_paced n) (QBody b) (omega arith) refl t w w' wr
   sim_paced (suc n) (QExec k) t w w' wr = level_up n (sim_paced n) (QExec k) (omega arith) refl t w w' wr
   sim_paced (suc n) (QMatch s p left u) t w w' wr =
-      let l : ℕ = 8 * count prog (suc n) (QMatch s p left u) w in
+      let l : ℕ = 7 * count prog (suc n) (QMatch s p left u) w in
       reaches_from prog img trees_at 0 t.so_far t.so_far l (l + 0) (start prog img trees_at (QMatch s p left u) t w') (done prog img trees_at (QMatch s p left u) t) (failed prog img trees_at (QMatch s p left u) t) (meaning prog (suc n) (QMatch s p left u) w) (omega arith)
       (match_paced prog img trees_at placed n (sim_paced n) s p left u t w w' wr)
 
@@ -51,17 +51,17 @@ module _ (prog : Program) (img : Module) (trees_at : ℕ → Option _) (placed :
     abbrev Fr : W → State → Type 0
     Fr = Nowhere prog img trees_at placed w m wr
 
-    run_reaches : (n : ℕ) → Reaches prog img trees_at 0 (2 + 8 * count_at prog img trees_at n (run_rule prog w)) (begun img m) Qr Fr (run prog n w)
-    run_reaches n = follow_reaches prog img trees_at n (sim_paced n) 2 2 (omega arith) (begun img m) Qr Fr (run_rule prog w) (run_follows prog img trees_at placed w m wr)
+    run_reaches : (n : ℕ) → Reaches prog img trees_at 0 (0 + 7 * count_at prog img trees_at n (run_rule prog w)) (begun img m) Qr Fr (run prog n w)
+    run_reaches n = follow_reaches prog img trees_at n (sim_paced n) 2 0 (omega arith) (begun img m) Qr Fr (run_rule prog w) (run_follows prog img trees_at placed w m wr)
 
     abbrev IsThere : Option Ending → Type 0
     IsThere None = ⊥
     IsThere (Some e) = Unit {0}
 
-    pub ended_by : (n : ℕ) (e : Ending) → (seen_of (run prog n w)).ending ≡ Some e → (b : ℕ) → 8 * (count_at prog img trees_at n (run_rule prog w) + 1) ≤ b → seen_at (steps img b (begun img m)) ≡ seen_of (run prog n w)
+    pub ended_by : (n : ℕ) (e : Ending) → (seen_of (run prog n w)).ending ≡ Some e → (b : ℕ) → suc (7 * count_at prog img trees_at n (run_rule prog w)) ≤ b → seen_at (steps img b (begun img m)) ≡ seen_of (run prog n w)
     ended_by n e h b le = go (run prog n w) h (run_reaches n)
       where
-        go : (r : Res (record {})) → (seen_of r).ending ≡ Some e → Reaches prog img trees_at 0 (2 + 8 * count_at prog img trees_at n (run_rule prog w)) (begun img m) Qr Fr r → seen_at (steps img b (begun img m)) ≡ seen_of r
+        go : (r : Res (record {})) → (seen_of r).ending ≡ Some e → Reaches prog img trees_at 0 (0 + 7 * count_at prog img trees_at n (run_rule prog w)) (begun img m) Qr Fr r → seen_at (steps img b (begun img m)) ≡ seen_of r
         go (Done a v) h x = absurd x.2
         go (Fails v) h x = absurd x.2
         go (Ends f v) h (j, x, (m', r1, at)) =
@@ -72,4 +72,4 @@ module _ (prog : Program) (img : Module) (trees_at : ℕ → Option _) (placed :
 
 pub run_steps_law : RunStepsBounded
 run_steps_law deck image at placed inputs n e h b le =
-    ended_by (program deck) (module_of image) at placed (first_w inputs) (first_m inputs) (first_same at inputs) n e h b le
+    ended_by (program deck) (module_of image) at placed (first_w inputs) (first_m inputs) (first_same at inputs) n e h b (omega (arith, le))

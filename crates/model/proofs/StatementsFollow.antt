@@ -96,30 +96,30 @@ module _ (prog : Program) (img : Module) (trees_at : ℕ → Option Expr) (place
   abbrev Fe : W → State → Type 0
   Fe w c = ⊥
 
-  ask_exec : {rk k o : ℕ} {fs : List Frame} {w : W} {m : MW} → Base fs → 2 ≤ rk → img.stmt k ≡ Some o → R w m → Fw prog img trees_at placed rk 1 (Run o [] [] fs m) (Qe fs) Fe (Ask (QExec k) w Ret Fail)
+  ask_exec : {rk k o : ℕ} {fs : List Frame} {w : W} {m : MW} → Base fs → 2 ≤ rk → img.stmt k ≡ Some o → R w m → Fw prog img trees_at placed rk 0 (Run o [] [] fs m) (Qe fs) Fe (Ask (QExec k) w Ret Fail)
   ask_exec {rk} {k} {o} {fs} {m = m} b up st wr = record {
     by = (0, (o, fs, st, b), m, refl, wr, rk, up, inr (le_refl rk), 0, omega arith, (λ l w1 s (m1, r1, e1). (0, omega arith, (m1, r1, e1))), (λ w1 s b. absurd b));
   }
 
-  known_local : {rk : ℕ} {w : W} (fs : List Frame) (m : MW) (l : Bytes) (o : Option ℕ) → Base fs → 2 ≤ rk → prog.label l ≡ o → R w m → Fw prog img trees_at placed rk 1 (machine.to_known img o fs m) (Qe fs) Fe (to_known prog o w)
+  known_local : {rk : ℕ} {w : W} (fs : List Frame) (m : MW) (l : Bytes) (o : Option ℕ) → Base fs → 2 ≤ rk → prog.label l ≡ o → R w m → Fw prog img trees_at placed rk 0 (machine.to_known img o fs m) (Qe fs) Fe (to_known prog o w)
   known_local fs m l None b up e wr = faulted prog img trees_at placed error.UndefinedLabel wr
   known_local fs m l (Some k) b up e wr =
       let g = placed.gone_to l k e in
       same prog img trees_at placed (ap (λ o. to_stmt img o fs m) g.1) (ask_exec b up g.1 wr)
 
-  label_local : {rk p : ℕ} {fs : List Frame} {w : W} {m : MW} (l : Bytes) (o : Option ReturnKind) → Base fs → CodeLabel prog img trees_at l o p → 2 ≤ rk → R w m → Fw prog img trees_at placed rk 2 (Run p [] [] fs m) (Qe fs) Fe (to_return prog l o w)
+  label_local : {rk p : ℕ} {fs : List Frame} {w : W} {m : MW} (l : Bytes) (o : Option ReturnKind) → Base fs → CodeLabel prog img trees_at l o p → 2 ≤ rk → R w m → Fw prog img trees_at placed rk 1 (Run p [] [] fs m) (Qe fs) Fe (to_return prog l o w)
   label_local {p = p} {fs} {m = m} l (Some k) b (q, is) up wr = answers prog img trees_at placed 0 (omega arith) (m, wr, one prog img trees_at placed p q (op.Return k) [] [] fs m is)
   label_local {rk} {p} {fs} {w} {m} l None b code up wr = go (prog.label l) refl code
     where
-      go : (o : Option ℕ) → prog.label l ≡ o → CodeKnown prog img trees_at o p → Fw prog img trees_at placed rk 2 (Run p [] [] fs m) (Qe fs) Fe (to_known prog o w)
+      go : (o : Option ℕ) → prog.label l ≡ o → CodeKnown prog img trees_at o p → Fw prog img trees_at placed rk 1 (Run p [] [] fs m) (Qe fs) Fe (to_known prog o w)
       go None e (q, is) = from prog img trees_at placed 1 (omega arith) (one prog img trees_at placed p q op.NoLabel [] [] fs m is) (known_local fs m l None b up e wr)
       go (Some k) e (q, is) = from prog img trees_at placed 1 (omega arith) (one prog img trees_at placed p q (op.Goto k) [] [] fs m is) (known_local fs m l (Some k) b up e wr)
 
-  return_local : {rk : ℕ} {s : State} {w : W} (fs : List Frame) (m : MW) (l : Bytes) (o : Option ReturnKind) → Base fs → step img s ≡ machine.to_return img l o fs m → 2 ≤ rk → R w m → Fw prog img trees_at placed rk 2 s (Qe fs) Fe (to_return prog l o w)
+  return_local : {rk : ℕ} {s : State} {w : W} (fs : List Frame) (m : MW) (l : Bytes) (o : Option ReturnKind) → Base fs → step img s ≡ machine.to_return img l o fs m → 2 ≤ rk → R w m → Fw prog img trees_at placed rk 1 s (Qe fs) Fe (to_return prog l o w)
   return_local fs m l (Some k) b e up wr = answers prog img trees_at placed 0 (omega arith) (m, wr, e)
   return_local fs m l None b e up wr = from prog img trees_at placed 1 (omega arith) (e ∙ ap (λ o. machine.to_known img o fs m) (placed.labels l)) (known_local fs m l (prog.label l) b up refl wr)
 
-  text_local : {rk : ℕ} {s : State} {w : W} (fs : List Frame) (m : MW) (c : Conv Bytes) → Base fs → step img s ≡ machine.to_text_label img c fs m → 2 ≤ rk → R w m → Fw prog img trees_at placed rk 2 s (Qe fs) Fe (to_text_label prog c w)
+  text_local : {rk : ℕ} {s : State} {w : W} (fs : List Frame) (m : MW) (c : Conv Bytes) → Base fs → step img s ≡ machine.to_text_label img c fs m → 2 ≤ rk → R w m → Fw prog img trees_at placed rk 1 s (Qe fs) Fe (to_text_label prog c w)
   text_local fs m (Got l) b e up wr = return_local fs m l (return_of l) b e up wr
   text_local fs m (Bad x) b e up wr = from prog img trees_at placed 1 (omega arith) e (faulted prog img trees_at placed x wr)
 
@@ -132,8 +132,8 @@ module _ (prog : Program) (img : Module) (trees_at : ℕ → Option Expr) (place
   bare p q fs = record { p = p; q = q; ops = []; hs = []; fs = fs; fit = tt }
 
   goto_local : {rk : ℕ} {fs : List Frame} {w : W} {m : MW} (k p : ℕ) (place : Option Place) → Base fs → (o : ℕ) × (img.stmt (suc k) ≡ Some o) → CodeG prog img trees_at k place p → place_rank place ≤ rk → R w m
-      → Fw prog img trees_at placed rk 2 (Run p [] [] fs m) (Qe fs) Fe (go_on prog k place w)
-  goto_local k p None b next (inl st) up wr = shift prog img trees_at placed 0 1 (omega arith) refl (ask_exec b up st wr)
+      → Fw prog img trees_at placed rk 1 (Run p [] [] fs m) (Qe fs) Fe (go_on prog k place w)
+  goto_local k p None b next (inl st) up wr = shift prog img trees_at placed 0 0 (omega arith) refl (ask_exec b up st wr)
   goto_local {fs = fs} {m = m} k p None b next (inr (q, is)) up wr = from prog img trees_at placed 1 (omega arith) (one prog img trees_at placed p q (op.Goto (suc k)) [] [] fs m is ∙ ap (λ o. to_stmt img o fs m) next.1) (ask_exec b up next.1 wr)
   goto_local k p (Some (Label l)) b next code up wr = label_local l (return_of l) b code up wr
   goto_local {fs = fs} {m = m} k p (Some (Computed e)) b next (r, q, code, is) up wr =
@@ -145,7 +145,7 @@ module _ (prog : Program) (img : Module) (trees_at : ℕ → Option Expr) (place
   limit_same : {w : W} {m : MW} → R w m → over_limit m ≡ over_limit w
   limit_same {w} {m} wr = by_plain trees_at (λ m. over_limit m ≡ over_limit w) wr (λ wr'. refl)
 
-  exec_case : {fs : List Frame} {w : W} {m : MW} (k o : ℕ) (s : Option Stmt) → Base fs → prog.at k ≡ s → CodeS prog img trees_at k s o → R w m → Fw prog img trees_at placed 1 (8 * stmt_count s w + 1) (Run o [] [] fs m) (Qe fs) Fe (exec_rule prog k s w)
+  exec_case : {fs : List Frame} {w : W} {m : MW} (k o : ℕ) (s : Option Stmt) → Base fs → prog.at k ≡ s → CodeS prog img trees_at k s o → R w m → Fw prog img trees_at placed 1 (7 * stmt_count s w + 0) (Run o [] [] fs m) (Qe fs) Fe (exec_rule prog k s w)
   exec_case k o None bs e x wr = absurd x
   exec_case {fs} {w} {m} k o (Some (End l)) bs e (q, is) wr = stops prog img trees_at placed 1 (omega arith) (m, wr, one prog img trees_at placed o q op.End [] [] fs m is)
   exec_case {fs} {w} {m} k o (Some (Plain l c g)) bs e (p, q, r, f, begin, body, leave, on, oth, num) wr =
@@ -172,7 +172,7 @@ module _ (prog : Program) (img : Module) (trees_at : ℕ → Option Expr) (place
       here = record { p = p; q = q; ops = []; hs = OnBegin f ∷ []; fs = fs; fit = tt }
 
       go : (x : Bool) → steps img 1 (Run o [] [] fs m) ≡ (if x then Over (ending.StLimit k) m else Run p [] (OnBegin f ∷ []) fs (enter_stmt k m))
-          → Fw prog img trees_at placed 1 (8 * (if x then 0 else 1) + 1) (Run o [] [] fs m) (Qe fs) Fe
+          → Fw prog img trees_at placed 1 (7 * (if x then 0 else 1) + 0) (Run o [] [] fs m) (Qe fs) Fe
           (if x then Stop (ending.StLimit k) w else Ask (QBody c) (enter_stmt k w) (λ _ w1. go_on prog k (onward_of g) w1) (λ w1. go_on prog k (other_of g) (count_failure w1)))
       go true at = stops prog img trees_at placed 1 (omega arith) (m, wr, at)
       go false at = record {
@@ -185,10 +185,10 @@ module _ (prog : Program) (img : Module) (trees_at : ℕ → Option Expr) (place
           n,
           ln,
           inl (omega arith),
-          3,
+          2,
           omega arith,
-          (λ _ w1 s (m1, r1, e1). (from prog img trees_at placed {b = 3} 1 (omega arith) (ap (steps img 1) e1 ∙ one prog img trees_at placed q r op.Body [] (OnBegin f ∷ []) fs m1 leave) (goto_local k r (onward_of g) bs next on lo r1)).by),
-          (λ w1 s (m1, r1, e1). (shift prog img trees_at placed {b = 3} 0 2 (omega arith) e1 (goto_local k f (other_of g) bs next oth lt (failure_same trees_at r1))).by),
+          (λ _ w1 s (m1, r1, e1). (from prog img trees_at placed {b = 2} 1 (omega arith) (ap (steps img 1) e1 ∙ one prog img trees_at placed q r op.Body [] (OnBegin f ∷ []) fs m1 leave) (goto_local k r (onward_of g) bs next on lo r1)).by),
+          (λ w1 s (m1, r1, e1). (shift prog img trees_at placed {b = 2} 0 1 (omega arith) e1 (goto_local k f (other_of g) bs next oth lt (failure_same trees_at r1))).by),
         );
       }
 

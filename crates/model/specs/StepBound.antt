@@ -26,9 +26,9 @@ PatternStepsOnBounded = (s : List ℕ) (xs : ℕ → Option Expr) (p : Pat) (cod
 
 -- ---- of a run
 
--- where the meaning of a deck ends having used r rules, the module has ended so too after any 8 * (r + 1) steps or more
+-- where the meaning of a deck ends having used r rules, the module has ended so too after any 7 * (r + 1) steps or more
 abbrev pub EndsInTime : List Stmt → Image → Type 0
-EndsInTime deck image = (inputs : Inputs) (n : ℕ) (e : Ending) → (mean n deck inputs).ending ≡ Some e → (b : ℕ) → 8 * (rules_used n deck inputs + 1) ≤ b → mach image inputs b ≡ mean n deck inputs
+EndsInTime deck image = (inputs : Inputs) (n : ℕ) (e : Ending) → (mean n deck inputs).ending ≡ Some e → (b : ℕ) → 7 * (rules_used n deck inputs + 1) ≤ b → mach image inputs b ≡ mean n deck inputs
 
 -- the law: wherever the code of each statement stands
 abbrev pub RunStepsBounded : Type 0

@@ -10,7 +10,7 @@ pub fn agreement()
     ensures { AgreesWherePlaced }
 {}
 
-/// Where a deck's meaning ends having used r rules, a module that does what the deck does has ended so after any 8 * (r + 1)
+/// Where a deck's meaning ends having used r rules, a module that does what the deck does has ended so after any 7 * (r + 1)
 /// steps or more.
 pub fn run_steps_are_bounded()
     ensures { RunStepsBounded }

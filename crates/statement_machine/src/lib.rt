@@ -24,4 +24,4 @@ pub use machine::{Machine, run_from_entry};
 
 /// Where the meaning of a deck ends having used r rules, a run of its module has ended after this many steps for each
 /// of r + 1 rules.
-pub const STEPS_PER_RULE: u64 = 8;
+pub const STEPS_PER_RULE: u64 = 7;
