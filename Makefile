@@ -14,7 +14,7 @@ BUILT := $(PROGRAM)/out/sno $(PROGRAM)/out/sno.by-rattle
 PARTS := $(foreach crate,$(shell tools/below sno 2>/dev/null),crates/$(crate)/src crates/$(crate)/specs crates/$(crate)/proofs)
 SOURCES := $(shell find crates.txt $(wildcard $(PARTS)) 2>/dev/null)
 
-.PHONY: help run try sno test decks bound wrong time check bench fmt clean toolchain program deck input
+.PHONY: help run try sno test decks bound damage wrong time check bench fmt clean toolchain program deck input
 .DEFAULT_GOAL := help
 
 help: ## list the targets
@@ -66,6 +66,9 @@ decks: build/sno ## the decks of tests/ alone, on the proved program
 
 bound: build/sno ## 2,000 random decks on the proved program and on the reference of tests/, with steps and rules
 	@tests/bound build/sno --decks 2000
+
+damage: build/sno ## each hundredth of some nine million damaged modules on the proved program
+	@tests/damage build/sno --every 100
 
 wrong: toolchain ## [CRATE=name]: try the wrong bodies that the gate doesn't; each must be refused
 	@tools/wrong $(CRATE)
