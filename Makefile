@@ -58,11 +58,11 @@ build/sno: $(SOURCES) | program
 test: toolchain ## the gate: every proof from nothing, must-fail edits, tests, programs, decks (last line 'N passed, M failed')
 	@echo "test: proving every crate from nothing; this takes many minutes (all lines go to build/log)"
 	@mkdir -p build && touch build/began
-	@RT_JOBS=$${RT_JOBS:-$$(tools/jobs)} tools/progress "$(RT) ci" "tools/wrong --texts" "tests/docs" "tests/run $(BUILT)" "tests/bound --decks 100 $(PROGRAM)/out/sno"
+	@RT_JOBS=$${RT_JOBS:-$$(tools/jobs)} tools/progress "$(RT) ci" "tools/wrong --texts" "tests/docs" "tests/run $(BUILT)" "tests/pipe $(PROGRAM)/out/sno" "tests/bound --decks 100 $(PROGRAM)/out/sno"
 	@cp $(PROGRAM)/out/sno build/sno.new && touch -r build/began build/sno.new && mv build/sno.new build/sno
 
 decks: build/sno ## the decks of tests/ alone, on the proved program
-	@tests/run build/sno
+	@tests/run build/sno && tests/pipe build/sno
 
 bound: build/sno ## 2,000 random decks on the proved program and on the reference of tests/, with steps and rules
 	@tests/bound build/sno --decks 2000
