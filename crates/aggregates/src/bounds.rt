@@ -111,9 +111,7 @@ pub(crate) fn place_of(bounds: &[Bounds], subscripts: &[i64]) -> Option<usize>
     }
     let mut place = 0;
     for (k, dimension) in bounds.iter().enumerate() {
-        let Some(offset) = dimension.offset(subscripts[k]) else {
-            return None;
-        };
+        let offset = dimension.offset(subscripts[k])?;
         place = place * dimension.count() + offset as usize;
     }
     Some(place)

@@ -48,10 +48,7 @@ impl<V: Element> Heap<V> {
     pub fn kind(&self, object: usize) -> Option<Kind>
         ensures { result ≡ option_map kind_of (slice_get self.now object) }
     {
-        match self.object(object) {
-            Some(it) => Some(it.kind()),
-            None => None,
-        }
+        Some(self.object(object)?.kind())
     }
 
     /// What an object holds at a place. Outside an array's bounds, and for a key that was never assigned, it is `None`.
@@ -59,10 +56,7 @@ impl<V: Element> Heap<V> {
     pub fn get(&self, object: usize, place: &Place) -> Option<&V>
         ensures { option_copied result ≡ held_at place.now (slice_get self.now object) }
     {
-        match self.object(object) {
-            Some(it) => it.get(place),
-            None => None,
-        }
+        self.object(object)?.get(place)
     }
 
     /// The place of an array's element, by its subscripts. Takes no memory.

@@ -135,13 +135,9 @@ impl Trail {
         ensures cursor { result ≡ opened self.old.notes }
         ensures taken { self.new ≡ record self.old { notes = unopened self.old.notes } }
     {
-        match opened_at(self.log.as_slice(), self.head) {
-            Some((cursor, below)) => {
-                self.head = below;
-                Some(cursor)
-            }
-            None => None,
-        }
+        let (cursor, below) = opened_at(self.log.as_slice(), self.head)?;
+        self.head = below;
+        Some(cursor)
     }
 
     /// Notes how many choices there are.
@@ -157,13 +153,9 @@ impl Trail {
         ensures count { result ≡ fenced self.old.notes }
         ensures taken { self.new ≡ record self.old { notes = unfenced self.old.notes } }
     {
-        match fenced_at(self.log.as_slice(), self.head) {
-            Some((count, below)) => {
-                self.head = below;
-                Some(count)
-            }
-            None => None,
-        }
+        let (count, below) = fenced_at(self.log.as_slice(), self.head)?;
+        self.head = below;
+        Some(count)
     }
 
     /// Keeps the oldest choices, so many of them.
@@ -217,7 +209,7 @@ impl Trail {
     pub fn copy_pending(&self, alloc: Global) -> Result<Vec<Assignment>, AllocError>
         ensures { IfOk result (λ v. pending_of v.items ≡ self.now.pending) }
     {
-        copy_pending(alloc, self.pending.as_slice())
+        copies_of(alloc, self.pending.as_slice())
     }
 
     /// Keeps a choice. Takes memory only where a log has to grow.
@@ -266,7 +258,7 @@ fn newest(log: &[Entry], head: usize) -> Option<&Entry>
 }
 
 /// The list below an entry.
-fn below(head: usize, below: usize) -> usize
+fn list_below(head: usize, below: usize) -> usize
     ensures { result ≡ below_of head below }
 {
     if below < head { below } else { 0 }
@@ -276,12 +268,10 @@ fn below(head: usize, below: usize) -> usize
 fn opened_at(log: &[Entry], head: usize) -> Option<(usize, usize)>
     ensures { MatchOption result (opened (chain (reverse log.now) head) ≡ None) (λ x. chain (reverse log.now) head ≡ s.Opened x.0 ∷ chain (reverse log.now) x.1) }
 {
-    match newest(log, head) {
-        Some(entry) => match entry.note {
-            Note::Opened(cursor) => Some((cursor, below(head, entry.below))),
-            Note::Fenced(_) | Note::Left(_, _) => None,
-        },
-        None => None,
+    let entry = newest(log, head)?;
+    match entry.note {
+        Note::Opened(cursor) => Some((cursor, list_below(head, entry.below))),
+        Note::Fenced(_) | Note::Left(_, _) => None,
     }
 }
 
@@ -289,12 +279,10 @@ fn opened_at(log: &[Entry], head: usize) -> Option<(usize, usize)>
 fn fenced_at(log: &[Entry], head: usize) -> Option<(usize, usize)>
     ensures { MatchOption result (fenced (chain (reverse log.now) head) ≡ None) (λ x. chain (reverse log.now) head ≡ s.Fenced x.0 ∷ chain (reverse log.now) x.1) }
 {
-    match newest(log, head) {
-        Some(entry) => match entry.note {
-            Note::Fenced(count) => Some((count, below(head, entry.below))),
-            Note::Opened(_) | Note::Left(_, _) => None,
-        },
-        None => None,
+    let entry = newest(log, head)?;
+    match entry.note {
+        Note::Fenced(count) => Some((count, list_below(head, entry.below))),
+        Note::Opened(_) | Note::Left(_, _) => None,
     }
 }
 
@@ -315,15 +303,15 @@ fn is_left_at(log: &[Entry], head: usize) -> bool
 fn left_at(log: &[Entry], head: usize) -> Result<Option<(PatCode, usize, usize)>, AllocError>
     ensures { IfOk result (λ o. MatchOption o (inside (chain (reverse log.now) head) ≡ false) (λ x. chain (reverse log.now) head ≡ s.Left x.0 x.1 ∷ chain (reverse log.now) x.2)) }
 {
-    match newest(log, head) {
-        Some(entry) => match &entry.note {
-            Note::Opened(_) | Note::Fenced(_) => Ok(None),
-            Note::Left(code, place) => {
-                let code = code.clone()?;
-                Ok(Some((code, *place, below(head, entry.below))))
-            }
-        },
-        None => Ok(None),
+    let Some(entry) = newest(log, head) else {
+        return Ok(None);
+    };
+    match &entry.note {
+        Note::Opened(_) | Note::Fenced(_) => Ok(None),
+        Note::Left(code, place) => {
+            let code = code.clone()?;
+            Ok(Some((code, *place, list_below(head, entry.below))))
+        }
     }
 }
 
@@ -365,16 +353,13 @@ fn last_of(codes: &[PatCode]) -> Result<PatCode, AllocError>
     ensures { IfOk result (λ code. code ≡ last_code codes.now) }
 {
     match codes.last() {
-        Some(code) => {
-            let copy = code.clone()?;
-            Ok(copy)
-        }
+        Some(code) => code.clone(),
         None => Ok(PatCode::null()),
     }
 }
 
 /// The same assignments.
-fn copy_pending(alloc: Global, pending: &[Assignment]) -> Result<Vec<Assignment>, AllocError>
+fn copies_of(alloc: Global, pending: &[Assignment]) -> Result<Vec<Assignment>, AllocError>
     ensures { IfOk result (λ v. pending_of v.items ≡ pending_of pending.now) }
 {
     let mut copies = Vec::with_capacity(alloc, pending.len())?;

@@ -56,10 +56,7 @@ impl<R: Read> LineReader<R> {
         ensures source { self.new.source ≡ self.old.source }
         ensures ready { IsTrue result ↔ ¬ HasNoFeed self.old.held }
     {
-        match self.held.find_feed() {
-            Some(_) => true,
-            None => false,
-        }
+        self.held.find_feed().is_some()
     }
 
     // Tells the bytes up to the first line feed.
@@ -69,10 +66,7 @@ impl<R: Read> LineReader<R> {
         ensures told { Tells result self.old.held self.new.held (R.remaining self.old.source) }
         ensures kept { self.new.source ≡ self.old.source }
     {
-        match self.held.take(self.alloc, k, k + 1) {
-            Ok(text) => Ok(Some(text)),
-            Err(fault) => Err(fault),
-        }
+        Ok(Some(self.held.take(self.alloc, k, k + 1)?))
     }
 
     // Tells the last bytes, at the end.
@@ -86,9 +80,6 @@ impl<R: Read> LineReader<R> {
         if n == 0 {
             return Ok(None);
         }
-        match self.held.take(self.alloc, n, n) {
-            Ok(text) => Ok(Some(text)),
-            Err(fault) => Err(fault),
-        }
+        Ok(Some(self.held.take(self.alloc, n, n)?))
     }
 }

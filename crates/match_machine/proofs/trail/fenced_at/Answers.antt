@@ -7,17 +7,17 @@ use Rattle.match_machine.proofs.trail.fenced_at.Goals as goal
 
 pub returns-in-Fenced : goal.returns-in-Fenced
 returns-in-Fenced c =
-    chain_head c.args.log.now c.args.head c.in-Some.entry.now (sym c.in-Some.ensures)
-    ∙ ap (λ n. note_of n ∷ chain (reverse c.args.log.now) (below_of c.args.head c.in-Some.entry.now.below)) c.in-Fenced.is
-    ∙ ap (λ b. s.Fenced c.in-Fenced.count ∷ chain (reverse c.args.log.now) b) (sym c.below.ensures)
+    chain_head c.args.log.now c.args.head c.in_ok-entry.entry.now (sym c.in_ok-entry.ensures)
+    ∙ ap (λ n. note_of n ∷ chain (reverse c.args.log.now) (below_of c.args.head c.in_ok-entry.entry.now.below)) c.in-Fenced.is
+    ∙ ap (λ b. s.Fenced c.in-Fenced.count ∷ chain (reverse c.args.log.now) b) (sym c.list_below.ensures)
 
 pub returns-in-Opened : goal.returns-in-Opened
 returns-in-Opened c =
-    ap fenced (chain_head c.args.log.now c.args.head c.in-Some.entry.now (sym c.in-Some.ensures))
+    ap fenced (chain_head c.args.log.now c.args.head c.in_ok-entry.entry.now (sym c.in_ok-entry.ensures))
     ∙ elim c.in-Opened.is [
-      | inl (b, e) ↦ ap (λ n. fenced (note_of n ∷ chain (reverse c.args.log.now) (below_of c.args.head c.in-Some.entry.now.below))) e
-      | inr (x, q, e) ↦ ap (λ n. fenced (note_of n ∷ chain (reverse c.args.log.now) (below_of c.args.head c.in-Some.entry.now.below))) e
+      | inl (b, e) ↦ ap (λ n. fenced (note_of n ∷ chain (reverse c.args.log.now) (below_of c.args.head c.in_ok-entry.entry.now.below))) e
+      | inr (x, q, e) ↦ ap (λ n. fenced (note_of n ∷ chain (reverse c.args.log.now) (below_of c.args.head c.in_ok-entry.entry.now.below))) e
     ]
 
-pub returns-in-None : goal.returns-in-None
-returns-in-None c = ap fenced (chain_no_head c.args.log.now c.args.head (sym c.in-None.ensures))
+pub returns-in_err-entry : goal.returns-in_err-entry
+returns-in_err-entry c = rw c.from_residual.ensures (ap fenced (chain_no_head c.args.log.now c.args.head (sym c.in_err-entry.ensures)))

@@ -18,7 +18,7 @@ returns-in_ok-code-in-Left c =
     chain_head c.args.log.now c.args.head c.in-Some.entry.now (sym c.in-Some.ensures)
     ∙ ap (λ n. note_of n ∷ chain (reverse c.args.log.now) (below_of c.args.head c.in-Some.entry.now.below)) c.in-Left.is
     ∙ ap (λ d. s.Left d c.in-Left.place ∷ chain (reverse c.args.log.now) (below_of c.args.head c.in-Some.entry.now.below)) (sym c.in_ok-code-in-Left.ensures.cases)
-    ∙ ap (λ b. s.Left c.in_ok-code-in-Left.code c.in-Left.place ∷ chain (reverse c.args.log.now) b) (sym c.below.ensures)
+    ∙ ap (λ b. s.Left c.in_ok-code-in-Left.code c.in-Left.place ∷ chain (reverse c.args.log.now) b) (sym c.list_below.ensures)
 
-pub returns-in-None : goal.returns-in-None
-returns-in-None c = ap inside (chain_no_head c.args.log.now c.args.head (sym c.in-None.ensures))
+pub returns-in_default : goal.returns-in_default
+returns-in_default c = ap inside (chain_no_head c.args.log.now c.args.head (sym c.in_default.ensures))

@@ -7,17 +7,17 @@ use Rattle.match_machine.proofs.trail.opened_at.Goals as goal
 
 pub returns-in-Opened : goal.returns-in-Opened
 returns-in-Opened c =
-    chain_head c.args.log.now c.args.head c.in-Some.entry.now (sym c.in-Some.ensures)
-    ∙ ap (λ n. note_of n ∷ chain (reverse c.args.log.now) (below_of c.args.head c.in-Some.entry.now.below)) c.in-Opened.is
-    ∙ ap (λ b. s.Opened c.in-Opened.cursor ∷ chain (reverse c.args.log.now) b) (sym c.below.ensures)
+    chain_head c.args.log.now c.args.head c.in_ok-entry.entry.now (sym c.in_ok-entry.ensures)
+    ∙ ap (λ n. note_of n ∷ chain (reverse c.args.log.now) (below_of c.args.head c.in_ok-entry.entry.now.below)) c.in-Opened.is
+    ∙ ap (λ b. s.Opened c.in-Opened.cursor ∷ chain (reverse c.args.log.now) b) (sym c.list_below.ensures)
 
 pub returns-in-Fenced : goal.returns-in-Fenced
 returns-in-Fenced c =
-    ap opened (chain_head c.args.log.now c.args.head c.in-Some.entry.now (sym c.in-Some.ensures))
+    ap opened (chain_head c.args.log.now c.args.head c.in_ok-entry.entry.now (sym c.in_ok-entry.ensures))
     ∙ elim c.in-Fenced.is [
-      | inl (k, e) ↦ ap (λ n. opened (note_of n ∷ chain (reverse c.args.log.now) (below_of c.args.head c.in-Some.entry.now.below))) e
-      | inr (x, q, e) ↦ ap (λ n. opened (note_of n ∷ chain (reverse c.args.log.now) (below_of c.args.head c.in-Some.entry.now.below))) e
+      | inl (k, e) ↦ ap (λ n. opened (note_of n ∷ chain (reverse c.args.log.now) (below_of c.args.head c.in_ok-entry.entry.now.below))) e
+      | inr (x, q, e) ↦ ap (λ n. opened (note_of n ∷ chain (reverse c.args.log.now) (below_of c.args.head c.in_ok-entry.entry.now.below))) e
     ]
 
-pub returns-in-None : goal.returns-in-None
-returns-in-None c = ap opened (chain_no_head c.args.log.now c.args.head (sym c.in-None.ensures))
+pub returns-in_err-entry : goal.returns-in_err-entry
+returns-in_err-entry c = rw c.from_residual.ensures (ap opened (chain_no_head c.args.log.now c.args.head (sym c.in_err-entry.ensures)))
