@@ -66,7 +66,7 @@ first_writes x =
 first_io : (io : Io) → io.printed ≡ [] → io ≡ record { left = io.left; printed = [] }
 first_io io e = ap (λ ps. record { left = io.left; printed = ps }) e
 
-pub first_holds : (h : Held) (io : Io) → h ≡ record { variables = first_variables; keys = first_keys } → io.printed ≡ [] → world_of h io ≡ first_m io.left
+pub first_holds : (h : Held) (io : Io) → h ≡ record { variables = first_variables; objects = []; keys = first_keys } → io.printed ≡ [] → world_of h io ≡ first_m io.left
 first_holds h io is e =
     ap (λ z. world_of z io) is
     ∙ (λ i. record {
