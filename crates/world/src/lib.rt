@@ -11,6 +11,7 @@
 mod arithmetic;
 mod conversions;
 mod counts;
+mod elements;
 mod fault;
 mod operators;
 mod unit_calls;
