@@ -1,9 +1,12 @@
 -- Objects whose values are seen as others.
 use Rattle.std.proofs.Common.{◌≡◌, ℕ, zero, suc, List, [], ◌∷◌, map, Option, Some, None, Bool, true, false, refl, sym, ap, ◌∙◌}
-use Rattle.std.specs.Prelude.{slice_get, option_map, unwrap_or, if◌then◌else◌}
+use Rattle.std.specs.Prelude.{slice_get, option_map, option_copied, unwrap_or, if◌then◌else◌}
+use Rattle.std.specs.Borrow.{Bor}
 use Rattle.std.proofs.lemmas.Option.{slice_get-map}
 use Rattle.model.specs.declared.run.ErrorCode.TheVariants as error
+use Rattle.model.specs.Trees.{Bytes}
 use Rattle.model.specs.Io.{Io}
+use Rattle.model.specs.Keywords.{Keys}
 use Rattle.model.specs.Target.{Element}
 use Rattle.model.specs.Values.{Str, Key, Entry, Object, ArrayOf, TableOf, RecordOf}
 use Rattle.model.specs.Conversions.{Gives, Faults}
@@ -20,6 +23,7 @@ use Rattle.world.specs.Values.{value_of}
 use Rattle.world.specs.Objects.{entry_map, object_map}
 use Rattle.world.specs.Held.{Held, world_of}
 use Rattle.world.specs.declared.value.Value.{Value}
+use Rattle.world.specs.declared.world.Variable.{Variable}
 
 -- ---- looking
 
@@ -111,3 +115,32 @@ store_is h io k p v =
     ∙ ap (λ o. put_objects (put_at k (stored_at p (value_of v) o) w.objects) w) (slice_get-map (object_map value_of) h.objects k)
     ∙ ap (λ o. put_objects (put_at k o w.objects) w) (stored_seen value_of p v (slice_get h.objects k))
     ∙ ap (λ os. put_objects os w) (put_seen value_of k (stored_at p v (slice_get h.objects k)) h.objects)
+
+-- a table's value for a key, as it was got
+pub entry_got : (h : Held) (os : List (Object Value)) (io : Io) (k : ℕ) (key : Key) (kd : Option Kind) (got : Option (Bor Value)) (v : MVal)
+    → os ≡ h.objects → kd ≡ option_map kind_of (slice_get os k) → kd ≡ Some kind.Table → option_copied got ≡ value_in key (slice_get os k) → v ≡ unwrap_or (option_map value_of (option_copied got)) (Str [])
+    → there (entry_of (Str []) (slice_get (world_of h io).objects k) key) (world_of h io) ≡ Gives v (world_of h io)
+entry_got h os io k key kd got v same by table is e =
+    let w : MW = world_of h io in
+    entry_is h io k key
+    ∙ ap (λ xs. there (entry_by (Str []) (option_map kind_of (slice_get xs k)) (option_map value_of (value_in key (slice_get xs k)))) w) (sym same)
+    ∙ ap (λ x. there (entry_by (Str []) x (option_map value_of (value_in key (slice_get os k)))) w) (sym by ∙ table)
+    ∙ ap (λ x. there (entry_by (Str []) (Some kind.Table) (option_map value_of x)) w) (sym is)
+    ∙ ap (λ x. Gives x w) (sym e)
+
+module _ (vs : List (Bytes × Variable)) (os new : List (Object Value)) (ks : Keys) (h : Held) (io : Io) (k : ℕ) (p : Place) (v : Value) (b : Bool)
+    (is : record { variables = vs; objects = os; keys = ks } ≡ h) (at : if_stored b new ≡ put_at k (stored_at p v (slice_get os k)) os) where
+  storing : put_object k (stored_at p (value_of v) (slice_get (world_of h io).objects k)) (world_of h io) ≡ put_objects (option_map (map (object_map value_of)) (if_stored b new)) (world_of (record { variables = vs; objects = os; keys = ks }) io)
+  storing =
+      ap (λ z. put_object k (stored_at p (value_of v) (slice_get (world_of z io).objects k)) (world_of z io)) (sym is)
+      ∙ store_is (record { variables = vs; objects = os; keys = ks }) io k p v
+      ∙ ap (λ o. put_objects (option_map (map (object_map value_of)) o) (world_of (record { variables = vs; objects = os; keys = ks }) io)) (sym at)
+
+  pub was_stored : b ≡ true → put_object k (stored_at p (value_of v) (slice_get (world_of h io).objects k)) (world_of h io) ≡ Gives (record {}) (world_of (record { variables = vs; objects = new; keys = ks }) io)
+  was_stored q = storing ∙ ap (λ x. put_objects (option_map (map (object_map value_of)) (if_stored x new)) (world_of (record { variables = vs; objects = os; keys = ks }) io)) q
+
+  pub not_stored : b ≡ false → new ≡ os → put_object k (stored_at p (value_of v) (slice_get (world_of h io).objects k)) (world_of h io) ≡ Faults error.WrongType (world_of (record { variables = vs; objects = new; keys = ks }) io)
+  not_stored q same =
+      storing
+      ∙ ap (λ x. put_objects (option_map (map (object_map value_of)) (if_stored x new)) (world_of (record { variables = vs; objects = os; keys = ks }) io)) q
+      ∙ ap (λ xs. Faults error.WrongType (world_of (record { variables = vs; objects = xs; keys = ks }) io)) (sym same)

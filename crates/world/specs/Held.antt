@@ -5,7 +5,7 @@ use Rattle.model.specs.Trees.{Bytes}
 use Rattle.model.specs.Io.{Io}
 use Rattle.model.specs.Keywords.{Keys, KeyValue, IsInteger, IsText, is_zero}
 use Rattle.model.specs.Conversions.{Op, Gives}
-use Rattle.model.specs.Operators.{take_record, as_read, limited}
+use Rattle.model.specs.Operators.{take_record, as_read, limited, assign_op}
 use Rattle.model.specs.Values.{Object, Str, set_var}
 use Rattle.indexmap.specs.IndexMap.{insert_entry}
 use Rattle.model.specs.Pattern as p
@@ -68,10 +68,10 @@ fetched_from (source.Unit u) x w = take_record x u (w.io.left u) w
 abbrev pub taken : (name bytes : Bytes) → MW → Op MW MVal
 taken x r w = let s : Bytes = as_read r w in limited s w (Gives (Str s) (set_var x (Str s) w))
 
--- the variable of this name has this value, and nothing else changed
+-- a name has this value, and nothing else changed
 abbrev pub IsSet : p.Name → MVal → Held → Held → Type 0
 IsSet (target.Variable x) v old new = (io : Io) → world_of new io ≡ set_var x v (world_of old io)
-IsSet _ v old new = ⊥
+IsSet n v old new = (io : Io) → assign_op n v (world_of old io) ≡ Gives (record {}) (world_of new io)
 
 abbrev pub IsSetOrKept : p.Name → MVal → Held → Held → Type 0
 IsSetOrKept n v old new = (new ≡ old) ⊎ IsSet n v old new
