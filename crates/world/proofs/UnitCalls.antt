@@ -1,5 +1,5 @@
 -- Fetching from units and assigning to them.
-use Rattle.std.proofs.Common.{◌≡◌, ◌<◌, ◌≤◌, ℕ, List, [], ◌∷◌, length, pos, Bool, true, false, T, leb→le, le→leb, int_le, Option, Some, None, Result, nat_eq, bytes_eq, refl, sym, ap, ◌∙◌, subst, arith, Ok, Err, ◌⊎◌, inl, inr}
+use Rattle.std.proofs.Common.{◌≡◌, ◌<◌, ◌≤◌, ℕ, ℤ, List, [], ◌∷◌, length, pos, Bool, true, false, T, leb→le, le→leb, int_le, Option, Some, None, Result, nat_eq, bytes_eq, refl, sym, ap, ◌∙◌, subst, arith, Ok, Err, ◌⊎◌, inl, inr}
 use Rattle.std.specs.Prelude.{OnErr, OnOk, if◌then◌else◌}
 use Rattle.std.proofs.lemmas.Slice.Eq.{bytes_eq-Decides}
 use Rattle.model.specs.declared.run.ErrorCode.TheVariants as error
@@ -8,7 +8,7 @@ use Rattle.model.specs.Io.{Io}
 use Rattle.model.specs.Told.{IfTold}
 use Rattle.model.specs.Units.{Reads, after_read, first_of, rest_of}
 use Rattle.model.specs.Keywords.{IsInteger, KeyValue, is_zero}
-use Rattle.model.specs.Target.{Variable}
+use Rattle.model.specs.Target.{Variable, IntegerKey}
 use Rattle.model.specs.Values.{Str, set_var, keys_of}
 use Rattle.model.specs.Conversions.{Op, Gives, Refuses, Faults, to_text}
 use Rattle.model.specs.Operators.{as_read, take_record, fetch_var, fetch_op, assign_op, write_var, print_text}
@@ -16,6 +16,7 @@ use Rattle.model.specs.Machine.{MVal, MW}
 use Rattle.model.specs.Pattern as p
 use Rattle.pattern_compiler.specs.View.{name_of}
 use Rattle.pattern_compiler.specs.declared.instr.Name.{Name}
+use Rattle.pattern_compiler.specs.declared.instr.Name.TheVariants as name
 use Rattle.world.specs.Values.{value_of}
 use Rattle.world.specs.Answers.{Answers, AnswersOrFails, LeadsTo, done}
 use Rattle.world.specs.Held.{Held, IsSet, IsSetOrKept, world_of, variable_at, value_in, output_in, taken, fetched_from}
@@ -148,6 +149,12 @@ pub fetched_there : (n m : Name) (h : Held) (r : Result (Option MVal) Fault) (o 
     → IfTold o o (λ io io'. AnswersOrFails r (world_of h io') (fetch_op (name_of n) (world_of h io)))
 fetched_there n m h r o is f = told_same o _ (λ io. subst (λ z. AnswersOrFails r (world_of h io) (fetch_op (name_of z) (world_of h io))) (sym is) (f io))
 
+-- a key that went through 64 bits
+pub fetched_key : (n : Name) (k : ℕ) (z z' : ℤ) (h : Held) (r : Result (Option MVal) Fault) (o : Option Io) → n ≡ name.IntegerKey k z → z' ≡ z
+    → ((io : Io) → AnswersOrFails r (world_of h io) (fetch_op (IntegerKey k z') (world_of h io)))
+    → IfTold o o (λ io io'. AnswersOrFails r (world_of h io') (fetch_op (name_of n) (world_of h io)))
+fetched_key n k z z' h r o is same f = fetched_there n (name.IntegerKey k z') h r o (is ∙ ap (name.IntegerKey k) (sym same)) f
+
 pub assigned_there : (n m : Name) (v : MVal) (h new : Held) (r : Result (record {}) Fault) (o : Option Io) → n ≡ m
     → ((io : Io) → Answers r (world_of new io) (assign_op (name_of m) v (world_of h io)))
     → IfTold o o (λ io io'. Answers r (world_of new io') (assign_op (name_of n) v (world_of h io)))
@@ -160,6 +167,14 @@ pub set_there : (n m : Name) (v : MVal) (h new : Held) (r : Result (Unit {0}) Fa
     → OnOk r (IsSet (name_of n) v h new)
 set_there n m v h new (Ok u) is f g = subst (λ z. IsSet (name_of z) v h new) (sym is) (f g)
 set_there n m v h new (Err e) is f g = tt
+
+module _ (n : Name) (k : ℕ) (z z' : ℤ) (v : MVal) (h new : Held) (r : Result (Unit {0}) Fault) (is : n ≡ name.IntegerKey k z) (same : z' ≡ z)
+    (f : (io : Io) → Answers (done r) (world_of new io) (assign_op (IntegerKey k z') v (world_of h io))) where
+  pub assigned_key : (o : Option Io) → IfTold o o (λ io io'. Answers (done r) (world_of new io') (assign_op (name_of n) v (world_of h io)))
+  assigned_key o = assigned_there n (name.IntegerKey k z') v h new (done r) o (is ∙ ap (name.IntegerKey k) (sym same)) f
+
+  pub set_key : OnOk r (IsSet (name_of n) v h new)
+  set_key = set_there n (name.IntegerKey k z') v h new r (is ∙ ap (name.IntegerKey k) (sym same)) (λ g. g) f
 
 -- ---- replacing
 
