@@ -1,6 +1,7 @@
 -- Fetching from units and assigning to them.
 use Rattle.std.proofs.Common.{◌≡◌, ◌<◌, ◌≤◌, ℕ, ℤ, List, [], ◌∷◌, length, pos, Bool, true, false, T, leb→le, le→leb, int_le, Option, Some, None, Result, nat_eq, bytes_eq, refl, sym, ap, ◌∙◌, subst, arith, Ok, Err, ◌⊎◌, inl, inr}
-use Rattle.std.specs.Prelude.{OnErr, OnOk, if◌then◌else◌}
+use Rattle.std.specs.Prelude.{OnErr, OnOk, IsErrAnd, if◌then◌else◌}
+use Rattle.std.proofs.lemmas.Result.{err_from_is_err_and}
 use Rattle.std.proofs.lemmas.Slice.Eq.{bytes_eq-Decides}
 use Rattle.model.specs.declared.run.ErrorCode.TheVariants as error
 use Rattle.model.specs.Trees.{Bytes}
@@ -182,10 +183,12 @@ answers_by : (e : Fault) (w : MW) (k : MVal → Op MW (record {})) (o : Op MW (r
 answers_by (fault.Error e) w k o h = h
 answers_by (fault.Stop s) w k o h = tt
 
-pub not_replaced : (e : Fault) (h : Held) (k : MVal → MW → Op MW (record {})) (op : MW → Op MW (record {})) (o : Option Io)
+pub not_replaced : (e : Fault) (r : Result (Unit {0}) Fault) (h : Held) (k : MVal → MW → Op MW (record {})) (op : MW → Op MW (record {})) (o : Option Io) → IsErrAnd r (λ x. x ≡ e)
     → ((io : Io) → LeadsTo (Err e) (world_of h io) (λ v. k v (world_of h io)) (op (world_of h io)))
-    → IfTold o o (λ io io'. Answers (Err e) (world_of h io') (op (world_of h io)))
-not_replaced e h k op o f = told_same o _ (λ io. answers_by e (world_of h io) (λ v. k v (world_of h io)) (op (world_of h io)) (f io))
+    → IfTold o o (λ io io'. Answers (done r) (world_of h io') (op (world_of h io)))
+not_replaced e r h k op o is f =
+    let p = err_from_is_err_and r is in
+    told_same o _ (λ io. subst (λ x. Answers (done x) (world_of h io) (op (world_of h io))) (sym (p.1 ∙ ap Err p.2)) (answers_by e (world_of h io) (λ v. k v (world_of h io)) (op (world_of h io)) (f io)))
 
 pub replaced_by : (h new : Held) (k op : MW → Op MW (record {})) (r : Result (record {}) Fault) (o n : Option Io)
     → ((io : Io) → op (world_of h io) ≡ k (world_of h io))

@@ -1,4 +1,4 @@
-use Rattle.std.proofs.Common.{ap, ◌∙◌}
+use Rattle.std.proofs.Common.{[], ap, ◌∙◌}
 use Rattle.world.specs.Held.{first_variables}
 use Rattle.world.proofs.FirstWorld.{first_holds}
 use Rattle.world.proofs.world.World.new.Goals as goal

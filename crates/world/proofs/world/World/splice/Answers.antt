@@ -14,8 +14,8 @@ returns-clause-only g c =
 
 pub returns-in_err-whole-clause-assigned : goal.returns-in_err-whole-clause-assigned
 returns-in_err-whole-clause-assigned g c =
-    not_replaced _ c.args.self.now (assign_op (name_of c.args.name.now))
-    (splice_op (name_of c.args.name.now) c.args.span.now.subject c.args.span.now.start c.args.span.now.end (value_of c.args.value.now)) _
+    not_replaced c.in_err-whole.field-0.0 c.from_residual.result c.args.self.now (assign_op (name_of c.args.name.now))
+    (splice_op (name_of c.args.name.now) c.args.span.now.subject c.args.span.now.start c.args.span.now.end (value_of c.args.value.now)) _ c.from_residual.ensures.1
     (λ io. c.in_err-whole.ensures.value io (name_of c.args.name.now))
 
 pub returns-clause-assigned : goal.returns-clause-assigned
