@@ -1,14 +1,15 @@
 -- Objects whose values are seen as others.
-use Rattle.std.proofs.Common.{◌≡◌, ℕ, zero, suc, List, [], ◌∷◌, map, Option, Some, None, Bool, true, false, refl, sym, ap, ◌∙◌}
+use Rattle.std.proofs.Common.{◌≡◌, ℕ, zero, suc, List, [], ◌∷◌, ◌++◌, length, map, Option, Some, None, Bool, true, false, refl, sym, ap, ◌∙◌}
 use Rattle.std.specs.Prelude.{slice_get, option_map, option_copied, unwrap_or, if◌then◌else◌}
 use Rattle.std.specs.Borrow.{Bor}
 use Rattle.std.proofs.lemmas.Option.{slice_get-map}
+use Rattle.std.proofs.lemmas.List.{length-map, map-append}
 use Rattle.model.specs.declared.run.ErrorCode.TheVariants as error
 use Rattle.model.specs.Trees.{Bytes}
 use Rattle.model.specs.Io.{Io}
 use Rattle.model.specs.Keywords.{Keys}
 use Rattle.model.specs.Target.{Element}
-use Rattle.model.specs.Values.{Str, Key, Entry, Object, ArrayOf, TableOf, RecordOf}
+use Rattle.model.specs.Values.{Str, Obj, Key, Entry, Object, ArrayOf, TableOf, RecordOf, set_objects}
 use Rattle.model.specs.Conversions.{Gives, Faults}
 use Rattle.model.specs.Operators.{same_key, element_of, value_for, entry_of, onto, with_item, with_entry, with_elements, with_element, with_value_for, there, fetch_op, put_objects, put_object}
 use Rattle.aggregates.specs.Keys.{key_of, value_at}
@@ -18,6 +19,7 @@ use Rattle.aggregates.specs.declared.object.Kind.{Kind}
 use Rattle.aggregates.specs.declared.object.Kind.TheVariants as kind
 use Rattle.aggregates.specs.declared.place.Place.{Place}
 use Rattle.aggregates.specs.declared.place.Place.TheVariants as place
+use Rattle.model.specs.Aggregates.{new_object}
 use Rattle.model.specs.Machine.{MVal, MW}
 use Rattle.world.specs.Values.{value_of}
 use Rattle.world.specs.Objects.{entry_map, object_map}
@@ -144,3 +146,14 @@ module _ (vs : List (Bytes × Variable)) (os new : List (Object Value)) (ks : Ke
       storing
       ∙ ap (λ x. put_objects (option_map (map (object_map value_of)) (if_stored x new)) (world_of (record { variables = vs; objects = os; keys = ks }) io)) q
       ∙ ap (λ xs. Faults error.WrongType (world_of (record { variables = vs; objects = xs; keys = ks }) io)) (sym same)
+
+-- ---- making
+
+pub made : (vs : List (Bytes × Variable)) (os new : List (Object Value)) (ks : Keys) (h : Held) (io : Io) (o : Object Value) (n : ℕ)
+    → record { variables = vs; objects = os; keys = ks } ≡ h → n ≡ length os → new ≡ os ++ o ∷ []
+    → new_object (object_map value_of o) (world_of h io) ≡ Gives (Obj n) (world_of (record { variables = vs; objects = new; keys = ks }) io)
+made vs os new ks h io o n is number more =
+    ap (λ z. new_object (object_map value_of o) (world_of z io)) (sym is)
+    ∙ ap (λ k. Gives (Obj k) (set_objects (map (object_map value_of) os ++ object_map value_of o ∷ []) (world_of (record { variables = vs; objects = os; keys = ks }) io))) (length-map os (object_map value_of) ∙ sym number)
+    ∙ ap (λ xs. Gives (Obj n) (set_objects xs (world_of (record { variables = vs; objects = os; keys = ks }) io))) (sym (map-append (object_map value_of) os (o ∷ [])))
+    ∙ ap (λ xs. Gives (Obj n) (world_of (record { variables = vs; objects = xs; keys = ks }) io)) (sym more)

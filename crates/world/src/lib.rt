@@ -13,6 +13,7 @@ mod conversions;
 mod counts;
 mod elements;
 mod fault;
+mod making;
 mod operators;
 mod unit_calls;
 mod value;
