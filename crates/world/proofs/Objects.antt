@@ -10,16 +10,16 @@ use Rattle.model.specs.Io.{Io}
 use Rattle.model.specs.Keywords.{Keys}
 use Rattle.model.specs.Target.{Element}
 use Rattle.model.specs.Values.{Str, Obj, Key, Entry, Object, ArrayOf, TableOf, RecordOf, set_objects}
-use Rattle.model.specs.Conversions.{Gives, Faults}
-use Rattle.model.specs.Operators.{same_key, element_of, value_for, entry_of, onto, with_item, with_entry, with_elements, with_element, with_value_for, there, fetch_op, put_objects, put_object}
+use Rattle.model.specs.Conversions.{Op, Gives, Faults}
+use Rattle.model.specs.Operators.{same_key, element_of, value_for, entry_of, onto, with_item, with_entry, with_elements, there, fetch_op, put_objects, put_object}
 use Rattle.aggregates.specs.Keys.{key_of, value_at}
 use Rattle.aggregates.specs.Objects.{if_stored, value_in, stored_at, put_at}
-use Rattle.aggregates.specs.Made.{kind_of}
+use Rattle.aggregates.specs.Made.{kind_of, copied, number, with_object}
 use Rattle.aggregates.specs.declared.object.Kind.{Kind}
 use Rattle.aggregates.specs.declared.object.Kind.TheVariants as kind
 use Rattle.aggregates.specs.declared.place.Place.{Place}
 use Rattle.aggregates.specs.declared.place.Place.TheVariants as place
-use Rattle.model.specs.Aggregates.{new_object}
+use Rattle.model.specs.Aggregates.{new_object, copy_of, copy_op}
 use Rattle.model.specs.Machine.{MVal, MW}
 use Rattle.world.specs.Values.{value_of}
 use Rattle.world.specs.Objects.{entry_map, object_map}
@@ -157,3 +157,35 @@ made vs os new ks h io o n is number more =
     ∙ ap (λ k. Gives (Obj k) (set_objects (map (object_map value_of) os ++ object_map value_of o ∷ []) (world_of (record { variables = vs; objects = os; keys = ks }) io))) (length-map os (object_map value_of) ∙ sym number)
     ∙ ap (λ xs. Gives (Obj n) (set_objects xs (world_of (record { variables = vs; objects = os; keys = ks }) io))) (sym (map-append (object_map value_of) os (o ∷ [])))
     ∙ ap (λ xs. Gives (Obj n) (world_of (record { variables = vs; objects = xs; keys = ks }) io)) (sym more)
+
+-- what a copy comes to, by the object that was made
+abbrev pub copy_by : Option (Object MVal) → MW → Op MW MVal
+copy_by None w = Faults error.WrongType w
+copy_by (Some o) w = new_object o w
+
+copy_is : (o : Option (Object Value)) (w : MW) → copy_of (option_map (object_map value_of) o) w ≡ copy_by (option_map (object_map value_of) (copied o)) w
+copy_is None w = refl
+copy_is (Some (ArrayOf bs vs)) w = refl
+copy_is (Some (TableOf es)) w = refl
+copy_is (Some (RecordOf t fs vs)) w = refl
+
+module _ (vs : List (Bytes × Variable)) (os new : List (Object Value)) (ks : Keys) (h : Held) (io : Io) (k : ℕ) (n : Option ℕ)
+    (is : record { variables = vs; objects = os; keys = ks } ≡ h) (at : n ≡ number (copied (slice_get os k)) os) (more : new ≡ with_object (copied (slice_get os k)) os) where
+  copying : copy_op (Obj k) (world_of h io) ≡ copy_by (option_map (object_map value_of) (copied (slice_get os k))) (world_of h io)
+  copying =
+      ap (λ o. copy_of o (world_of h io)) (slice_get-map (object_map value_of) h.objects k ∙ ap (λ z. option_map (object_map value_of) (slice_get z.objects k)) (sym is))
+      ∙ copy_is (slice_get os k) (world_of h io)
+
+  pub was_copied : (j : ℕ) → n ≡ Some j → copy_op (Obj k) (world_of h io) ≡ Gives (Obj j) (world_of (record { variables = vs; objects = new; keys = ks }) io)
+  was_copied j some = copying ∙ by (copied (slice_get os k)) (sym at ∙ some) more
+    where
+      by : (r : Option (Object Value)) → number r os ≡ Some j → new ≡ with_object r os → copy_by (option_map (object_map value_of) r) (world_of h io) ≡ Gives (Obj j) (world_of (record { variables = vs; objects = new; keys = ks }) io)
+      by None e m = absurd (cc)
+      by (Some o) e m = made vs os new ks h io o j is (cc) m
+
+  pub not_copied : n ≡ None → copy_op (Obj k) (world_of h io) ≡ Faults error.WrongType (world_of (record { variables = vs; objects = new; keys = ks }) io)
+  not_copied none = copying ∙ by (copied (slice_get os k)) (sym at ∙ none) more
+    where
+      by : (r : Option (Object Value)) → number r os ≡ None → new ≡ with_object r os → copy_by (option_map (object_map value_of) r) (world_of h io) ≡ Faults error.WrongType (world_of (record { variables = vs; objects = new; keys = ks }) io)
+      by None e m = ap (λ z. Faults error.WrongType (world_of z io)) (sym is) ∙ ap (λ xs. Faults error.WrongType (world_of (record { variables = vs; objects = xs; keys = ks }) io)) (sym m)
+      by (Some o) e m = absurd (cc)

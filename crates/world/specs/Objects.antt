@@ -1,5 +1,5 @@
 -- Objects whose values are seen as others.
-use Rattle.std.specs.Prelude.{List, map}
+use Rattle.std.specs.Prelude.{map}
 use Rattle.model.specs.Values.{Entry, Object, ArrayOf, TableOf, RecordOf}
 
 module _ {V W : Type 0} (f : V → W) where
