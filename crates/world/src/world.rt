@@ -93,7 +93,7 @@ impl Model for World {
 impl World {
     /// The world as a run begins.
     pub fn new(alloc: Global) -> Result<World, AllocError>
-        ensures { IfOk result (λ world. (io : Io) → io.printed ≡ [] → world_of world io ≡ first_m io.left) }
+        ensures { IfOk result (λ world. (io : Io) → world_of world io ≡ after_w io.printed (first_m io.left)) }
     {
         let Ok(keywords) = Keywords::new(alloc) else {
             return Err(AllocError);
