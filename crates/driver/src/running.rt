@@ -1,6 +1,6 @@
 //! From a module to what it prints.
 
-ghost use Rattle.std.specs.Prelude.{◌≡◌, ℕ, List, [], Err, Ok, IfErr, IfOk, OnErr, OnOk};
+ghost use Rattle.std.specs.Prelude.{◌≡◌, ℕ, List, Err, Ok, IfErr, IfOk, OnErr, OnOk};
 ghost use Rattle.model.specs.declared.image.Image.{Image};
 ghost use Rattle.model.specs.Agreement.{mach};
 ghost use Rattle.model.specs.PrintedBefore.{seen_after};
