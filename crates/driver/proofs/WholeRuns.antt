@@ -51,7 +51,7 @@ of_run deck bound status before after P r h = if_ran status _ _ r.run (λ t. tol
     (λ io io' run ss a.
     let there : Seen = mach r.image io.left bound in
     let seen : Seen = record { ending = ending_of status; printed = there.printed } in
-    (there.printed, (ap (λ (x : Seen). x.printed) run, subst (λ ts. P ts io.left seen) (same_trees (verdict deck) r.statements ss r.trees a) (h io.left seen (ap (λ (x : Seen). record { ending = x.ending; printed = there.printed }) run))))) t)
+    (there.printed, ap (λ (x : Seen). x.printed) run, subst (λ ts. P ts io.left seen) (same_trees (verdict deck) r.statements ss r.trees a) (h io.left seen (ap (λ (x : Seen). record { ending = x.ending; printed = there.printed }) run)))) t)
 
 pub is_meant : (deck : List ℕ) (bound : ℕ) (status : Status) (before after : Option Io) → IsRunOf deck bound status before after → IsMeant deck status before after
 is_meant deck bound status before after r = of_run deck bound status before after Mean r (λ inputs seen s. seen_of r.statements r.image inputs bound seen.ending seen r.agrees s refl)
