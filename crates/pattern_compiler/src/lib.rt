@@ -11,7 +11,9 @@ mod code;
 mod copies;
 mod instr;
 mod join;
+mod set;
 mod single;
 
 pub use code::PatCode;
 pub use instr::{Basic, Instr, Kind, Name};
+pub use set::Set;
