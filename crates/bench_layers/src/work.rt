@@ -75,7 +75,10 @@ fn code_of(alloc: Global, pattern: Pattern) -> Result<PatCode, StrFault> {
             PatCode::arbno(alloc, &any)?
         }
         Pattern::Span => {
-            let span = PatCode::prim(alloc, Basic::Span(Set::of(alloc, Text::from_slice(alloc, b"A")?)?))?;
+            let span = PatCode::prim(
+                alloc,
+                Basic::Span(Set::of(alloc, Text::from_slice(alloc, b"A")?)?),
+            )?;
             let turn = PatCode::cat(alloc, &span, &lit(alloc, b"B")?)?;
             PatCode::arbno(alloc, &turn)?
         }
