@@ -1,10 +1,11 @@
 //! The sets of bytes of pattern code.
 
-ghost use Rattle.std.specs.Prelude.{◌≡◌, ◌≤◌, ℕ, List, length, not, IfOk};
+ghost use Rattle.std.specs.Prelude.{◌≡◌, ◌≤◌, ℕ, List, [], ◌∷◌, length, not, IfOk};
 ghost use Rattle.std.specs.List.{prefix_len};
 ghost use Rattle.model.specs.Basic.{is_among};
 ghost use Rattle.model.specs.Strings.{flags_of};
 
+use memchr::memchr;
 use std::alloc::{AllocError, Global};
 use std::marker::Model;
 use std::rc::Rc;
@@ -78,6 +79,9 @@ impl Set {
         ensures value { result ≡ prefix_len (λ b. not (is_among self.now b)) bytes.now }
         ensures within { result ≤ length bytes.now }
     {
+        if let [byte] = self.text.as_slice() {
+            return break_at(bytes, *byte);
+        }
         match &self.table {
             Some(table) => break_by(bytes, table.as_ref()),
             None => break_by(bytes, &ByteSet::of(self.text.as_slice())),
@@ -99,6 +103,17 @@ fn break_by(bytes: &[u8], table: &ByteSet) -> usize
     ensures within { result ≤ length bytes.now }
 {
     match break_end(bytes, 0, table) {
+        Some(end) => end,
+        None => bytes.len(),
+    }
+}
+
+// How many bytes come before the first that is this one.
+fn break_at(bytes: &[u8], byte: u8) -> usize
+    ensures value { result ≡ prefix_len (λ b. not (is_among (byte ∷ []) b)) bytes.now }
+    ensures within { result ≤ length bytes.now }
+{
+    match memchr(byte, bytes) {
         Some(end) => end,
         None => bytes.len(),
     }
