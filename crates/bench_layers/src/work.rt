@@ -6,7 +6,7 @@ use driver::compile_deck;
 use lexer::lex;
 use loader::load;
 use match_machine::Matcher;
-use pattern_compiler::{Basic, PatCode};
+use pattern_compiler::{Basic, PatCode, Set};
 use std::alloc::Global;
 use strings::{ByteSet, StrFault, Text, break_end, span_end};
 
@@ -75,7 +75,10 @@ fn code_of(alloc: Global, pattern: Pattern) -> Result<PatCode, StrFault> {
             PatCode::arbno(alloc, &any)?
         }
         Pattern::Span => {
-            let span = PatCode::prim(alloc, Basic::Span(Text::from_slice(alloc, b"A")?))?;
+            let span = PatCode::prim(
+                alloc,
+                Basic::Span(Set::of(alloc, Text::from_slice(alloc, b"A")?)?),
+            )?;
             let turn = PatCode::cat(alloc, &span, &lit(alloc, b"B")?)?;
             PatCode::arbno(alloc, &turn)?
         }

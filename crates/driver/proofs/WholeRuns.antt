@@ -1,10 +1,11 @@
 -- From the module of a deck to its run.
-use Rattle.std.proofs.Common.{◌≡◌, ◌⊎◌, ◌∙◌, refl, sym, ap, subst, ℕ, ◌≤◌, List, [], ◌++◌, Option, Some, None, Result, Ok, Err, inl, inr}
+use Rattle.std.proofs.Common.{◌≡◌, ◌⊎◌, ◌∙◌, refl, sym, ap, subst, ℕ, List, ◌++◌, Option, Some, None, Result, Ok, Err, inl, inr}
 use Rattle.model.specs.declared.format.LoadFault.{LoadFault}
 use Rattle.model.specs.declared.image.Image.{Image}
 use Rattle.model.specs.declared.run.Status.{Status}
 use Rattle.model.specs.declared.run.Ending.{Ending}
 use Rattle.model.specs.Agreement.{Agrees, Inputs, Seen, mach, mean}
+use Rattle.model.specs.PrintedBefore.{seen_after}
 use Rattle.model.specs.Io.{Io}
 use Rattle.model.specs.Reading as reading
 use Rattle.model.specs.Faults.{verdict, Verdict, Accepted}
@@ -23,7 +24,7 @@ read : (deck bytes : List ℕ) (m : IsModuleOf deck bytes) → reading.image_of 
 read deck bytes m = ap reading.image_of m.spelt ∙ spelt_is_read m.image m.has_spelling
 
 pub is_run : (deck given bytes : List ℕ) (bound : ℕ) (status : Status) (before after : Option Io) → given ≡ bytes → IsModuleOf deck bytes
-    → ((m : Image) → reading.image_of given ≡ Ok m → IfRan status (IfTold before after (λ io io'. io.printed ≡ [] → record { ending = ending_of status; printed = io'.printed } ≡ mach m io.left bound)))
+    → ((m : Image) → reading.image_of given ≡ Ok m → IfRan status (IfTold before after (λ io io'. record { ending = ending_of status; printed = io'.printed } ≡ seen_after io.printed (mach m io.left bound))))
     → IsRunOf deck bound status before after
 is_run deck given bytes bound status before after same m run = record {
   statements = m.statements;
@@ -47,7 +48,10 @@ same_trees v ss ts a b = cc
 of_run : (deck : List ℕ) (bound : ℕ) (status : Status) (before after : Option Io) (P : List Stmt → Inputs → Seen → Type 0) (r : IsRunOf deck bound status before after)
     → ((inputs : Inputs) (seen : Seen) → seen ≡ mach r.image inputs bound → P r.statements inputs seen) → OfRun deck status before after P
 of_run deck bound status before after P r h = if_ran status _ _ r.run (λ t. told_on before after _ _
-    (λ io io' run none ss a. subst (λ ts. P ts io.left (record { ending = ending_of status; printed = io'.printed })) (same_trees (verdict deck) r.statements ss r.trees a) (h io.left _ (run none))) t)
+    (λ io io' run ss a.
+    let there : Seen = mach r.image io.left bound in
+    let seen : Seen = record { ending = ending_of status; printed = there.printed } in
+    (there.printed, ap (λ (x : Seen). x.printed) run, subst (λ ts. P ts io.left seen) (same_trees (verdict deck) r.statements ss r.trees a) (h io.left seen (ap (λ (x : Seen). record { ending = x.ending; printed = there.printed }) run)))) t)
 
 pub is_meant : (deck : List ℕ) (bound : ℕ) (status : Status) (before after : Option Io) → IsRunOf deck bound status before after → IsMeant deck status before after
 is_meant deck bound status before after r = of_run deck bound status before after Mean r (λ inputs seen s. seen_of r.statements r.image inputs bound seen.ending seen r.agrees s refl)

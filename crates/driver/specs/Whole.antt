@@ -1,9 +1,10 @@
 -- What running a deck gives.
-use Rattle.std.specs.Prelude.{◌≡◌, ℕ, ◌+◌, ◌*◌, ◌≤◌, List, [], Option, Some, None}
+use Rattle.std.specs.Prelude.{◌≡◌, ℕ, ◌+◌, ◌*◌, ◌≤◌, List, ◌++◌, Option, Some, None}
 use Rattle.model.specs.declared.run.Ending.{Ending}
 use Rattle.model.specs.declared.image.Image.{Image}
 use Rattle.model.specs.declared.run.Status.{Status}
 use Rattle.model.specs.Agreement.{Agrees, Inputs, IsBeginning, Records, Seen, mach, mean}
+use Rattle.model.specs.PrintedBefore.{seen_after}
 use Rattle.model.specs.Faults.{verdict, Accepted}
 use Rattle.model.specs.Io.{Io}
 use Rattle.model.specs.RulesUsed.{rules_used}
@@ -15,7 +16,7 @@ use Rattle.statement_machine.specs.declared.TheConstants.{STEPS_PER_RULE}
 use Rattle.statement_machine.specs.Stopped.{IfRan, ending_of}
 
 -- the deck has no fault, its image does what its statements mean, and, unless the run stopped, its status and what it
--- printed are those of the machine on that image at most so many steps later
+-- printed, after what was printed before, are those of the machine on that image at most so many steps later
 pub record IsRunOf (deck : List ℕ) (bound : ℕ) (status : Status) (before after : Option Io) : Type 0 where
   pub statements : List Stmt
   pub trees : verdict deck ≡ Accepted statements
@@ -23,15 +24,15 @@ pub record IsRunOf (deck : List ℕ) (bound : ℕ) (status : Status) (before aft
   pub generated : image ≡ image_of statements
   pub agrees : Agrees statements image
   pub in_time : EndsInTime statements image
-  pub run : IfRan status (IfTold before after (λ io io'. io.printed ≡ [] → record { ending = ending_of status; printed = io'.printed } ≡ mach image io.left bound))
+  pub run : IfRan status (IfTold before after (λ io io'. record { ending = ending_of status; printed = io'.printed } ≡ seen_after io.printed (mach image io.left bound)))
 
 -- ---- in the deck's own words, without machine or image
 
 -- what is said of a run of the deck that nothing stopped, of its statements, of what the units held at first, and of how
--- it ended, if it has, and what it printed
+-- it ended, if it has, and what it printed: what was printed after is what was printed before, and then this
 abbrev pub OfRun : List ℕ → Status → Option Io → Option Io → (List Stmt → Inputs → Seen → Type 0) → Type 0
-OfRun deck status before after P = IfRan status (IfTold before after (λ io io'. io.printed ≡ [] →
-    (ss : List Stmt) → verdict deck ≡ Accepted ss → P ss io.left (record { ending = ending_of status; printed = io'.printed })))
+OfRun deck status before after P = IfRan status (IfTold before after (λ io io'.
+    (ss : List Stmt) → verdict deck ≡ Accepted ss → (new : Records) × (io'.printed ≡ io.printed ++ new) × P ss io.left (record { ending = ending_of status; printed = new })))
 
 -- what was seen of a run is what the meaning has at its end, or, where it runs on, printed so far is a beginning of what
 -- the meaning prints

@@ -1,15 +1,14 @@
 //! The instructions of the code.
 
-ghost use Rattle.std.specs.Prelude.{◌≡◌, ◌==◌};
+ghost use Rattle.std.specs.Prelude.{◌≡◌, ◌==◌, ◌&&◌, nat_lt};
 ghost use Rattle.std.specs.List.{list_any};
-ghost use Rattle.model.specs.Flow.{is_target};
-ghost use Rattle.model.specs.Modules.{total};
+ghost use Rattle.model.specs.Flow.{is_fetched};
+ghost use Rattle.model.specs.Modules.{fetch_from, total};
 ghost use Rattle.model.specs.Spelling.{IsImage, IsTable, StatementFits};
 ghost use Rattle.model.specs.WellFormed.{begins_last, code_at, indices_fit, instr_rule, is_end, is_last_instr, place_fits};
 ghost use Rattle.loader.specs.Parts.{code_fault};
-ghost use Rattle.loader.specs.Places.{offsets_from};
 
-use crate::code::{begins, bytes};
+use crate::code::{PlacedCode, bytes};
 use crate::names::{is_name, is_statement, is_string};
 use model::{Image, Instr, ModuleFault, ModuleRule};
 
@@ -38,25 +37,23 @@ fn has_statement(statements: &[u32], at: u32) -> bool
 }
 
 // Whether an offset is one that the instruction at another may lead to.
-fn is_target(image: &Image, offsets: &[u32], at: u32, target: u32) -> bool
-    requires spelt { IsImage image.now }
-    requires offsets { offsets.now ≡ offsets_from 0 image.now.code }
-    ensures { result ≡ is_target image.now at target }
+fn is_target(placed: &PlacedCode, at: u32, target: u32) -> bool
+    ensures { result ≡ (nat_lt at target && is_fetched (fetch_from 0 placed.now target)) }
 {
-    at < target && begins(image, offsets, target)
+    at < target && placed.begins(target)
 }
 
 // Whether an instruction's targets and its own place are as they must be.
-fn place_fits(image: &Image, offsets: &[u32], at: u32, instr: Instr) -> bool
+fn place_fits(image: &Image, placed: &PlacedCode, at: u32, instr: Instr) -> bool
     requires spelt { IsImage image.now }
-    requires offsets { offsets.now ≡ offsets_from 0 image.now.code }
+    requires placed { placed.now ≡ image.now.code }
     ensures { result ≡ place_fits image.now at instr }
 {
     match instr {
         Instr::Begin(target) => {
-            is_target(image, offsets, at, target) && has_statement(image.statements.as_slice(), at)
+            is_target(placed, at, target) && has_statement(image.statements.as_slice(), at)
         }
-        Instr::Try(target) => is_target(image, offsets, at, target),
+        Instr::Try(target) => is_target(placed, at, target),
         _ => true,
     }
 }
@@ -90,14 +87,14 @@ fn begins_last(image: &Image, at: u32) -> bool
 // The rule that the instruction at an offset breaks, in code of so many bytes.
 fn instr_rule(
     image: &Image,
-    offsets: &[u32],
+    placed: &PlacedCode,
     at: u32,
     next: u32,
     size: u32,
     instr: Instr,
 ) -> Option<ModuleRule>
     requires spelt { IsImage image.now }
-    requires offsets { offsets.now ≡ offsets_from 0 image.now.code }
+    requires placed { placed.now ≡ image.now.code }
     requires size { size ≡ total image.now.code }
     ensures { result ≡ instr_rule image.now at next instr }
 {
@@ -105,7 +102,7 @@ fn instr_rule(
         return Some(ModuleRule::BadIndex);
     }
     let goes_on = is_last_instr(instr) || next != size;
-    if !place_fits(image, offsets, at, instr) || !goes_on {
+    if !place_fits(image, placed, at, instr) || !goes_on {
         return Some(ModuleRule::BadTarget);
     }
     if begins_last(image, at) && !matches!(instr, Instr::End) {
@@ -129,9 +126,9 @@ fn size_of(image: &Image) -> u32
 }
 
 /// The first fault of the instructions of the code, which begins at a place.
-pub(crate) fn code_fault(image: &Image, offsets: &[u32], place: usize) -> Option<ModuleFault>
+pub(crate) fn code_fault(image: &Image, placed: &PlacedCode, place: usize) -> Option<ModuleFault>
     requires spelt { IsImage image.now }
-    requires offsets { offsets.now ≡ offsets_from 0 image.now.code }
+    requires placed { placed.now ≡ image.now.code }
     requires there { place ≡ code_at image.now }
     ensures { result ≡ code_fault image.now }
 {
@@ -140,7 +137,7 @@ pub(crate) fn code_fault(image: &Image, offsets: &[u32], place: usize) -> Option
     let code = image.code.as_slice();
     for instr in code {
         let next = at + bytes(*instr);
-        if let Some(rule) = instr_rule(image, offsets, at, next, size, *instr) {
+        if let Some(rule) = instr_rule(image, placed, at, next, size, *instr) {
             return Some(ModuleFault {
                 offset: place + at as usize,
                 rule,

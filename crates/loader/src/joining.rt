@@ -4,8 +4,8 @@ ghost use Rattle.std.specs.Prelude.{◌≡◌, IfOk};
 ghost use Rattle.model.specs.Flow.{BreaksFlow, IsLeast};
 ghost use Rattle.model.specs.Spelling.{IsImage};
 ghost use Rattle.model.specs.WellFormed.{IsTold, flow_fault, lesser, number_of, part_fault};
-ghost use Rattle.loader.specs.Places.{offsets_from};
 
+use crate::code::PlacedCode;
 use crate::instrs::code_fault;
 use crate::labels::label_fault;
 use crate::patterns::patterns_fault;
@@ -19,20 +19,20 @@ use std::alloc::{AllocError, Global};
 fn part_fault(
     alloc: Global,
     image: &Image,
-    offsets: &[u32],
+    placed: &PlacedCode,
 ) -> Result<Option<ModuleFault>, AllocError>
     requires spelt { IsImage image.now }
-    requires offsets { offsets.now ≡ offsets_from 0 image.now.code }
+    requires placed { placed.now ≡ image.now.code }
     ensures { IfOk result (λ fault. fault ≡ part_fault image.now) }
 {
     let places = places_of(image);
     Ok(
         entry_fault(image)
             .or(label_fault(alloc, image, places.labels)?)
-            .or(statement_fault(image, offsets, places.statements))
-            .or(expression_fault(image, offsets, places.expressions))
+            .or(statement_fault(image, placed, places.statements))
+            .or(expression_fault(image, placed, places.expressions))
             .or(patterns_fault(image, places.patterns))
-            .or(code_fault(image, offsets, places.code)),
+            .or(code_fault(image, placed, places.code)),
     )
 }
 
@@ -72,17 +72,17 @@ fn flow_fault(image: &Image, flow: Option<u32>) -> Option<ModuleFault>
     })
 }
 
-/// The least fault of an image, by the offsets of its instructions.
+/// The least fault of an image, with its code by the offsets.
 pub(crate) fn fault_of(
     alloc: Global,
     image: &Image,
-    offsets: &[u32],
+    placed: &PlacedCode,
 ) -> Result<Option<ModuleFault>, AllocError>
     requires spelt { IsImage image.now }
-    requires offsets { offsets.now ≡ offsets_from 0 image.now.code }
+    requires placed { placed.now ≡ image.now.code }
     ensures { IfOk result (λ fault. IsTold image.now fault) }
 {
-    let parts = part_fault(alloc, image, offsets)?;
+    let parts = part_fault(alloc, image, placed)?;
     let flow = check_flow(alloc, image)?;
     Ok(lesser(parts, flow_fault(image, flow)))
 }

@@ -9,7 +9,7 @@ ghost use Rattle.loader.specs.Answers.{IsAnswer, IsJudged, IsKnown, no_memory};
 ghost use Rattle.loader.specs.Loaded.{IsLoaded};
 ghost use Rattle.loader.specs.Running.{not_yet};
 
-use crate::code::{not_yet, offsets_of};
+use crate::code::{PlacedCode, not_yet};
 use crate::joining::fault_of;
 use crate::module::Module;
 use crate::places::code_offset;
@@ -28,10 +28,10 @@ fn judge(alloc: Global, image: Image) -> Result<Result<Module, LoadFault>, Alloc
             rule: FormatRule::UnknownInstruction,
         })));
     }
-    let offsets = offsets_of(alloc, &image)?;
-    match fault_of(alloc, &image, offsets.as_slice())? {
+    let placed = PlacedCode::of(alloc, &image)?;
+    match fault_of(alloc, &image, &placed)? {
         Some(fault) => Ok(Err(LoadFault::Module(fault))),
-        None => Ok(Ok(Module::new(alloc, image, offsets)?)),
+        None => Ok(Ok(Module::new(alloc, image, placed)?)),
     }
 }
 

@@ -2,14 +2,13 @@
 
 ghost use Rattle.std.specs.Prelude.{◌≡◌, if◌then◌else◌};
 ghost use Rattle.model.specs.declared.format.ModuleRule.TheVariants.{BadTarget, NoEnd};
-ghost use Rattle.model.specs.Flow.{begins_at};
+ghost use Rattle.model.specs.Flow.{is_fetched};
 ghost use Rattle.model.specs.Modules.{fetch_from};
 ghost use Rattle.model.specs.Spelling.{IsImage};
 ghost use Rattle.model.specs.WellFormed.{expressions_at, is_begin, rule, statements_at};
 ghost use Rattle.loader.specs.Parts.{entry_fault, expression_fault, statement_fault};
-ghost use Rattle.loader.specs.Places.{offsets_from};
 
-use crate::code::{begins, is_begin};
+use crate::code::PlacedCode;
 use crate::names::{is_statement, rule};
 use model::{Image, ModuleFault, ModuleRule};
 
@@ -29,22 +28,24 @@ pub(crate) fn entry_fault(image: &Image) -> Option<ModuleFault>
 }
 
 // The rule that a statement at an offset breaks, where the last is another.
-fn statement_rule(image: &Image, offsets: &[u32], is_last: bool, at: u32) -> Option<ModuleRule>
-    requires spelt { IsImage image.now }
-    requires offsets { offsets.now ≡ offsets_from 0 image.now.code }
-    ensures { result ≡ (if is_last then rule NoEnd (begins_at image.now at) else rule BadTarget (is_begin (fetch_from 0 image.now.code at))) }
+fn statement_rule(placed: &PlacedCode, is_last: bool, at: u32) -> Option<ModuleRule>
+    ensures { result ≡ (if is_last then rule NoEnd (is_fetched (fetch_from 0 placed.now at)) else rule BadTarget (is_begin (fetch_from 0 placed.now at))) }
 {
     if is_last {
-        rule(ModuleRule::NoEnd, begins(image, offsets, at))
+        rule(ModuleRule::NoEnd, placed.begins(at))
     } else {
-        rule(ModuleRule::BadTarget, is_begin(image, offsets, at))
+        rule(ModuleRule::BadTarget, placed.is_begin(at))
     }
 }
 
 /// The first fault of the statements, which begin at a place.
-pub(crate) fn statement_fault(image: &Image, offsets: &[u32], place: usize) -> Option<ModuleFault>
+pub(crate) fn statement_fault(
+    image: &Image,
+    placed: &PlacedCode,
+    place: usize,
+) -> Option<ModuleFault>
     requires spelt { IsImage image.now }
-    requires offsets { offsets.now ≡ offsets_from 0 image.now.code }
+    requires placed { placed.now ≡ image.now.code }
     requires there { place ≡ statements_at image.now }
     ensures { result ≡ statement_fault image.now }
 {
@@ -52,7 +53,7 @@ pub(crate) fn statement_fault(image: &Image, offsets: &[u32], place: usize) -> O
     let count = statements.len();
     let mut offset = place;
     for k in 0..count {
-        if let Some(rule) = statement_rule(image, offsets, k + 1 == count, statements[k]) {
+        if let Some(rule) = statement_rule(placed, k + 1 == count, statements[k]) {
             return Some(ModuleFault { offset, rule });
         }
         offset += 4;
@@ -61,16 +62,20 @@ pub(crate) fn statement_fault(image: &Image, offsets: &[u32], place: usize) -> O
 }
 
 /// The first fault of the expressions, which begin at a place.
-pub(crate) fn expression_fault(image: &Image, offsets: &[u32], place: usize) -> Option<ModuleFault>
+pub(crate) fn expression_fault(
+    image: &Image,
+    placed: &PlacedCode,
+    place: usize,
+) -> Option<ModuleFault>
     requires spelt { IsImage image.now }
-    requires offsets { offsets.now ≡ offsets_from 0 image.now.code }
+    requires placed { placed.now ≡ image.now.code }
     requires there { place ≡ expressions_at image.now }
     ensures { result ≡ expression_fault image.now }
 {
     let mut offset = place;
     let expressions = image.expressions.as_slice();
     for at in expressions {
-        if !begins(image, offsets, *at) {
+        if !placed.begins(*at) {
             return Some(ModuleFault {
                 offset,
                 rule: ModuleRule::BadTarget,

@@ -1,6 +1,7 @@
 //! The laws of the meaning and of the machine. Each function does nothing; its contract states a law, and who calls it may use the law.
 
 ghost use Rattle.model.specs.Agreement.{AgreesWherePlaced, EndingStays, PrintedGrows};
+ghost use Rattle.model.specs.PrintedBefore.{RunsAfter};
 ghost use Rattle.model.specs.StepBound.{RunStepsBounded};
 ghost use Rattle.model.specs.MeaningLaws.{AnswersStay, MatchesStay, CountsStay, RulesStay};
 ghost use Rattle.model.specs.MatchLaws.{MatchRuns, MatchComes};
@@ -8,6 +9,11 @@ ghost use Rattle.model.specs.MatchLaws.{MatchRuns, MatchComes};
 /// A module does what its program does, wherever the code of each statement stands.
 pub fn agreement()
     ensures { AgreesWherePlaced }
+{}
+
+/// What a machine does doesn't depend on what was printed before: it adds to that.
+pub fn runs_add_to_what_was_printed()
+    ensures { RunsAfter }
 {}
 
 /// Where a deck's meaning ends having used r rules, a module that does what the deck does has ended so after any 7 * (r + 1)

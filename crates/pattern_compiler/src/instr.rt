@@ -1,5 +1,6 @@
 //! The instructions of pattern code.
 
+use crate::set::Set;
 use std::alloc::AllocError;
 use strings::Text;
 
@@ -23,10 +24,10 @@ pub enum Basic {
     RPos(u64),
     Tab(u64),
     RTab(u64),
-    Any(Text),
-    NotAny(Text),
-    Span(Text),
-    Break(Text),
+    Any(Set),
+    NotAny(Set),
+    Span(Set),
+    Break(Set),
     Rem,
     Arb,
     Bal,

@@ -2,6 +2,7 @@
 //!
 //! `PatCode` is the code of a pattern: `lit` and `prim` make that of a part, `cat`, `alt`, `arbno`, `fence_of`, `cond`
 //! and `imm` join codes, and `get` gives an instruction by its place.
+//! `Set` is a set of bytes: a table that is made once where the pattern is made, and that the clones of its code share.
 //!
 //! Promised: if the parts' code stands for their patterns (`model`'s `Stands`), the result stands for the joined
 //! pattern; refused by want of memory alone.
@@ -11,7 +12,9 @@ mod code;
 mod copies;
 mod instr;
 mod join;
+mod set;
 mod single;
 
 pub use code::PatCode;
 pub use instr::{Basic, Instr, Kind, Name};
+pub use set::Set;

@@ -1,9 +1,10 @@
 //! A run of a module, up to a bound on its steps.
 
-ghost use Rattle.std.specs.Prelude.{◌≡◌, [], Option, Some, None, IfOk};
+ghost use Rattle.std.specs.Prelude.{◌≡◌, Option, Some, None, IfOk};
 ghost use Rattle.model.specs.Io.{Io};
 ghost use Rattle.model.specs.Told.{IfTold};
 ghost use Rattle.model.specs.Agreement.{first_m, mach};
+ghost use Rattle.model.specs.PrintedBefore.{after_s, seen_after};
 ghost use Rattle.model.specs.Machine as m;
 ghost use Rattle.model.specs.Machine.{begun, steps};
 ghost use Rattle.model.specs.Modules.{module_of};
@@ -44,7 +45,7 @@ impl<'m> Machine<'m> {
     pub fn new(alloc: Global, program: &'m Module) -> Result<Machine<'m>, AllocError>
         ensures image { IfOk result (λ machine. machine.image ≡ program.now) }
         ensures going { IfOk result (λ machine. machine.halt ≡ None) }
-        ensures begun { IfOk result (λ machine. (io : Io) → io.printed ≡ [] → Holds machine io (begun (module_of program.now) (first_m io.left))) }
+        ensures begun { IfOk result (λ machine. (io : Io) → Holds machine io (after_s io.printed (begun (module_of program.now) (first_m io.left)))) }
     {
         let at = program.start();
         Ok(Machine {
@@ -84,10 +85,11 @@ pub fn run_from_entry<U: Units>(
     units: &mut U,
     bound: u64,
 ) -> Status
-    ensures run { IfRan result (IfTold (U.told units.old) (U.told units.new) (λ io io'. io.printed ≡ [] →
-        record { ending = ending_of result; printed = io'.printed } ≡ mach program.now io.left bound)) }
+    // What was printed is what was printed before, followed by what the machine prints.
+    ensures run { IfRan result (IfTold (U.told units.old) (U.told units.new) (λ io io'.
+        record { ending = ending_of result; printed = io'.printed } ≡ seen_after io.printed (mach program.now io.left bound))) }
     // What is left to be read on each unit is what the machine leaves there.
-    ensures left { IfRan result (IfTold (U.told units.old) (U.told units.new) (λ io io'. io.printed ≡ [] → io'.left ≡ left_after program.now io.left bound)) }
+    ensures left { IfRan result (IfTold (U.told units.old) (U.told units.new) (λ io io'. io'.left ≡ left_after program.now io.left bound)) }
     ensures kept { IfRan result (Same (U.failures units.old) (U.failures units.new)) }
     ensures stop { IfStopped result (λ stop. IsStop stop (U.failures units.old) (U.failures units.new)) }
 {

@@ -2,7 +2,7 @@
 
 ghost use Rattle.std.specs.Prelude.{◌≡◌, ◌≤◌, length, SomeIff};
 ghost use Rattle.std.specs.Str.Parse.{signed_digits_value};
-ghost use Rattle.model.specs.Strings.{IsIntText, trimmed, span_to, break_to, flags_of};
+ghost use Rattle.model.specs.Strings.{IsIntText, trimmed, span_to, break_to, flags_of, has};
 
 use std::marker::Model;
 use std::str;
@@ -44,6 +44,13 @@ impl ByteSet {
             flags[*b as usize] = true;
         }
         ByteSet { flags }
+    }
+
+    /// Whether a byte is in the set.
+    pub fn has(&self, byte: u8) -> bool
+        ensures { result ≡ has self.now byte }
+    {
+        self.flags[byte as usize]
     }
 }
 

@@ -41,6 +41,25 @@ fn answers(rt: HostRuntime) {
     }
 }
 
+// ANY, NOTANY, SPAN and BREAK of A and C, anchored, on AAB; and SPAN(*E) with the same set.
+#[test]
+fn sets(rt: HostRuntime) {
+    for (signs, play, want) in [
+        ("y", Play::Steps(100), Seen::Matched(0, 1)),
+        ("yyy&&", Play::Steps(100), Seen::Failed),
+        ("n", Play::Steps(100), Seen::Failed),
+        ("yyn&&", Play::Steps(100), Seen::Matched(0, 3)),
+        ("p", Play::Steps(100), Seen::Matched(0, 2)),
+        ("pp&", Play::Steps(100), Seen::Failed),
+        ("k", Play::Steps(100), Seen::Matched(0, 0)),
+        ("Bk&", Play::Steps(100), Seen::Failed),
+        ("%", Play::Bytes("AC"), Seen::Matched(0, 2)),
+    ] {
+        let text = Text::from_slice(rt.alloc(), b"AAB");
+        assert!(rt; played(rt.alloc(), text, signs, play) == want);
+    }
+}
+
 // The fifth step of 'A' | 'B' on B matches, after a start, the choice, 'A' that fails and the choice gone back to.
 // SUCCEED FAIL runs on for ever.
 #[test]

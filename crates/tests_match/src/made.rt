@@ -1,8 +1,13 @@
 //! Patterns in short.
 
-use pattern_compiler::{Basic, Kind, Name, PatCode};
+use pattern_compiler::{Basic, Kind, Name, PatCode, Set};
 use std::alloc::{AllocError, Global};
 use strings::{StrFault, Text};
+
+// A and C.
+fn set(alloc: Global) -> Result<Set, StrFault> {
+    Ok(Set::of(alloc, Text::from_slice(alloc, b"AC")?)?)
+}
 
 fn basic(alloc: Global, letter: u8) -> Result<Basic, StrFault> {
     Ok(match letter {
@@ -10,6 +15,10 @@ fn basic(alloc: Global, letter: u8) -> Result<Basic, StrFault> {
         b'f' => Basic::Fail,
         b'l' => Basic::Len(1),
         b'r' => Basic::RPos(0),
+        b'y' => Basic::Any(set(alloc)?),
+        b'n' => Basic::NotAny(set(alloc)?),
+        b'p' => Basic::Span(set(alloc)?),
+        b'k' => Basic::Break(set(alloc)?),
         _ => Basic::Lit(Text::from_slice(alloc, &[letter])?),
     })
 }

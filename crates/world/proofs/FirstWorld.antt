@@ -1,5 +1,5 @@
 -- The world that a run begins with.
-use Rattle.std.proofs.Common.{◌≡◌, List, [], ◌∷◌, ◌++◌, Bool, true, false, cond, Option, Some, None, refl, sym, ap, ◌∙◌, bytes_eq, codes}
+use Rattle.std.proofs.Common.{◌≡◌, List, [], ◌∷◌, ◌++◌, Bool, true, false, cond, Option, Some, None, refl, sym, ap, ◌∙◌, append-nil, bytes_eq, codes}
 use Rattle.std.proofs.lemmas.Slice.Eq.{bytes_eq-Decides}
 use Rattle.model.specs.Trees.{Bytes}
 use Rattle.model.specs.Io.{Io}
@@ -7,6 +7,7 @@ use Rattle.model.specs.Keywords.{first_keys}
 use Rattle.model.specs.Values.{Str, first_value}
 use Rattle.model.specs.Machine.{codes_of}
 use Rattle.model.specs.Agreement.{first_m}
+use Rattle.model.specs.PrintedBefore.{after_w}
 use Rattle.world.specs.Held.{Held, variable_at, value_in, input_in, output_in, world_of, null_variable, first_patterns, first_variables}
 use Rattle.world.specs.declared.world.Variable.{Variable}
 
@@ -63,11 +64,11 @@ first_writes x =
     ∙ as_given output_in (λ y. cond (bytes_eq y (codes "OUTPUT")) (Some 6) (cond (bytes_eq y (codes "PUNCH")) (Some 7) None)) x (cond (bytes_eq x (codes "OUTPUT")) (Some 6) (cond (bytes_eq x (codes "PUNCH")) (Some 7) None)) (first_patterns ++ (codes "INPUT", null_variable (Some 5) None) ∷ [])
     (refl, (refl, (refl, (refl, (refl, (refl, (refl, (refl, tt)))))))) refl
 
-first_io : (io : Io) → io.printed ≡ [] → io ≡ record { left = io.left; printed = [] }
-first_io io e = ap (λ ps. record { left = io.left; printed = ps }) e
+first_io : (io : Io) → io ≡ record { left = io.left; printed = io.printed ++ [] }
+first_io io = ap (λ ps. record { left = io.left; printed = ps }) (sym (append-nil io.printed))
 
-pub first_holds : (h : Held) (io : Io) → h ≡ record { variables = first_variables; keys = first_keys } → io.printed ≡ [] → world_of h io ≡ first_m io.left
-first_holds h io is e =
+pub first_holds : (h : Held) (io : Io) → h ≡ record { variables = first_variables; keys = first_keys } → world_of h io ≡ after_w io.printed (first_m io.left)
+first_holds h io is =
     ap (λ z. world_of z io) is
     ∙ (λ i. record {
       vars = λ y. first_vars y i;
@@ -78,5 +79,5 @@ first_holds h io is e =
         reads = λ y. first_reads y i;
         writes = λ y. first_writes y i;
       };
-      io = first_io io e i;
+      io = first_io io i;
     })

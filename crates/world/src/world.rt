@@ -6,6 +6,7 @@ ghost use Rattle.model.specs.Values.{set_var};
 ghost use Rattle.model.specs.Operators.{fetch_var};
 ghost use Rattle.model.specs.Keywords.{key_value};
 ghost use Rattle.model.specs.Agreement.{first_m};
+ghost use Rattle.model.specs.PrintedBefore.{after_w};
 ghost use Rattle.world.specs.Values.{value_of};
 ghost use Rattle.world.specs.Held.{world_of, fetched_from, zero_in, variable_at, value_in, output_in, with_variable, pattern_variable, first_patterns, first_variables};
 ghost use Rattle.world.specs.declared.value.Value.TheVariants.{String};
@@ -93,7 +94,7 @@ impl Model for World {
 impl World {
     /// The world as a run begins.
     pub fn new(alloc: Global) -> Result<World, AllocError>
-        ensures { IfOk result (λ world. (io : Io) → io.printed ≡ [] → world_of world io ≡ first_m io.left) }
+        ensures { IfOk result (λ world. (io : Io) → world_of world io ≡ after_w io.printed (first_m io.left)) }
     {
         let Ok(keywords) = Keywords::new(alloc) else {
             return Err(AllocError);

@@ -1,6 +1,7 @@
-use Rattle.std.proofs.Common.{◌≡◌, [], refl, subst, sym, ◌∙◌}
+use Rattle.std.proofs.Common.{◌≡◌, refl, subst, sym, ◌∙◌}
 use Rattle.model.specs.declared.image.Image.{Image}
 use Rattle.model.specs.Agreement.{mach}
+use Rattle.model.specs.PrintedBefore.{seen_after}
 use Rattle.model.specs.Told.{IfTold}
 use Rattle.model.proofs.SpeltNumbers.{ok_is}
 use Rattle.statement_machine.specs.Runs.{left_after}
@@ -11,12 +12,12 @@ use Rattle.driver.proofs.running.run_module.Goals as goal
 pub returns-clause-run : goal.returns-clause-run
 returns-clause-run g c = λ m e.
     let same : c.in_ok-program.program ≡ m = ok_is c.in_ok-program.program m (sym c.in_ok-program.ensures.loaded.0 ∙ e) in
-    subst (λ (im : Image). IfRan c.run_from_entry.result (IfTold (g.U.Units.told c.args.units.now) (g.U.Units.told c.run_from_entry.new.units) (λ io io'. io.printed ≡ [] → record { ending = ending_of c.run_from_entry.result; printed = io'.printed } ≡ mach im io.left c.args.bound))) same c.run_from_entry.ensures.run
+    subst (λ (im : Image). IfRan c.run_from_entry.result (IfTold (g.U.Units.told c.args.units.now) (g.U.Units.told c.run_from_entry.new.units) (λ io io'. record { ending = ending_of c.run_from_entry.result; printed = io'.printed } ≡ seen_after io.printed (mach im io.left c.args.bound)))) same c.run_from_entry.ensures.run
 
 pub returns-clause-left : goal.returns-clause-left
 returns-clause-left g c = λ m e.
     let same : c.in_ok-program.program ≡ m = ok_is c.in_ok-program.program m (sym c.in_ok-program.ensures.loaded.0 ∙ e) in
-    subst (λ (im : Image). IfRan c.run_from_entry.result (IfTold (g.U.Units.told c.args.units.now) (g.U.Units.told c.run_from_entry.new.units) (λ io io'. io.printed ≡ [] → io'.left ≡ left_after im io.left c.args.bound))) same c.run_from_entry.ensures.left
+    subst (λ (im : Image). IfRan c.run_from_entry.result (IfTold (g.U.Units.told c.args.units.now) (g.U.Units.told c.run_from_entry.new.units) (λ io io'. io'.left ≡ left_after im io.left c.args.bound))) same c.run_from_entry.ensures.left
 
 pub returns-clause-meant : goal.returns-clause-meant
 returns-clause-meant g c deck m =
