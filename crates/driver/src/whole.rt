@@ -2,9 +2,8 @@
 
 ghost use Rattle.std.specs.Prelude.{◌≡◌, IfErr, IfOk, OnErr};
 ghost use Rattle.loader.specs.Answers.{no_memory};
-ghost use Rattle.statement_machine.specs.Answers.{IsStop};
-ghost use Rattle.statement_machine.specs.Stopped.{IfRan, IfStopped};
-ghost use Rattle.unit_io.specs.Counts.{Same};
+ghost use Rattle.statement_machine.specs.Stopped.{stop_of_run};
+ghost use Rattle.unit_io.specs.Service.{KeepsCounts};
 ghost use Rattle.driver.specs.declared.refusal.Refusal.TheVariants.{Memory};
 ghost use Rattle.driver.specs.Compiled.{IsRefusalOf};
 ghost use Rattle.driver.specs.Whole.{IsInTime, IsMeant, IsRunOf};
@@ -42,10 +41,9 @@ pub fn run_deck<U: Units>(
     ensures in_time { IfOk result (λ status. IsInTime deck.now bound status (U.told units.old) (U.told units.new)) }
     // The run is the machine's, on an image that does what the deck's statements mean.
     ensures run { IfOk result (λ status. IsRunOf deck.now bound status (U.told units.old) (U.told units.new)) }
-    // A run that nothing stopped met no failure of a unit.
-    ensures kept { IfOk result (λ status. IfRan status (Same (U.failures units.old) (U.failures units.new))) }
-    // A run stopped by a failed unit names it, and no other unit failed; for want of memory, none failed.
-    ensures stop { IfOk result (λ status. IfStopped status (λ stop. IsStop stop (U.failures units.old) (U.failures units.new))) }
+    // A run that nothing stopped met no failure of a unit. One stopped by a failed unit names it, and no other unit
+    // failed; for want of memory, none failed.
+    ensures counts { IfOk result (λ status. KeepsCounts (stop_of_run status) (U.failures units.old) (U.failures units.new)) }
 {
     let module = compile_deck(alloc, deck)?;
     match run_module(alloc, &module, units, bound) {
