@@ -17,4 +17,4 @@ returns-in-Ok-clause-in_time g c =
     is_in_time c.args.deck.now c.args.bound c.in-Ok.status (g.U.Units.told c.args.units.now) (g.U.Units.told c.run_module.new.units) (returns-in-Ok-clause-run g c)
 
 pub returns-in-Ok-clause-counts : goal.returns-in-Ok-clause-counts
-returns-in-Ok-clause-counts g c = let m = c.in-Ok.ensures.accepted in (c.in-Ok.ensures.served m.0 m.1.0).counts
+returns-in-Ok-clause-counts g c = let m = c.in-Ok.ensures.accepted in (c.in-Ok.ensures.served m.0 m.1).counts
