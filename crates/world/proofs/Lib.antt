@@ -5,3 +5,4 @@ pub mod Powers
 pub mod Keywords
 pub mod Telling
 pub mod UnitCalls
+pub mod Objects

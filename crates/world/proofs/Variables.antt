@@ -1,12 +1,13 @@
 -- A world whose variables were changed at one name.
-use Rattle.std.proofs.Common.{◌≡◌, List, [], Bool, true, false, cond, Option, Some, None, refl, sym, ap, ◌∙◌, bytes_eq}
+use Rattle.std.proofs.Common.{◌≡◌, List, map, Bool, true, false, cond, Option, Some, None, refl, sym, ap, ◌∙◌, bytes_eq}
 use Rattle.std.specs.Prelude.{if◌then◌else◌}
 use Rattle.std.proofs.lemmas.Slice.Eq.{bytes_eq-Decides}
 use Rattle.model.specs.Trees.{Bytes}
 use Rattle.model.specs.Io.{Io}
 use Rattle.model.specs.Keywords.{Keys}
-use Rattle.model.specs.Values.{set_var}
+use Rattle.model.specs.Values.{Object, set_var}
 use Rattle.world.specs.Values.{value_of}
+use Rattle.world.specs.Objects.{object_map}
 use Rattle.world.specs.declared.value.Value.{Value}
 use Rattle.world.specs.Held.{Held, variable_at, value_in, input_in, output_in, world_of}
 use Rattle.world.specs.declared.world.Variable.{Variable}
@@ -27,11 +28,11 @@ stays {A} f old new x v h same y = ap f (h y) ∙ go (bytes_eq x y) refl
     go true q = same ∙ ap (λ z. f (variable_at z old)) ((bytes_eq-Decides x y).0 q)
     go false q = refl
 
-pub puts_var : (old new : List (Bytes × Variable)) (ks : Keys) (x : Bytes) (v : Variable) → Puts old new x v → v.input ≡ input_in (variable_at x old) → v.output ≡ output_in (variable_at x old)
-    → (io : Io) → world_of (record { variables = new; keys = ks }) io ≡ set_var x (value_of v.value) (world_of (record { variables = old; keys = ks }) io)
-puts_var old new ks x v h reads writes io = λ i. record {
+pub puts_var : (old new : List (Bytes × Variable)) (os : List (Object Value)) (ks : Keys) (x : Bytes) (v : Variable) → Puts old new x v → v.input ≡ input_in (variable_at x old) → v.output ≡ output_in (variable_at x old)
+    → (io : Io) → world_of (record { variables = new; objects = os; keys = ks }) io ≡ set_var x (value_of v.value) (world_of (record { variables = old; objects = os; keys = ks }) io)
+puts_var old new os ks x v h reads writes io = λ i. record {
   vars = λ y. (ap value_in (h y) ∙ value_by (bytes_eq x y) v (variable_at y old)) i;
-  objects = [];
+  objects = map (object_map value_of) os;
   plain = record {
     functions = λ f. None;
     keys = ks;
@@ -42,16 +43,16 @@ puts_var old new ks x v h reads writes io = λ i. record {
 }
 
 -- a variable that is there takes another value
-pub put_there : (vs new : List (Bytes × Variable)) (ks : Keys) (held : Held) (x : Bytes) (old v : Variable) (value : Value) → record { variables = vs; keys = ks } ≡ held → v ≡ record old { value = value } → variable_at x vs ≡ Some old → Puts vs new x v
-    → (io : Io) → world_of (record { variables = new; keys = ks }) io ≡ set_var x (value_of value) (world_of held io)
-put_there vs new ks held x old v value is e at h io =
-    puts_var vs new ks x v h (ap (λ z. z.input) e ∙ sym (ap input_in at)) (ap (λ z. z.output) e ∙ sym (ap output_in at)) io
-    ∙ ap (λ z. set_var x (value_of z.value) (world_of (record { variables = vs; keys = ks }) io)) e
+pub put_there : (vs new : List (Bytes × Variable)) (os : List (Object Value)) (ks : Keys) (held : Held) (x : Bytes) (old v : Variable) (value : Value) → record { variables = vs; objects = os; keys = ks } ≡ held → v ≡ record old { value = value } → variable_at x vs ≡ Some old → Puts vs new x v
+    → (io : Io) → world_of (record { variables = new; objects = os; keys = ks }) io ≡ set_var x (value_of value) (world_of held io)
+put_there vs new os ks held x old v value is e at h io =
+    puts_var vs new os ks x v h (ap (λ z. z.input) e ∙ sym (ap input_in at)) (ap (λ z. z.output) e ∙ sym (ap output_in at)) io
+    ∙ ap (λ z. set_var x (value_of z.value) (world_of (record { variables = vs; objects = os; keys = ks }) io)) e
     ∙ ap (λ z. set_var x (value_of value) (world_of z io)) is
 
 -- a variable that isn't there is put there
-pub put_new : (vs new : List (Bytes × Variable)) (ks : Keys) (held : Held) (x : Bytes) (value : Value) → record { variables = vs; keys = ks } ≡ held → variable_at x vs ≡ None → Puts vs new x (record { value = value; input = None; output = None })
-    → (io : Io) → world_of (record { variables = new; keys = ks }) io ≡ set_var x (value_of value) (world_of held io)
-put_new vs new ks held x value is at h io =
-    puts_var vs new ks x (record { value = value; input = None; output = None }) h (sym (ap input_in at)) (sym (ap output_in at)) io
+pub put_new : (vs new : List (Bytes × Variable)) (os : List (Object Value)) (ks : Keys) (held : Held) (x : Bytes) (value : Value) → record { variables = vs; objects = os; keys = ks } ≡ held → variable_at x vs ≡ None → Puts vs new x (record { value = value; input = None; output = None })
+    → (io : Io) → world_of (record { variables = new; objects = os; keys = ks }) io ≡ set_var x (value_of value) (world_of held io)
+put_new vs new os ks held x value is at h io =
+    puts_var vs new os ks x (record { value = value; input = None; output = None }) h (sym (ap input_in at)) (sym (ap output_in at)) io
     ∙ ap (λ z. set_var x (value_of value) (world_of z io)) is

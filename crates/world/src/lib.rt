@@ -11,7 +11,9 @@
 mod arithmetic;
 mod conversions;
 mod counts;
+mod elements;
 mod fault;
+mod making;
 mod operators;
 mod unit_calls;
 mod value;

@@ -3,6 +3,7 @@
 ghost use Rattle.std.specs.Prelude.{◌≡◌, ◌≢◌, ◌⊎◌, Some, None, Ok, length, option_map, IfOk, IfErr, OnOk, OnErr};
 ghost use Rattle.model.specs.Io.{Io};
 ghost use Rattle.model.specs.Told.{IfTold};
+ghost use Rattle.model.specs.Target.{Variable};
 ghost use Rattle.model.specs.Operators.{fetch_op, take_record, as_read, assign_op, splice_op, write_var, print_text};
 ghost use Rattle.model.specs.Conversions.{to_text};
 ghost use Rattle.model.specs.Machine.{MVal};
@@ -16,6 +17,7 @@ use crate::fault::Fault;
 use crate::value::Value;
 use crate::world::{Source, World, is_zero};
 use crate::world_operators::Span;
+use aggregates::{Key, Place};
 use model::{ErrorCode, KeyId, Stop, UnitFault};
 use pattern_compiler::Name;
 use std::alloc::Global;
@@ -32,9 +34,26 @@ impl World {
         ensures err { OnErr result (self.new ≡ self.old) }
         ensures end { result ≡ Ok None → self.new ≡ self.old }
     {
-        let Name::Variable(name) = name else {
-            return Err(Fault::Error(ErrorCode::WrongType));
-        };
+        match name {
+            Name::Variable(name) => self.fetch_variable(units, name),
+            Name::Element { object, index } => self.element(*object, *index),
+            Name::IntegerKey { object, key } => self.entry(*object, Key::Integer(*key)),
+            Name::StringKey { object, key } => self.entry(*object, Key::String(key.clone()?)),
+        }
+    }
+
+    // The value of a variable, or the next record of the unit that it reads from.
+    fn fetch_variable<U: Units>(
+        &mut self,
+        units: &mut U,
+        name: &Text,
+    ) -> Result<Option<Value>, Fault>
+        ensures fetched { IfTold (U.told units.old) (U.told units.new) (λ io io'.
+            AnswersOrFails (answer_map (option_map value_of) result) (world_of self.new io') (fetch_op (Variable name.now) (world_of self.old io))) }
+        ensures counts { KeepsCounts result (U.failures units.old) (U.failures units.new) }
+        ensures err { OnErr result (self.new ≡ self.old) }
+        ensures end { result ≡ Ok None → self.new ≡ self.old }
+    {
         match self.source(name)? {
             Source::Value(value) => Ok(Some(value)),
             Source::Unit(unit) => self.read(units, name, unit),
@@ -104,9 +123,33 @@ impl World {
         ensures ok { OnOk result (IsSet (name_of name.now) (value_of value) self.old self.new) }
         ensures err { OnErr result (IsSetOrKept (name_of name.now) (value_of value) self.old self.new) }
     {
-        let Name::Variable(name) = name else {
-            return Err(Fault::Error(ErrorCode::WrongType));
-        };
+        match name {
+            Name::Variable(name) => self.assign_variable(alloc, units, name, value),
+            Name::Element { object, index } => self.store(*object, Place::Element(*index), value),
+            Name::IntegerKey { object, key } => {
+                self.store(*object, Place::Key(Key::Integer(*key)), value)
+            }
+            Name::StringKey { object, key } => {
+                let key = Key::String(key.clone()?);
+                self.store(*object, Place::Key(key), value)
+            }
+        }
+    }
+
+    // Assigns a value to a variable, and writes it where the variable has a unit.
+    fn assign_variable<U: Units>(
+        &mut self,
+        alloc: Global,
+        units: &mut U,
+        name: &Text,
+        value: Value,
+    ) -> Result<(), Fault>
+        ensures assigned { IfTold (U.told units.old) (U.told units.new) (λ io io'.
+            Answers (done result) (world_of self.new io') (assign_op (Variable name.now) (value_of value) (world_of self.old io))) }
+        ensures counts { KeepsCounts result (U.failures units.old) (U.failures units.new) }
+        ensures ok { OnOk result (IsSet (Variable name.now) (value_of value) self.old self.new) }
+        ensures err { OnErr result (IsSetOrKept (Variable name.now) (value_of value) self.old self.new) }
+    {
         match self.set(name, value)? {
             Some(unit) => self.write(alloc, units, name, unit),
             None => Ok(()),

@@ -5,6 +5,7 @@ ghost use Rattle.model.specs.Values.{Str};
 ghost use Rattle.model.specs.Conversions.{is_null};
 ghost use Rattle.world.specs.Values.{value_of, has_text};
 
+use aggregates::{Element, Key};
 use pattern_compiler::{Name, PatCode};
 use std::alloc::AllocError;
 use strings::Text;
@@ -45,6 +46,31 @@ impl Clone for Value {
             Value::Object(object) => Value::Object(*object),
         })
     }
+}
+
+impl Element for Value {
+    ghost use Rattle.model.specs.Conversions.{is_null};
+    ghost use Rattle.world.specs.Values.{value_of, held_key};
+
+    ghost null_test = { λ v. is_null (value_of v) };
+
+    ghost key_value = { held_key };
+
+    fn is_null(&self) -> bool {
+        match self {
+            Value::String(text) => text.is_empty(),
+            _ => false,
+        }
+    }
+
+    fn from_key(key: &Key) -> Result<Value, AllocError> {
+        match key {
+            Key::Integer(n) => Ok(Value::Integer(*n)),
+            Key::String(text) => Ok(Value::String(text.clone()?)),
+        }
+    }
+
+    ghost clones = { λ value copy h. h };
 }
 
 impl Value {

@@ -12,6 +12,7 @@ ghost use Rattle.world.specs.Held.{world_of, fetched_from, zero_in, variable_at,
 ghost use Rattle.world.specs.declared.value.Value.TheVariants.{String};
 
 use crate::value::Value;
+use aggregates::Heap;
 use indexmap::IndexMap;
 use keywords::{KeyValue, Keywords};
 use model::KeyId;
@@ -71,6 +72,7 @@ impl Variable {
 /// What a run holds besides what stands on its units.
 pub struct World {
     variables: IndexMap<Text, Variable>,
+    pub(crate) heap: Heap<Value>,
     pub(crate) keywords: Keywords,
 }
 
@@ -78,6 +80,7 @@ impl Drop for World {
     fn drop(self) {
         let World {
             variables: _,
+            heap: _,
             keywords: _,
         } = self;
     }
@@ -88,7 +91,7 @@ impl Model for World {
 
     ghost Value = { Held };
 
-    ghost view = { λ w. record { variables = w.variables.entries; keys = w.keywords } };
+    ghost view = { λ w. record { variables = w.variables.entries; objects = w.heap; keys = w.keywords } };
 }
 
 impl World {
@@ -101,6 +104,7 @@ impl World {
         };
         let mut world = World {
             variables: IndexMap::new(alloc),
+            heap: Heap::new(alloc),
             keywords,
         };
         world.put_patterns(alloc)?;

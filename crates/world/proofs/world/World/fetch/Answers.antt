@@ -1,8 +1,15 @@
-use Rattle.world.proofs.UnitCalls.{fetched_value, fetched_unit}
+use Rattle.std.proofs.Common.{rules, ap, sym, ◌∙◌}
+use Rattle.pattern_compiler.specs.declared.instr.Name.TheVariants as name
+use Rattle.world.proofs.UnitCalls.{fetched_there, fetched_key}
 use Rattle.world.proofs.world.World.fetch.Goals as goal
 
-pub returns-in-Value-clause-fetched : goal.returns-in-Value-clause-fetched
-returns-in-Value-clause-fetched g c = fetched_value c.args.name.now _ c.args.self.now c.in_ok-value.field-0 c.in-Value.value _ c.in-Variable.is c.in-Value.is c.in_ok-value.ensures
+pub returns-in-Element-clause-fetched : goal.returns-in-Element-clause-fetched
+returns-in-Element-clause-fetched g c = fetched_there c.args.name.now _ c.args.self.now _ _ c.in-Element.is c.element.ensures.value
 
-pub returns-in-Unit-clause-fetched : goal.returns-in-Unit-clause-fetched
-returns-in-Unit-clause-fetched g c = fetched_unit c.args.name.now _ _ c.args.self.now c.read.new.self c.in_ok-value.field-0 _ _ _ c.in-Variable.is c.in-Unit.is c.in_ok-value.ensures c.read.ensures.fetched
+pub returns-in-IntegerKey-clause-fetched : goal.returns-in-IntegerKey-clause-fetched
+returns-in-IntegerKey-clause-fetched g c = fetched_key c.args.name.now c.in-IntegerKey.object c.in-IntegerKey.key _ c.args.self.now _ _ c.in-IntegerKey.is (search rules) c.entry.ensures.value
+
+pub returns-in_ok-clone-in-StringKey-clause-fetched : goal.returns-in_ok-clone-in-StringKey-clause-fetched
+returns-in_ok-clone-in-StringKey-clause-fetched g c =
+    fetched_there c.args.name.now (name.StringKey c.in-StringKey.object c.in_ok-clone-in-StringKey.field-0) c.args.self.now _ _
+    (c.in-StringKey.is ∙ ap (name.StringKey c.in-StringKey.object) (sym c.in_ok-clone-in-StringKey.ensures.cases)) c.entry-in-StringKey.ensures.value

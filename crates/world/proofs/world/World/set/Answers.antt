@@ -6,4 +6,4 @@ pub returns-in-Some-clause-set : goal.returns-in-Some-clause-set
 returns-in-Some-clause-set c io =
     let at = sym c.in-Some.ensures.value in
     let written = c.get_mut.follows.holds c.set.new.self in
-    put_there c.self.inside.variables.entries _ c.self.inside.keywords c.args.self.now c.args.name.now c.in-Some.variable.now c.set.new.self c.args.value c.self.view_is c.set.ensures at ((written.3 (ap is_some at)).0) io
+    put_there c.self.inside.variables.entries _ c.self.inside.heap c.self.inside.keywords c.args.self.now c.args.name.now c.in-Some.variable.now c.set.new.self c.args.value c.self.view_is c.set.ensures at ((written.3 (ap is_some at)).0) io

@@ -1,7 +1,8 @@
 use Rattle.std.proofs.Common.{inl, refl}
+use Rattle.model.specs.Operators.{assign_op, splice_op}
 use Rattle.pattern_compiler.specs.View.{name_of}
 use Rattle.world.specs.Values.{value_of}
-use Rattle.world.proofs.UnitCalls.{no_more}
+use Rattle.world.proofs.UnitCalls.{no_more, not_replaced, replaced_by}
 use Rattle.world.proofs.world.World.splice.Goals as goal
 
 pub returns-in_err-whole-clause-only : goal.returns-in_err-whole-clause-only
@@ -10,3 +11,15 @@ returns-in_err-whole-clause-only g c = inl refl
 pub returns-clause-only : goal.returns-clause-only
 returns-clause-only g c =
     no_more c.assign.result (name_of c.args.name.now) (value_of c.in_ok-whole.whole) c.args.self.now c.assign.new.self c.assign.ensures.ok c.assign.ensures.err
+
+pub returns-in_err-whole-clause-assigned : goal.returns-in_err-whole-clause-assigned
+returns-in_err-whole-clause-assigned g c =
+    not_replaced c.in_err-whole.field-0.0 c.from_residual.result c.args.self.now (assign_op (name_of c.args.name.now))
+    (splice_op (name_of c.args.name.now) c.args.span.now.subject c.args.span.now.start c.args.span.now.end (value_of c.args.value.now)) _ c.from_residual.ensures.1
+    (λ io. c.in_err-whole.ensures.value io (name_of c.args.name.now))
+
+pub returns-clause-assigned : goal.returns-clause-assigned
+returns-clause-assigned g c =
+    replaced_by c.args.self.now c.assign.new.self (assign_op (name_of c.args.name.now) (value_of c.in_ok-whole.whole))
+    (splice_op (name_of c.args.name.now) c.args.span.now.subject c.args.span.now.start c.args.span.now.end (value_of c.args.value.now)) _ _ _
+    (λ io. c.in_ok-whole.ensures.value io (name_of c.args.name.now)) c.assign.ensures.assigned
