@@ -1,5 +1,5 @@
 -- Objects whose values are seen as others.
-use Rattle.std.proofs.Common.{◌≡◌, ℕ, zero, suc, List, [], ◌∷◌, ◌++◌, length, map, Option, Some, None, Bool, true, false, refl, sym, ap, ◌∙◌}
+use Rattle.std.proofs.Common.{◌≡◌, ℕ, zero, suc, List, [], ◌∷◌, ◌++◌, length, map, Option, Some, None, Bool, true, false, codes, refl, sym, ap, ◌∙◌}
 use Rattle.std.specs.Prelude.{slice_get, option_map, option_copied, unwrap_or, if◌then◌else◌}
 use Rattle.std.specs.Borrow.{Bor}
 use Rattle.std.proofs.lemmas.Option.{slice_get-map}
@@ -13,13 +13,13 @@ use Rattle.model.specs.Values.{Str, Obj, Key, Entry, Object, ArrayOf, TableOf, R
 use Rattle.model.specs.Conversions.{Op, Gives, Faults}
 use Rattle.model.specs.Operators.{same_key, element_of, value_for, entry_of, onto, with_item, with_entry, with_elements, there, fetch_op, put_objects, put_object}
 use Rattle.aggregates.specs.Keys.{key_of, value_at}
-use Rattle.aggregates.specs.Objects.{if_stored, value_in, stored_at, put_at}
+use Rattle.aggregates.specs.Objects.{if_stored, value_in, stored_at, put_at, record_type}
 use Rattle.aggregates.specs.Made.{kind_of, copied, number, with_object}
 use Rattle.aggregates.specs.declared.object.Kind.{Kind}
 use Rattle.aggregates.specs.declared.object.Kind.TheVariants as kind
 use Rattle.aggregates.specs.declared.place.Place.{Place}
 use Rattle.aggregates.specs.declared.place.Place.TheVariants as place
-use Rattle.model.specs.Aggregates.{new_object, copy_of, copy_op}
+use Rattle.model.specs.Aggregates.{new_object, copy_of, copy_op, object_type, type_of}
 use Rattle.model.specs.Machine.{MVal, MW}
 use Rattle.world.specs.Values.{value_of}
 use Rattle.world.specs.Objects.{entry_map, object_map}
@@ -189,3 +189,26 @@ module _ (vs : List (Bytes × Variable)) (os new : List (Object Value)) (ks : Ke
       by : (r : Option (Object Value)) → number r os ≡ None → new ≡ with_object r os → copy_by (option_map (object_map value_of) r) (world_of h io) ≡ Faults error.WrongType (world_of (record { variables = vs; objects = new; keys = ks }) io)
       by None e m = ap (λ z. Faults error.WrongType (world_of z io)) (sym is) ∙ ap (λ xs. Faults error.WrongType (world_of (record { variables = vs; objects = xs; keys = ks }) io)) (sym m)
       by (Some o) e m = absurd (cc)
+
+-- ---- types
+
+-- the name of an object's type, by what the object is
+abbrev pub type_by : Option Bytes → Option Kind → Bytes
+type_by (Some t) k = t
+type_by None (Some kind.Table) = codes "TABLE"
+type_by None _ = codes "ARRAY"
+
+by_type : (o : Option (Object Value)) → object_type (option_map (object_map value_of) o) ≡ type_by (record_type o) (option_map kind_of o)
+by_type None = refl
+by_type (Some (ArrayOf bs vs)) = refl
+by_type (Some (TableOf es)) = refl
+by_type (Some (RecordOf t fs vs)) = refl
+
+pub type_is : (h : Held) (os : List (Object Value)) (io : Io) (k : ℕ) (t : Option Bytes) (kd : Option Kind) → os ≡ h.objects → t ≡ record_type (slice_get os k) → kd ≡ option_map kind_of (slice_get os k)
+    → type_by t kd ≡ type_of (world_of h io) (Obj k)
+type_is h os io k t kd same named by =
+    ap (λ z. type_by z kd) named
+    ∙ ap (type_by (record_type (slice_get os k))) by
+    ∙ sym (by_type (slice_get os k))
+    ∙ ap (λ z. object_type (option_map (object_map value_of) (slice_get z k))) same
+    ∙ ap object_type (sym (slice_get-map (object_map value_of) h.objects k))
