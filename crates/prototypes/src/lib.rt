@@ -1,9 +1,9 @@
-//! Prototypes: the texts by which DEFINE and DATA are told what to make.
+//! Prototypes: the texts by which DEFINE, DATA and ARRAY are told what to make.
 //!
-//! `function_prototype(alloc, text)` reads `NAME(ARGUMENT,..)LOCAL,..`. `Names` is a list of names that clones share.
+//! `function_prototype(alloc, text)` reads `NAME(ARGUMENT,..)LOCAL,..`, `dimensions` what ARRAY takes, as `0:9,20`. `Names` is a list of names that clones share.
 //!
-//! Promised: it is the definition `function_prototype` of `model`'s `Prototypes`, for every text; only a refused growth
-//! of memory gives another answer.
+//! Promised: each is its definition in `model`'s `Prototypes`, for every text; only a refused growth of memory gives
+//! another answer.
 #![tactic(auto)]
 
 mod array;
