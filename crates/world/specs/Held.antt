@@ -1,6 +1,6 @@
 -- The world as it is held, and as the definitions see it.
-use Rattle.std.specs.Prelude.{◌≡◌, ◌⊎◌, ℕ, List, [], ◌∷◌, ◌++◌, map, Option, Some, None, bytes_eq, codes, Bool, false}
-use Rattle.std.specs.Map.{lookup}
+use Rattle.std.specs.Prelude.{◌≡◌, ◌⊎◌, ℕ, List, [], ◌∷◌, ◌++◌, map, Option, Some, None, bytes_eq, codes, slice_get, Bool, false}
+use Rattle.std.specs.Map.{lookup, keys_of}
 use Rattle.model.specs.Trees.{Bytes}
 use Rattle.model.specs.Io.{Io}
 use Rattle.model.specs.Keywords.{Keys, KeyValue, IsInteger, IsText, is_zero}
@@ -29,6 +29,10 @@ pub record Held : Type 0 where
 
 abbrev pub variable_at : Bytes → List (Bytes × Variable) → Option Variable
 variable_at x vs = lookup (bytes_eq x) vs
+
+-- the name of the variable in a slot
+abbrev pub name_at : ℕ → List (Bytes × Variable) → Option Bytes
+name_at slot vs = slice_get (keys_of vs) slot
 
 -- what isn't there has the null string, and no unit
 abbrev pub value_in : Option Variable → MVal
