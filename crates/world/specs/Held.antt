@@ -5,7 +5,7 @@ use Rattle.model.specs.Trees.{Bytes}
 use Rattle.model.specs.Io.{Io}
 use Rattle.model.specs.Keywords.{Keys, KeyValue, IsInteger, IsText, is_zero}
 use Rattle.model.specs.Conversions.{Op, Gives}
-use Rattle.model.specs.Operators.{take_record, as_read, limited, assign_op}
+use Rattle.model.specs.Operators.{as_read, limited, assign_op}
 use Rattle.model.specs.Values.{Object, Str, set_var}
 use Rattle.indexmap.specs.IndexMap.{insert_entry}
 use Rattle.model.specs.Pattern as p
@@ -17,8 +17,6 @@ use Rattle.world.specs.Objects.{object_map}
 use Rattle.world.specs.declared.value.Value.{Value}
 use Rattle.world.specs.declared.value.Value.TheVariants as v
 use Rattle.world.specs.declared.world.Variable.{Variable}
-use Rattle.world.specs.declared.world.Source.{Source}
-use Rattle.world.specs.declared.world.Source.TheVariants as source
 
 pub record Held : Type 0 where
   -- in the order of first assignment
@@ -62,11 +60,6 @@ world_of h io = record {
 }
 
 -- ---- fetching and assigning
-
--- what fetching comes to from here
-abbrev pub fetched_from : Source → Bytes → MW → Op MW MVal
-fetched_from (source.Value v) x w = Gives (value_of v) w
-fetched_from (source.Unit u) x w = take_record x u (w.io.left u) w
 
 -- a variable takes a record as its value
 abbrev pub taken : (name bytes : Bytes) → MW → Op MW MVal

@@ -15,7 +15,7 @@ ghost use Rattle.world.specs.Answers.{answer_map, Answers, AnswersOrFails, done,
 
 use crate::fault::Fault;
 use crate::value::Value;
-use crate::world::{NO_SLOT, Source, World, is_zero};
+use crate::world::{NO_SLOT, World, is_zero};
 use crate::world_operators::Span;
 use aggregates::{Key, Place};
 use model::{ErrorCode, KeyId, Stop, UnitFault};
@@ -71,10 +71,14 @@ impl World {
         ensures err { OnErr result (self.new ≡ self.old) }
         ensures end { result ≡ Ok None → self.new ≡ self.old }
     {
-        match self.source(name, slot)? {
-            Source::Value(value) => Ok(Some(value)),
-            Source::Unit(unit) => self.read(units, name, slot, unit),
-        }
+        let unit = match self.variable(name, slot) {
+            None => return Ok(Some(Value::null())),
+            Some(variable) => match self.reads(variable) {
+                None => return Ok(Some(variable.value.clone()?)),
+                Some(unit) => unit,
+            },
+        };
+        self.read(units, name, slot, unit)
     }
 
     // A unit's next record, which a variable takes as its value.
@@ -247,8 +251,10 @@ impl World {
         if is_zero(&self.keywords, KeyId::Output) {
             return Ok(());
         }
-        let value = self.value(name, slot)?;
-        print(alloc, units, unit, &value)
+        match self.variable(name, slot) {
+            Some(variable) => print(alloc, units, unit, &variable.value),
+            None => print(alloc, units, unit, &Value::null()),
+        }
     }
 }
 

@@ -1,14 +1,13 @@
 //! The world of a run.
 
-ghost use Rattle.std.specs.Prelude.{◌≡◌, [], pos, Some, None, is_some, option_copied, slice_get, IfOk, IfSome, OnOk, OnErr};
+ghost use Rattle.std.specs.Prelude.{◌≡◌, [], pos, Some, None, is_some, option_copied, slice_get, IfOk, IfSome, OnOk, OnErr, if◌then◌else◌};
 ghost use Rattle.model.specs.Io.{Io};
 ghost use Rattle.model.specs.Values.{set_var};
-ghost use Rattle.model.specs.Operators.{fetch_var};
 ghost use Rattle.model.specs.Keywords.{key_value};
 ghost use Rattle.model.specs.Agreement.{first_m};
 ghost use Rattle.model.specs.PrintedBefore.{after_w};
 ghost use Rattle.world.specs.Values.{value_of};
-ghost use Rattle.world.specs.Held.{world_of, name_at, fetched_from, zero_in, variable_at, value_in, output_in, with_variable, pattern_variable, first_patterns, first_variables};
+ghost use Rattle.world.specs.Held.{world_of, name_at, zero_in, variable_at, output_in, with_variable, pattern_variable, first_patterns, first_variables};
 ghost use Rattle.world.specs.declared.value.Value.TheVariants.{String};
 ghost use Rattle.world.specs.declared.world.Variable.{Variable};
 
@@ -27,20 +26,12 @@ pub(crate) const NO_SLOT: u32 = u32::MAX;
 
 /// A variable that was assigned to, or that a unit is associated with.
 #[derive(Drop)]
-struct Variable {
-    value: Value,
+pub(crate) struct Variable {
+    pub(crate) value: Value,
     /// The unit that it reads from.
     input: Option<u8>,
     /// The unit that it writes to.
     output: Option<u8>,
-}
-
-/// Where the value of a variable comes from.
-#[derive(Drop)]
-pub(crate) enum Source {
-    Value(Value),
-    /// The next record of a unit.
-    Unit(u8),
 }
 
 impl Variable {
@@ -198,9 +189,9 @@ impl World {
         self.variables.get_index_of(name)
     }
 
-    // A variable, which stands in its slot or else where the look-up finds it.
+    /// A variable, which stands in its slot or else where the look-up finds it.
     #[inline]
-    fn variable(&self, name: &Text, slot: u32) -> Option<&Variable>
+    pub(crate) fn variable(&self, name: &Text, slot: u32) -> Option<&Variable>
         ensures { option_copied result ≡ variable_at name.now self.now.variables }
     {
         if let Some((key, variable)) = self.variables.get_index(slot as usize) {
@@ -211,29 +202,16 @@ impl World {
         self.variables.get(name)
     }
 
-    /// Where the value of a variable comes from.
-    pub(crate) fn source(&self, name: &Text, slot: u32) -> Result<Source, AllocError>
-        ensures { IfOk result (λ source. (io : Io) →
-            fetch_var name.now ((world_of self.now io).plain.reads name.now) (world_of self.now io) ≡ fetched_from source name.now (world_of self.now io)) }
+    /// The unit that a variable reads from, unless `&INPUT` is 0.
+    #[inline]
+    pub(crate) fn reads(&self, variable: &Variable) -> Option<u8>
+        ensures { result ≡ (if zero_in (key_value KeyId.Input self.now.keys) then None else variable.now.input) }
     {
-        let Some(variable) = self.variable(name, slot) else {
-            return Ok(Source::Value(Value::null()));
-        };
-        if let Some(unit) = variable.input {
-            if !is_zero(&self.keywords, KeyId::Input) {
-                return Ok(Source::Unit(unit));
-            }
-        }
-        Ok(Source::Value(variable.value.clone()?))
-    }
-
-    /// A variable's value, which is null at first.
-    pub(crate) fn value(&self, name: &Text, slot: u32) -> Result<Value, AllocError>
-        ensures { IfOk result (λ value. value_of value ≡ value_in (variable_at name.now self.now.variables)) }
-    {
-        match self.variable(name, slot) {
-            Some(variable) => variable.value.clone(),
-            None => Ok(Value::null()),
+        let unit = variable.input?;
+        if is_zero(&self.keywords, KeyId::Input) {
+            None
+        } else {
+            Some(unit)
         }
     }
 
