@@ -20,12 +20,11 @@ use Rattle.pattern_compiler.specs.declared.instr.Name.{Name}
 use Rattle.pattern_compiler.specs.declared.instr.Name.TheVariants as name
 use Rattle.world.specs.Values.{value_of}
 use Rattle.world.specs.Answers.{Answers, AnswersOrFails, LeadsTo, done}
-use Rattle.world.specs.Held.{Held, IsSet, IsSetOrKept, world_of, variable_at, value_in, output_in, taken, fetched_from}
+use Rattle.world.specs.Held.{Held, IsSet, IsSetOrKept, world_of, variable_at, value_in, input_in, output_in, taken}
 use Rattle.world.specs.declared.fault.Fault.{Fault}
 use Rattle.world.specs.declared.fault.Fault.TheVariants as fault
 use Rattle.world.specs.declared.value.Value.{Value}
-use Rattle.world.specs.declared.world.Source.{Source}
-use Rattle.world.specs.declared.world.Source.TheVariants as source
+use Rattle.world.specs.declared.world.Variable as var
 use Rattle.world.proofs.Telling.{told_same, told_on, told_read, end_stays}
 
 -- ---- a record as a value
@@ -92,21 +91,46 @@ read_ends x u got h o n is reads =
 
 -- ---- fetching
 
-abbrev pub Sources : Source → Bytes → Held → Type 0
-Sources s x h = (io : Io) → fetch_var x ((world_of h io).plain.reads x) (world_of h io) ≡ fetched_from s x (world_of h io)
+value_unread : (b : Bool) (x : Bytes) (i : Option ℕ) (w : MW) → is_zero (keys_of w).input ≡ b → (if b then None else i) ≡ None → fetch_var x i w ≡ Gives (w.vars x) w
+value_unread b x None w on e = refl
+value_unread true x (Some u) w on e = ap (λ c. if c then Gives (w.vars x) w else take_record x u (w.io.left u) w) on
+value_unread false x (Some u) w on e = absurd (cc)
 
-pub fetched_value : (x : Bytes) (h : Held) (s : Source) (v : Value) (o : Option Io) → s ≡ source.Value v → Sources s x h
+record_read : (b : Bool) (x : Bytes) (i : Option ℕ) (u : ℕ) (w : MW) → is_zero (keys_of w).input ≡ b → (if b then None else i) ≡ Some u → fetch_var x i w ≡ take_record x u (w.io.left u) w
+record_read true x i u w on e = absurd (cc)
+record_read false x None u w on e = absurd (cc)
+record_read false x (Some k) u w on e =
+    let same : k ≡ u = cc in
+    ap (λ c. if c then Gives (w.vars x) w else take_record x k (w.io.left k) w) on ∙ ap (λ n. take_record x n (w.io.left n) w) same
+
+-- no variable
+pub fetched_null : (x : Bytes) (h : Held) (v : Value) (o : Option Io) → variable_at x h.variables ≡ None → value_of v ≡ Str []
     → IfTold o o (λ io io'. fetch_op (Variable x) (world_of h io) ≡ Gives (value_of v) (world_of h io'))
-fetched_value x h s v o from f =
-    told_same o _ (λ io. f io ∙ ap (λ z. fetched_from z x (world_of h io)) from)
+fetched_null x h v o none null =
+    told_same o _
+    (λ io. ap (λ z. fetch_var x (input_in z) (world_of h io)) none
+    ∙ ap (λ z. Gives (value_in z) (world_of h io)) none
+    ∙ ap (λ z. Gives z (world_of h io)) (sym null))
 
-pub fetched_unit : (x : Bytes) (u : ℕ) (h new : Held) (s : Source) (r : Result (Option MVal) Fault) (o m : Option Io) → s ≡ source.Unit u → Sources s x h
+-- a variable's own value
+pub fetched_value : (x : Bytes) (h : Held) (variable : var.Variable) (v : Value) (i : Option ℕ) (o : Option Io) → variable_at x h.variables ≡ Some variable → i ≡ (if is_zero h.keys.input then None else variable.input) → i ≡ None → v ≡ variable.value
+    → IfTold o o (λ io io'. fetch_op (Variable x) (world_of h io) ≡ Gives (value_of v) (world_of h io'))
+fetched_value x h variable v i o at reads none same =
+    told_same o _
+    (λ io. ap (λ z. fetch_var x (input_in z) (world_of h io)) at
+    ∙ value_unread (is_zero h.keys.input) x variable.input (world_of h io) refl (sym reads ∙ none)
+    ∙ ap (λ z. Gives (value_in z) (world_of h io)) at
+    ∙ ap (λ z. Gives (value_of z) (world_of h io)) (sym same))
+
+-- a record of the unit that a variable reads from
+pub fetched_unit : (x : Bytes) (u : ℕ) (h new : Held) (variable : var.Variable) (i : Option ℕ) (r : Result (Option MVal) Fault) (o m : Option Io) → variable_at x h.variables ≡ Some variable → i ≡ (if is_zero h.keys.input then None else variable.input) → i ≡ Some u
     → IfTold o m (λ io io'. AnswersOrFails r (world_of new io') (take_record x u (io.left u) (world_of h io)))
     → IfTold o m (λ io io'. AnswersOrFails r (world_of new io') (fetch_op (Variable x) (world_of h io)))
-fetched_unit x u h new s r o m from f reads =
+fetched_unit x u h new variable i r o m at reads unit records =
     told_on o m _ _
-    (λ io io' a. subst (λ p. AnswersOrFails r (world_of new io') p) (sym (f io ∙ ap (λ z. fetched_from z x (world_of h io)) from)) a)
-    reads
+    (λ io io' a. subst (λ p. AnswersOrFails r (world_of new io') p)
+    (sym (ap (λ z. fetch_var x (input_in z) (world_of h io)) at ∙ record_read (is_zero h.keys.input) x variable.input u (world_of h io) refl (sym reads ∙ unit))) a)
+    records
 
 -- ---- assigning
 

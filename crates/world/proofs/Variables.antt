@@ -1,17 +1,24 @@
 -- A world whose variables were changed at one name.
-use Rattle.std.proofs.Common.{◌≡◌, ℕ, List, [], map, Bool, true, false, cond, Option, Some, None, Result, Ok, Err, refl, sym, ap, ◌∙◌, bytes_eq}
-use Rattle.std.specs.Prelude.{OnOk, if◌then◌else◌}
+use Rattle.std.proofs.Common.{◌≡◌, ℕ, List, [], ◌∷◌, ◌++◌, length, map, Bool, true, false, cond, Option, Some, None, option_map, position, Result, Ok, Err, refl, sym, ap, ◌∙◌, is_some, bytes_eq, slice_get, get_or}
+use Rattle.std.specs.Prelude.{IfSome, OnOk, if◌then◌else◌}
 use Rattle.std.proofs.lemmas.Slice.Eq.{bytes_eq-Decides}
+use Rattle.std.proofs.lemmas.List.Quantifiers.{position-Some}
+use Rattle.std.proofs.lemmas.Option.{slice_get-map, slice_get-get_or}
+use Rattle.std.specs.Map.{keys_of, values_of}
+use Rattle.std.specs.Cmp.Lexicographic.{nat_list_eq_equiv}
+use Rattle.indexmap.specs.IndexMap.{IndexMap, IsUnique, insert_entry, with_value_at}
+use Rattle.indexmap.proofs.CallerLemmas.{updates-with_value_at}
+use Rattle.indexmap.proofs.MapLemmas.{absent_from_lookup, insert_entry-absent}
 use Rattle.model.specs.Trees.{Bytes}
 use Rattle.model.specs.Io.{Io}
 use Rattle.model.specs.Keywords.{Keys}
-use Rattle.model.specs.Values.{Object, set_var, set_plain}
+use Rattle.model.specs.Values.{Object, Str, set_var, set_plain}
 use Rattle.model.specs.Primitives.{set_reads, set_writes}
 use Rattle.world.specs.Values.{value_of}
 use Rattle.world.specs.Objects.{object_map}
 use Rattle.world.specs.declared.value.Value.{Value}
 use Rattle.world.specs.declared.value.Value.TheVariants.{String}
-use Rattle.world.specs.Held.{Held, variable_at, value_in, input_in, output_in, world_of}
+use Rattle.world.specs.Held.{Held, variable_at, name_at, value_in, input_in, output_in, world_of}
 use Rattle.world.specs.declared.world.Variable.{Variable}
 
 -- the variable of one name is this, and all others stay
@@ -125,3 +132,75 @@ pub writes_set : {A E : Type 0} (h new : Held) (x : Bytes) (u : ℕ) (input : Op
     → OnOk r ((io : Io) → world_of new io ≡ set_writes x (Some u) (set_reads x input (world_of h io))) → OnOk r ((io : Io) → world_of new io ≡ set_writes x (Some u) (world_of h io))
 writes_set h new x u input (Ok a) is f = λ io. f io ∙ ap (λ z. set_writes x (Some u) (set_reads x z (world_of h io))) is ∙ input_stays h x (Some u) io
 writes_set h new x u input (Err e) is f = tt
+
+-- a variable that isn't there is put there with a null value
+pub put_unseen : (vs new : List (Bytes × Variable)) (os : List (Object Value)) (ks : Keys) (held : Held) (x : Bytes) (value : Value) → record { variables = vs; objects = os; keys = ks } ≡ held → variable_at x vs ≡ None → value_of value ≡ Str [] → Puts vs new x (record { value = value; input = None; output = None })
+    → (io : Io) → world_of (record { variables = new; objects = os; keys = ks }) io ≡ world_of held io
+put_unseen vs new os ks held x value is at null h io =
+    let v : Variable = record { value = value; input = None; output = None } in
+    let same : world_of (record { variables = new; objects = os; keys = ks }) io ≡ world_of (record { variables = vs; objects = os; keys = ks }) io = λ i. record {
+      vars = λ y. stays value_in vs new x v h (null ∙ ap value_in (sym at)) y i;
+      objects = map (object_map value_of) os;
+      plain = record {
+        functions = λ f. None;
+        keys = ks;
+        reads = λ y. stays input_in vs new x v h (ap input_in (sym at)) y i;
+        writes = λ y. stays output_in vs new x v h (ap output_in (sym at)) y i;
+      };
+      io = io;
+    } in
+    same ∙ ap (λ z. world_of z io) is
+
+-- ---- slots
+
+last_name : (vs : List (Bytes × Variable)) (x : Bytes) (v : Variable) → name_at (length vs) (vs ++ (x, v) ∷ []) ≡ Some x
+last_name [] x v = refl
+last_name (e ∷ vs) x v = last_name vs x v
+
+none_there : (o : Option Variable) → is_some o ≡ false → o ≡ None
+none_there None e = refl
+none_there (Some v) e = absurd (cc)
+
+-- a variable that isn't there is put in the next slot
+pub put_last : (vs held new : List (Bytes × Variable)) (x key : Bytes) (v : Variable) (n : ℕ) → vs ≡ held → is_some (variable_at x held) ≡ false → key ≡ x → new ≡ insert_entry bytes_eq vs key v → n ≡ length vs → name_at n new ≡ Some x
+put_last vs held new x key v n same absent is put at =
+    let none : variable_at key vs ≡ None = ap (λ k. variable_at k vs) is ∙ ap (variable_at x) same ∙ none_there (variable_at x held) absent in
+    ap (name_at n) (put ∙ insert_entry-absent bytes_eq key v vs (absent_from_lookup (bytes_eq key) vs none))
+    ∙ ap (λ k. name_at k (vs ++ (key, v) ∷ [])) at
+    ∙ last_name vs key v
+    ∙ ap Some is
+
+-- a variable of this name stands in this slot
+abbrev pub Stands : Bytes → ℕ → List (Bytes × Variable) → Type 0
+Stands x k vs = (v : Variable) × (slice_get vs k ≡ Some (x, v)) × (variable_at x vs ≡ Some v)
+
+pair_at : (o : Option (Bytes × Variable)) (x : Bytes) (w : Option Variable) → option_map (λ e. e.0) o ≡ Some x → option_map (λ e. e.1) o ≡ w → (v : Variable) × (o ≡ Some (x, v)) × (w ≡ Some v)
+pair_at None x w name there = absurd (cc)
+pair_at (Some e) x w name there = let same : e.0 ≡ x = cc in (e.1, ap (λ z. Some (z, e.1)) same, sym there)
+
+-- the variable in a slot, where its name is the one that is looked for
+pub stands_there : (vs : List (Bytes × Variable)) (k : ℕ) (x y : Bytes) (v : Variable) → Some (y, v) ≡ slice_get vs k → variable_at y vs ≡ Some v → bytes_eq y x ≡ true → Stands x k vs
+stands_there vs k x y v at found e =
+    let same : y ≡ x = (bytes_eq-Decides y x).0 e in
+    (v, sym at ∙ ap (λ z. Some (z, v)) same, ap (λ z. variable_at z vs) (sym same) ∙ found)
+
+-- the variable that a look-up finds
+pub stands_found : (vs : List (Bytes × Variable)) (x : Bytes) (r : Option ℕ) → r ≡ position (bytes_eq x) (keys_of vs) → IfSome r (λ k. slice_get (values_of vs) k ≡ variable_at x vs) → IfSome r (λ k. Stands x k vs)
+stands_found vs x None place at = tt
+stands_found vs x (Some k) place at =
+    let found = position-Some (bytes_eq x) (keys_of vs) k [] (sym place) in
+    let same : x ≡ get_or (keys_of vs) k [] = (bytes_eq-Decides x (get_or (keys_of vs) k [])).0 found.1 in
+    pair_at (slice_get vs k) x (variable_at x vs)
+    (sym (slice_get-map (λ e. e.0) vs k) ∙ slice_get-get_or (keys_of vs) k [] found.0 ∙ ap Some (sym same))
+    (sym (slice_get-map (λ e. e.1) vs k) ∙ at)
+
+-- the variable that stands in a slot is the one of that name
+pub held_there : (vs : List (Bytes × Variable)) (x : Bytes) (k : ℕ) (v : Variable) → Stands x k vs → Some v ≡ slice_get (values_of vs) k → variable_at x vs ≡ Some v
+held_there vs x k v (w, is, found) there = found ∙ sym (slice_get-map (λ e. e.1) vs k ∙ ap (λ o. option_map (λ e. e.1) o) is) ∙ sym there
+
+-- the variable in a slot takes another value
+pub put_in_slot : {S : Type 0} (m : IndexMap Bytes Variable S) (os : List (Object Value)) (ks : Keys) (held : Held) (x : Bytes) (k : ℕ) (old v : Variable) (value : Value) → record { variables = m.entries; objects = os; keys = ks } ≡ held → IsUnique bytes_eq m → Stands x k m.entries → Some old ≡ slice_get (values_of m.entries) k → v ≡ record old { value = value }
+    → (io : Io) → world_of (record { variables = (with_value_at m k v).entries; objects = os; keys = ks }) io ≡ set_var x (value_of value) (world_of held io)
+put_in_slot m os ks held x k old v value is unique stands there e io =
+    put_there m.entries (with_value_at m k v).entries os ks held x old v value is e (held_there m.entries x k old stands there)
+    ((updates-with_value_at m k v nat_list_eq_equiv unique x stands.0 stands.1).0) io

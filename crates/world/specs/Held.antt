@@ -1,11 +1,11 @@
 -- The world as it is held, and as the definitions see it.
-use Rattle.std.specs.Prelude.{◌≡◌, ◌⊎◌, ℕ, List, [], ◌∷◌, ◌++◌, map, Option, Some, None, bytes_eq, codes, Bool, false}
-use Rattle.std.specs.Map.{lookup}
+use Rattle.std.specs.Prelude.{◌≡◌, ◌⊎◌, ℕ, List, [], ◌∷◌, ◌++◌, map, Option, Some, None, bytes_eq, codes, slice_get, Bool, false}
+use Rattle.std.specs.Map.{lookup, keys_of}
 use Rattle.model.specs.Trees.{Bytes}
 use Rattle.model.specs.Io.{Io}
 use Rattle.model.specs.Keywords.{Keys, KeyValue, IsInteger, IsText, is_zero}
 use Rattle.model.specs.Conversions.{Op, Gives}
-use Rattle.model.specs.Operators.{take_record, as_read, limited, assign_op}
+use Rattle.model.specs.Operators.{as_read, limited, assign_op}
 use Rattle.model.specs.Values.{Object, Str, set_var}
 use Rattle.indexmap.specs.IndexMap.{insert_entry}
 use Rattle.model.specs.Pattern as p
@@ -17,8 +17,6 @@ use Rattle.world.specs.Objects.{object_map}
 use Rattle.world.specs.declared.value.Value.{Value}
 use Rattle.world.specs.declared.value.Value.TheVariants as v
 use Rattle.world.specs.declared.world.Variable.{Variable}
-use Rattle.world.specs.declared.world.Source.{Source}
-use Rattle.world.specs.declared.world.Source.TheVariants as source
 
 pub record Held : Type 0 where
   -- in the order of first assignment
@@ -29,6 +27,10 @@ pub record Held : Type 0 where
 
 abbrev pub variable_at : Bytes → List (Bytes × Variable) → Option Variable
 variable_at x vs = lookup (bytes_eq x) vs
+
+-- the name of the variable in a slot
+abbrev pub name_at : ℕ → List (Bytes × Variable) → Option Bytes
+name_at slot vs = slice_get (keys_of vs) slot
 
 -- what isn't there has the null string, and no unit
 abbrev pub value_in : Option Variable → MVal
@@ -58,11 +60,6 @@ world_of h io = record {
 }
 
 -- ---- fetching and assigning
-
--- what fetching comes to from here
-abbrev pub fetched_from : Source → Bytes → MW → Op MW MVal
-fetched_from (source.Value v) x w = Gives (value_of v) w
-fetched_from (source.Unit u) x w = take_record x u (w.io.left u) w
 
 -- a variable takes a record as its value
 abbrev pub taken : (name bytes : Bytes) → MW → Op MW MVal

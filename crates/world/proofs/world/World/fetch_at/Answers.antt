@@ -1,7 +1,7 @@
 use Rattle.std.proofs.Common.{rules, ap, sym, ◌∙◌}
 use Rattle.pattern_compiler.specs.declared.instr.Name.TheVariants as name
 use Rattle.world.proofs.UnitCalls.{fetched_there, fetched_key}
-use Rattle.world.proofs.world.World.fetch.Goals as goal
+use Rattle.world.proofs.world.World.fetch_at.Goals as goal
 
 pub returns-in-Element-clause-fetched : goal.returns-in-Element-clause-fetched
 returns-in-Element-clause-fetched g c = fetched_there c.args.name.now _ c.args.self.now _ _ c.in-Element.is c.element.ensures.value

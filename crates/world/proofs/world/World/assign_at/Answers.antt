@@ -1,7 +1,7 @@
 use Rattle.std.proofs.Common.{rules, ap, sym, ◌∙◌}
 use Rattle.pattern_compiler.specs.declared.instr.Name.TheVariants as name
 use Rattle.world.proofs.UnitCalls.{assigned_there, assigned_key, set_there, set_key}
-use Rattle.world.proofs.world.World.assign.Goals as goal
+use Rattle.world.proofs.world.World.assign_at.Goals as goal
 
 pub returns-in-Element-clause-assigned : goal.returns-in-Element-clause-assigned
 returns-in-Element-clause-assigned g c = assigned_there c.args.name.now _ _ c.args.self.now c.store.new.self _ _ c.in-Element.is c.store.ensures.stored

@@ -3,14 +3,14 @@ use Rattle.model.specs.Operators.{assign_op, splice_op}
 use Rattle.pattern_compiler.specs.View.{name_of}
 use Rattle.world.specs.Values.{value_of}
 use Rattle.world.proofs.UnitCalls.{no_more, not_replaced, replaced_by}
-use Rattle.world.proofs.world.World.splice.Goals as goal
+use Rattle.world.proofs.world.World.splice_at.Goals as goal
 
 pub returns-in_err-whole-clause-only : goal.returns-in_err-whole-clause-only
 returns-in_err-whole-clause-only g c = inl refl
 
 pub returns-clause-only : goal.returns-clause-only
 returns-clause-only g c =
-    no_more c.assign.result (name_of c.args.name.now) (value_of c.in_ok-whole.whole) c.args.self.now c.assign.new.self c.assign.ensures.ok c.assign.ensures.err
+    no_more c.assign_at.result (name_of c.args.name.now) (value_of c.in_ok-whole.whole) c.args.self.now c.assign_at.new.self c.assign_at.ensures.ok c.assign_at.ensures.err
 
 pub returns-in_err-whole-clause-assigned : goal.returns-in_err-whole-clause-assigned
 returns-in_err-whole-clause-assigned g c =
@@ -20,6 +20,6 @@ returns-in_err-whole-clause-assigned g c =
 
 pub returns-clause-assigned : goal.returns-clause-assigned
 returns-clause-assigned g c =
-    replaced_by c.args.self.now c.assign.new.self (assign_op (name_of c.args.name.now) (value_of c.in_ok-whole.whole))
+    replaced_by c.args.self.now c.assign_at.new.self (assign_op (name_of c.args.name.now) (value_of c.in_ok-whole.whole))
     (splice_op (name_of c.args.name.now) c.args.span.now.subject c.args.span.now.start c.args.span.now.end (value_of c.args.value.now)) _ _ _
-    (λ io. c.in_ok-whole.ensures.value io (name_of c.args.name.now)) c.assign.ensures.assigned
+    (λ io. c.in_ok-whole.ensures.value io (name_of c.args.name.now)) c.assign_at.ensures.assigned
