@@ -13,9 +13,13 @@
 #![tactic(auto)]
 
 mod arithmetic;
+mod associations;
 mod conversions;
 mod counts;
+mod elements;
 mod fault;
+mod items;
+mod making;
 mod operators;
 mod unit_calls;
 mod value;
