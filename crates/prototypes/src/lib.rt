@@ -1,6 +1,9 @@
 //! Prototypes: the texts by which DEFINE, DATA and ARRAY are told what to make.
 //!
-//! `function_prototype(alloc, text)` reads `NAME(ARGUMENT,..)LOCAL,..`, `dimensions` what ARRAY takes, as `0:9,20`. `Names` is a list of names that clones share.
+//! `function_prototype(alloc, text)` reads `NAME(ARGUMENT,..)LOCAL,..`, `dimensions` what ARRAY takes, as `0:9,20`.
+//! `Names` is a list of names that clones share.
+//!
+//!     let bounds = dimensions(alloc, &text)?;
 //!
 //! Promised: each is its definition in `model`'s `Prototypes`, for every text; only a refused growth of memory gives
 //! another answer.

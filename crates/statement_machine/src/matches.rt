@@ -10,13 +10,13 @@ ghost use Rattle.model.specs.Machine.{on_event};
 ghost use Rattle.model.specs.Modules.{module_of};
 ghost use Rattle.model.specs.Operators.{assign_all, told_value};
 ghost use Rattle.model.specs.Pattern.{Matched};
-ghost use Rattle.model.specs.Told.{IfTold};
 ghost use Rattle.model.specs.declared.image.Image.{Image};
 ghost use Rattle.model.specs.declared.run.Stop.TheVariants.{NoMemory};
 ghost use Rattle.statement_machine.specs.Held.{Left};
 ghost use Rattle.statement_machine.specs.Runs.{found_kinds};
-ghost use Rattle.statement_machine.specs.Stopped.{StepKeepsCounts};
-ghost use Rattle.world.specs.Answers.{Answers, KeepsCounts, done};
+ghost use Rattle.statement_machine.specs.Stopped.{halted_by};
+ghost use Rattle.unit_io.specs.Service.{Served};
+ghost use Rattle.world.specs.Answers.{Answers, done, stopped_by};
 ghost use Rattle.world.specs.Held.{world_of};
 ghost use Rattle.world.specs.Values.{value_of};
 
@@ -35,9 +35,8 @@ fn assign_all<U: Units>(
     units: &mut U,
     pending: &[Assignment],
 ) -> Result<(), Fault>
-    ensures assigned { IfTold (U.told units.old) (U.told units.new) (λ io io'.
+    ensures served { Served U.Units (stopped_by result) units.old units.new (λ io io'.
         Answers (done result) (world_of world.new io') (assign_all (pending_of pending.now) (world_of world.old io))) }
-    ensures counts { KeepsCounts result (U.failures units.old) (U.failures units.new) }
 {
     for assignment in pending {
         let value = Value::String(assignment.value.clone()?);
@@ -69,10 +68,10 @@ impl State {
         end: usize,
         pending: Vec<Assignment>,
     ) -> Result<(), Halt>
-        ensures left { (im : Image) → IfTold (U.told units.old) (U.told units.new) (λ io io'. Left result self.new io'
+        ensures served { Served U.Units (halted_by result) units.old units.new (λ io io'.
+            (im : Image) → Left result self.new io'
             (on_event (module_of im) (Matched start end (pending_of pending.items)) (matching_of matching (operands_of self.old.operands) (handlers_of self.old.handlers)) matching.search.state [] (world_of self.old.world io))) }
         ensures shape { OnOk result ((self.new.at ≡ matching.place) × (self.new.handlers ≡ self.old.handlers) × (kinds_of self.new.operands ≡ found_kinds matching.keep (kinds_of self.old.operands))) }
-        ensures counts { StepKeepsCounts result (U.failures units.old) (U.failures units.new) }
     {
         if let Err(fault) = assign_all(self.alloc, &mut self.world, units, pending.as_slice()) {
             return Err(self.halted(fault));

@@ -5,15 +5,15 @@ ghost use Rattle.model.specs.Conversions.{Op};
 ghost use Rattle.model.specs.Flow.{V, N, R};
 ghost use Rattle.model.specs.Io.{Io};
 ghost use Rattle.model.specs.Machine.{MVal, MW, OV, Run, after_op};
-ghost use Rattle.model.specs.Told.{IfTold};
 ghost use Rattle.model.specs.declared.image.Image.{Image};
 ghost use Rattle.frames.specs.Kinds.{AreOnTop};
 ghost use Rattle.frames.specs.View.{operands_of, handlers_of};
-ghost use Rattle.world.specs.Answers.{Answers, AnswersOrFails, KeepsCounts, answer_map, done};
+ghost use Rattle.world.specs.Answers.{Answers, AnswersOrFails, answer_map, done, stopped_by};
+ghost use Rattle.unit_io.specs.Service.{KeepsCounts, Served};
 ghost use Rattle.world.specs.Held.{world_of};
 ghost use Rattle.world.specs.Values.{value_of};
 ghost use Rattle.statement_machine.specs.Held.{IsSound, Left, Meets, after};
-ghost use Rattle.statement_machine.specs.Stopped.{StepKeepsCounts};
+ghost use Rattle.statement_machine.specs.Stopped.{halted_by};
 
 use crate::state::State;
 use crate::status::Halt;
@@ -27,7 +27,7 @@ impl State {
     fn went(&mut self, answer: Result<(), Fault>, next: u32) -> Result<(), Halt>
         ensures left { (io : Io) (o : Op MW (record {})) → Answers (done answer) (world_of self.old.world io) o →
             Left result self.new io (after_op o (handlers_of self.old.handlers) (operands_of self.old.operands) [] (λ _ w. Run next (operands_of self.old.operands) (handlers_of self.old.handlers) [] w)) }
-        ensures counts { (old new : ℕ → ℕ) → KeepsCounts answer old new → StepKeepsCounts result old new }
+        ensures counts { (old new : ℕ → ℕ) → KeepsCounts (stopped_by answer) old new → KeepsCounts (halted_by result) old new }
     {
         match answer {
             Ok(()) => {
@@ -42,7 +42,7 @@ impl State {
     fn gave(&mut self, answer: Result<Option<Value>, Fault>, next: u32) -> Result<(), Halt>
         ensures left { (io : Io) (o : Op MW MVal) → AnswersOrFails (answer_map (option_map value_of) answer) (world_of self.old.world io) o →
             Left result self.new io (after_op o (handlers_of self.old.handlers) (operands_of self.old.operands) [] (λ v w. Run next (OV v ∷ operands_of self.old.operands) (handlers_of self.old.handlers) [] w)) }
-        ensures counts { (old new : ℕ → ℕ) → KeepsCounts answer old new → StepKeepsCounts result old new }
+        ensures counts { (old new : ℕ → ℕ) → KeepsCounts (stopped_by answer) old new → KeepsCounts (halted_by result) old new }
     {
         match answer {
             Ok(Some(value)) => self.put(value, next),
@@ -54,9 +54,9 @@ impl State {
     /// The value goes to the name, and to the unit that its variable writes to.
     pub(crate) fn assign<U: Units>(&mut self, units: &mut U, next: u32) -> Result<(), Halt>
         requires { AreOnTop (V ∷ N ∷ []) self.old.operands }
-        ensures left { (im : Image) → IfTold (U.told units.old) (U.told units.new) (λ io io'. Left result self.new io' (after im Instr.Assign next self.old io)) }
+        ensures served { Served U.Units (halted_by result) units.old units.new (λ io io'.
+            (im : Image) → Left result self.new io' (after im Instr.Assign next self.old io)) }
         ensures sound { (im : Image) → Meets im Instr.Assign next self.old → OnOk result (IsSound im self.new) }
-        ensures counts { StepKeepsCounts result (U.failures units.old) (U.failures units.new) }
     {
         let value = pop_value(&mut self.operands);
         let name = pop_name(&mut self.operands);
@@ -67,9 +67,9 @@ impl State {
     /// The value of the name, in its place. At the end of the unit that its variable reads from that fails.
     pub(crate) fn fetch<U: Units>(&mut self, units: &mut U, next: u32) -> Result<(), Halt>
         requires { AreOnTop (N ∷ []) self.old.operands }
-        ensures left { (im : Image) → IfTold (U.told units.old) (U.told units.new) (λ io io'. Left result self.new io' (after im Instr.Fetch next self.old io)) }
+        ensures served { Served U.Units (halted_by result) units.old units.new (λ io io'.
+            (im : Image) → Left result self.new io' (after im Instr.Fetch next self.old io)) }
         ensures sound { (im : Image) → Meets im Instr.Fetch next self.old → OnOk result (IsSound im self.new) }
-        ensures counts { StepKeepsCounts result (U.failures units.old) (U.failures units.new) }
     {
         let name = pop_name(&mut self.operands);
         let answer = self.world.fetch(units, &name);
@@ -79,9 +79,9 @@ impl State {
     /// The value of the name, above the name.
     pub(crate) fn fetch_above<U: Units>(&mut self, units: &mut U, next: u32) -> Result<(), Halt>
         requires { AreOnTop (N ∷ []) self.old.operands }
-        ensures left { (im : Image) → IfTold (U.told units.old) (U.told units.new) (λ io io'. Left result self.new io' (after im Instr.FetchK next self.old io)) }
+        ensures served { Served U.Units (halted_by result) units.old units.new (λ io io'.
+            (im : Image) → Left result self.new io' (after im Instr.FetchK next self.old io)) }
         ensures sound { (im : Image) → Meets im Instr.FetchK next self.old → OnOk result (IsSound im self.new) }
-        ensures counts { StepKeepsCounts result (U.failures units.old) (U.failures units.new) }
     {
         let answer = self.world.fetch(units, top_name(&self.operands));
         self.gave(answer, next)
@@ -90,9 +90,9 @@ impl State {
     /// The value goes into the place of what a match found, and the whole to the name.
     pub(crate) fn splice<U: Units>(&mut self, units: &mut U, next: u32) -> Result<(), Halt>
         requires { AreOnTop (V ∷ R ∷ N ∷ []) self.old.operands }
-        ensures left { (im : Image) → IfTold (U.told units.old) (U.told units.new) (λ io io'. Left result self.new io' (after im Instr.Splice next self.old io)) }
+        ensures served { Served U.Units (halted_by result) units.old units.new (λ io io'.
+            (im : Image) → Left result self.new io' (after im Instr.Splice next self.old io)) }
         ensures sound { (im : Image) → Meets im Instr.Splice next self.old → OnOk result (IsSound im self.new) }
-        ensures counts { StepKeepsCounts result (U.failures units.old) (U.failures units.new) }
     {
         let value = pop_value(&mut self.operands);
         let span = pop_span(&mut self.operands);

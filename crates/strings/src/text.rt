@@ -1,6 +1,7 @@
 //! A text: a few bytes of its own, or many that are shared by its clones and by the parts cut from it.
 
-ghost use Rattle.std.specs.Prelude.{◌≡◌, ◌+◌, ◌*◌, ◌^◌, ◌<◌, ◌≤◌, ℕ, [], ◌++◌, length, drop, map, IfOk, IfErr, IsTrue, Err, ◌↔◌, slice_range, slice_index};
+ghost use Rattle.std.specs.Prelude.{◌≡◌, ◌+◌, ◌*◌, ◌^◌, ◌<◌, ◌≤◌, ℕ, [], ◌++◌, length, drop, map, IfOk, IfErr};
+ghost use Rattle.std.specs.Prelude.{IsTrue, Err, ◌↔◌, slice_range, slice_index};
 ghost use Rattle.std.specs.Fmt.{signed_decimal};
 ghost use Rattle.std.specs.List.{repeat};
 ghost use Rattle.model.specs.Strings.{replaced};
@@ -129,7 +130,8 @@ impl Text {
     /// One text and then the other; if one of them is null, the other is shared.
     pub fn concat(alloc: Global, left: &Text, right: &Text, limit: usize) -> Result<Text, StrFault>
         ensures ok { IfOk result (λ text. text ≡ left.now ++ right.now) }
-        ensures too_long { (result ≡ Err StrFault.TooLong) ↔ (limit < length left.now + length right.now) }
+        ensures too_long { (result ≡ Err StrFault.TooLong)
+            ↔ (limit < length left.now + length right.now) }
     {
         let front = left.len();
         let back = right.len();
@@ -151,7 +153,8 @@ impl Text {
     /// One text and then the other. Bytes of the first that nothing else shares aren't copied while they have room.
     pub fn append(alloc: Global, left: Text, right: &Text, limit: usize) -> Result<Text, StrFault>
         ensures ok { IfOk result (λ text. text ≡ left ++ right.now) }
-        ensures too_long { (result ≡ Err StrFault.TooLong) ↔ (limit < length left + length right.now) }
+        ensures too_long { (result ≡ Err StrFault.TooLong)
+            ↔ (limit < length left + length right.now) }
     {
         let front = left.len();
         let back = right.len();

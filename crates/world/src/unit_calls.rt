@@ -2,7 +2,6 @@
 
 ghost use Rattle.std.specs.Prelude.{◌≡◌, ◌≢◌, ◌⊎◌, Some, None, Ok, length, option_map, IfOk, IfErr, OnOk, OnErr};
 ghost use Rattle.model.specs.Io.{Io};
-ghost use Rattle.model.specs.Told.{IfTold};
 ghost use Rattle.model.specs.Target.{Variable};
 ghost use Rattle.model.specs.Operators.{fetch_op, take_record, as_read, assign_op, splice_op, write_var, print_text};
 ghost use Rattle.model.specs.Conversions.{to_text};
@@ -11,7 +10,8 @@ ghost use Rattle.model.specs.declared.run.Stop.TheVariants.{NoMemory};
 ghost use Rattle.pattern_compiler.specs.View.{name_of};
 ghost use Rattle.world.specs.Values.{value_of};
 ghost use Rattle.world.specs.Held.{Held, IsSet, IsSetOrKept, world_of, taken, variable_at, value_in};
-ghost use Rattle.world.specs.Answers.{answer_map, Answers, AnswersOrFails, done, IfStopped, KeepsCounts, stop_of};
+ghost use Rattle.world.specs.Answers.{answer_map, Answers, AnswersOrFails, done, IfStopped, stop_of, stopped_by};
+ghost use Rattle.unit_io.specs.Service.{Served};
 
 use crate::fault::Fault;
 use crate::value::Value;
@@ -28,9 +28,8 @@ impl World {
     /// The value of a name. A variable that has a unit reads a record; at the unit's end that fails. A fault leaves the
     /// world, and so does the end of a unit.
     pub fn fetch<U: Units>(&mut self, units: &mut U, name: &Name) -> Result<Option<Value>, Fault>
-        ensures fetched { IfTold (U.told units.old) (U.told units.new) (λ io io'.
+        ensures served { Served U.Units (stopped_by result) units.old units.new (λ io io'.
             AnswersOrFails (answer_map (option_map value_of) result) (world_of self.new io') (fetch_op (name_of name.now) (world_of self.old io))) }
-        ensures counts { KeepsCounts result (U.failures units.old) (U.failures units.new) }
         ensures err { OnErr result (self.new ≡ self.old) }
         ensures end { result ≡ Ok None → self.new ≡ self.old }
     {
@@ -44,9 +43,8 @@ impl World {
         name: &Name,
         slot: u32,
     ) -> Result<Option<Value>, Fault>
-        ensures fetched { IfTold (U.told units.old) (U.told units.new) (λ io io'.
+        ensures served { Served U.Units (stopped_by result) units.old units.new (λ io io'.
             AnswersOrFails (answer_map (option_map value_of) result) (world_of self.new io') (fetch_op (name_of name.now) (world_of self.old io))) }
-        ensures counts { KeepsCounts result (U.failures units.old) (U.failures units.new) }
         ensures err { OnErr result (self.new ≡ self.old) }
         ensures end { result ≡ Ok None → self.new ≡ self.old }
     {
@@ -65,9 +63,8 @@ impl World {
         name: &Text,
         slot: u32,
     ) -> Result<Option<Value>, Fault>
-        ensures fetched { IfTold (U.told units.old) (U.told units.new) (λ io io'.
+        ensures served { Served U.Units (stopped_by result) units.old units.new (λ io io'.
             AnswersOrFails (answer_map (option_map value_of) result) (world_of self.new io') (fetch_op (Variable name.now) (world_of self.old io))) }
-        ensures counts { KeepsCounts result (U.failures units.old) (U.failures units.new) }
         ensures err { OnErr result (self.new ≡ self.old) }
         ensures end { result ≡ Ok None → self.new ≡ self.old }
     {
@@ -90,9 +87,8 @@ impl World {
         slot: u32,
         unit: u8,
     ) -> Result<Option<Value>, Fault>
-        ensures fetched { IfTold (U.told units.old) (U.told units.new) (λ io io'.
+        ensures served { Served U.Units (stopped_by result) units.old units.new (λ io io'.
             AnswersOrFails (answer_map (option_map value_of) result) (world_of self.new io') (take_record name.now unit (io.left unit) (world_of self.old io))) }
-        ensures counts { KeepsCounts result (U.failures units.old) (U.failures units.new) }
         ensures err { OnErr result (self.new ≡ self.old) }
         ensures end { result ≡ Ok None → self.new ≡ self.old }
     {
@@ -140,9 +136,8 @@ impl World {
         name: &Name,
         value: Value,
     ) -> Result<(), Fault>
-        ensures assigned { IfTold (U.told units.old) (U.told units.new) (λ io io'.
+        ensures served { Served U.Units (stopped_by result) units.old units.new (λ io io'.
             Answers (done result) (world_of self.new io') (assign_op (name_of name.now) (value_of value) (world_of self.old io))) }
-        ensures counts { KeepsCounts result (U.failures units.old) (U.failures units.new) }
         ensures ok { OnOk result (IsSet (name_of name.now) (value_of value) self.old self.new) }
         ensures err { OnErr result (IsSetOrKept (name_of name.now) (value_of value) self.old self.new) }
     {
@@ -158,9 +153,8 @@ impl World {
         slot: u32,
         value: Value,
     ) -> Result<(), Fault>
-        ensures assigned { IfTold (U.told units.old) (U.told units.new) (λ io io'.
+        ensures served { Served U.Units (stopped_by result) units.old units.new (λ io io'.
             Answers (done result) (world_of self.new io') (assign_op (name_of name.now) (value_of value) (world_of self.old io))) }
-        ensures counts { KeepsCounts result (U.failures units.old) (U.failures units.new) }
         ensures ok { OnOk result (IsSet (name_of name.now) (value_of value) self.old self.new) }
         ensures err { OnErr result (IsSetOrKept (name_of name.now) (value_of value) self.old self.new) }
     {
@@ -186,9 +180,8 @@ impl World {
         slot: u32,
         value: Value,
     ) -> Result<(), Fault>
-        ensures assigned { IfTold (U.told units.old) (U.told units.new) (λ io io'.
+        ensures served { Served U.Units (stopped_by result) units.old units.new (λ io io'.
             Answers (done result) (world_of self.new io') (assign_op (Variable name.now) (value_of value) (world_of self.old io))) }
-        ensures counts { KeepsCounts result (U.failures units.old) (U.failures units.new) }
         ensures ok { OnOk result (IsSet (Variable name.now) (value_of value) self.old self.new) }
         ensures err { OnErr result (IsSetOrKept (Variable name.now) (value_of value) self.old self.new) }
     {
@@ -207,9 +200,8 @@ impl World {
         span: &Span,
         value: &Value,
     ) -> Result<(), Fault>
-        ensures assigned { IfTold (U.told units.old) (U.told units.new) (λ io io'.
+        ensures served { Served U.Units (stopped_by result) units.old units.new (λ io io'.
             Answers (done result) (world_of self.new io') (splice_op (name_of name.now) span.now.subject span.now.start span.now.end (value_of value.now) (world_of self.old io))) }
-        ensures counts { KeepsCounts result (U.failures units.old) (U.failures units.new) }
         ensures only { (self.new ≡ self.old) ⊎ ((v : MVal) × IsSet (name_of name.now) v self.old self.new) }
     {
         self.splice_at(alloc, units, name, NO_SLOT, span, value)
@@ -225,9 +217,8 @@ impl World {
         span: &Span,
         value: &Value,
     ) -> Result<(), Fault>
-        ensures assigned { IfTold (U.told units.old) (U.told units.new) (λ io io'.
+        ensures served { Served U.Units (stopped_by result) units.old units.new (λ io io'.
             Answers (done result) (world_of self.new io') (splice_op (name_of name.now) span.now.subject span.now.start span.now.end (value_of value.now) (world_of self.old io))) }
-        ensures counts { KeepsCounts result (U.failures units.old) (U.failures units.new) }
         ensures only { (self.new ≡ self.old) ⊎ ((v : MVal) × IsSet (name_of name.now) v self.old self.new) }
     {
         let whole = self.replaced(alloc, span, value)?;
@@ -244,9 +235,8 @@ impl World {
         slot: u32,
         unit: u8,
     ) -> Result<(), Fault>
-        ensures written { IfTold (U.told units.old) (U.told units.new) (λ io io'.
+        ensures served { Served U.Units (stopped_by result) units.old units.new (λ io io'.
             Answers (done result) (world_of self.now io') (write_var (Some unit) (value_in (variable_at name.now self.now.variables)) (world_of self.now io))) }
-        ensures counts { KeepsCounts result (U.failures units.old) (U.failures units.new) }
     {
         if is_zero(&self.keywords, KeyId::Output) {
             return Ok(());
@@ -260,9 +250,8 @@ impl World {
 
 // Writes a value as a record.
 fn print<U: Units>(alloc: Global, units: &mut U, unit: u8, value: &Value) -> Result<(), Fault>
-    ensures printed { IfTold (U.told units.old) (U.told units.new) (λ io io'.
+    ensures served { Served U.Units (stopped_by result) units.old units.new (λ io io'.
         (h : Held) → Answers (done result) (world_of h io') (print_text unit (to_text (value_of value.now)) (world_of h io))) }
-    ensures counts { KeepsCounts result (U.failures units.old) (U.failures units.new) }
 {
     let text = match value.to_text(alloc) {
         Ok(text) => text,
