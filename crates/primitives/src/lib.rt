@@ -1,7 +1,7 @@
 //! The primitive functions.
 //!
-//! `call_prim(alloc, id, &arguments, &mut world)` calls one that is there (`is_there`): LEN to DATATYPE, and FENCE. It
-//! comes to an `Outcome`, that is a value, a name, failure or a function to call, or to a `Fault`.
+//! `call_prim(alloc, id, &arguments, &mut world)` calls one that is there (`is_there`): all but ITEM, DATA, DEFINE and
+//! APPLY. It comes to an `Outcome`, that is a value, a name, failure or a function to call, or to a `Fault`.
 //!
 //! Promised: each is its row of the table, `prim_op` of `model`; a call that gives an error or stops changes nothing.
 //! CALLING.md says how another primitive is added.
