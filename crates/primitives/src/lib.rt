@@ -9,9 +9,11 @@
 
 mod call;
 mod functions;
+mod objects;
 mod outcome;
 mod patterns;
 mod predicates;
+mod units;
 
 pub use call::{call_prim, is_there};
 pub use outcome::Outcome;

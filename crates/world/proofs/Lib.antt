@@ -6,3 +6,5 @@ pub mod Keywords
 pub mod Telling
 pub mod UnitCalls
 pub mod Objects
+pub mod Made
+pub mod Named

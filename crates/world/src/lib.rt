@@ -9,10 +9,12 @@
 #![tactic(auto)]
 
 mod arithmetic;
+mod associations;
 mod conversions;
 mod counts;
 mod elements;
 mod fault;
+mod items;
 mod making;
 mod operators;
 mod unit_calls;

@@ -3,11 +3,12 @@
 ghost use Rattle.std.specs.Prelude.{◌≡◌, [], pos, Some, None, is_some, option_copied, slice_get, IfOk, IfSome, OnOk, OnErr, if◌then◌else◌};
 ghost use Rattle.model.specs.Io.{Io};
 ghost use Rattle.model.specs.Values.{set_var};
+ghost use Rattle.model.specs.Primitives.{set_reads, set_writes};
 ghost use Rattle.model.specs.Keywords.{key_value};
 ghost use Rattle.model.specs.Agreement.{first_m};
 ghost use Rattle.model.specs.PrintedBefore.{after_w};
 ghost use Rattle.world.specs.Values.{value_of};
-ghost use Rattle.world.specs.Held.{world_of, name_at, zero_in, variable_at, output_in, with_variable, pattern_variable, first_patterns, first_variables};
+ghost use Rattle.world.specs.Held.{world_of, name_at, zero_in, variable_at, input_in, output_in, with_variable, pattern_variable, first_patterns, first_variables};
 ghost use Rattle.world.specs.declared.value.Value.TheVariants.{String};
 ghost use Rattle.world.specs.declared.world.Variable.{Variable};
 
@@ -61,6 +62,13 @@ impl Variable {
         ensures { self.new ≡ record self.old { value = value } }
     {
         self.value = value;
+    }
+
+    fn set_units(&mut self, input: Option<u8>, output: Option<u8>)
+        ensures { self.new ≡ record self.old { input = input; output = output } }
+    {
+        self.input = input;
+        self.output = output;
     }
 }
 
@@ -238,6 +246,35 @@ impl World {
             }
             None => unreachable!(),
         }
+    }
+
+    /// The units that a variable reads from and writes to.
+    pub(crate) fn units(&self, name: &Text) -> (Option<u8>, Option<u8>)
+        ensures { result ≡ (input_in (variable_at name.now self.now.variables), output_in (variable_at name.now self.now.variables)) }
+    {
+        match self.variables.get(name) {
+            Some(variable) => (variable.input, variable.output),
+            None => (None, None),
+        }
+    }
+
+    /// Gives a variable other units.
+    pub(crate) fn set_units(
+        &mut self,
+        name: &Text,
+        input: Option<u8>,
+        output: Option<u8>,
+    ) -> Result<(), AllocError>
+        ensures set { OnOk result ((io : Io) → world_of self.new io ≡ set_writes name.now output (set_reads name.now input (world_of self.old io))) }
+        ensures err { OnErr result (self.new ≡ self.old) }
+    {
+        if let Some(variable) = self.variables.get_mut(name) {
+            variable.set_units(input, output);
+            return Ok(());
+        }
+        let variable = Variable::on_units(input, output);
+        let _none = self.variables.insert(name.clone()?, variable)?;
+        Ok(())
     }
 }
 

@@ -2,7 +2,7 @@ use Rattle.std.proofs.Common.{ap, ◌∙◌}
 use Rattle.model.specs.Aggregates.{copy_op}
 use Rattle.world.specs.Values.{value_of}
 use Rattle.world.specs.Held.{world_of}
-use Rattle.world.proofs.Objects.{was_copied}
+use Rattle.world.proofs.Made.{was_copied}
 use Rattle.world.proofs.world.World.copy.Goals as goal
 
 pub returns-clause-made : goal.returns-clause-made

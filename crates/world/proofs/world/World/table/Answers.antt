@@ -1,6 +1,6 @@
 use Rattle.std.proofs.Common.{[]}
 use Rattle.model.specs.Values.{TableOf}
-use Rattle.world.proofs.Objects.{made}
+use Rattle.world.proofs.Made.{made}
 use Rattle.world.proofs.world.World.table.Goals as goal
 
 pub returns-clause-made : goal.returns-clause-made
