@@ -1,8 +1,9 @@
 //! What a card is, by its first column.
 
 ghost use Rattle.std.specs.Prelude.{◌≡◌, take, codes};
-ghost use Rattle.model.specs.Cards.{is_word_first, is_known_control, is_blank_text};
-ghost use Rattle.model.specs.Cards.{kind_of_columns, kind_by_first, is_plain, is_blank};
+ghost use Rattle.model.specs.Deck.Cards.{is_word_first, is_known_control, is_blank_text};
+ghost use Rattle.model.specs.Deck.Cards.{kind_of_columns, kind_by_first, is_plain};
+ghost use Rattle.model.specs.Language.Strings.{is_blank};
 ghost use Rattle.std.specs.List.{list_all};
 ghost use Rattle.card_reader.specs.Reading.{kind_of};
 

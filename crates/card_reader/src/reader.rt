@@ -3,7 +3,7 @@
 ghost use Rattle.std.specs.Prelude.{◌≡◌, ◌≤◌, ◌<◌, ◌+◌, ℕ, true, false, [], ◌∷◌, ◌++◌, length};
 ghost use Rattle.std.specs.Prelude.{take, List, Option, Some, None, OnOk, IfOk, IfErr, Ok, Err};
 ghost use Rattle.std.specs.Prelude.{is_some, if◌then◌else◌, nat_lt};
-ghost use Rattle.model.specs.Cards as cards;
+ghost use Rattle.model.specs.Deck.Cards as cards;
 ghost use Rattle.card_reader.specs.Parts as parts;
 ghost use Rattle.card_reader.specs.Parts.{Parts, appended, nothing, step};
 ghost use Rattle.card_reader.specs.Reached.{answer};

@@ -2,10 +2,10 @@
 
 ghost use Rattle.std.specs.Prelude.{◌≡◌, ◌<◌, ◌≤◌, ◌+◌, ◌*◌, ◌^◌, ℕ, List, map, length, OnOk, IfOk};
 ghost use Rattle.std.specs.List.{AllByRecursion};
-ghost use Rattle.model.specs.Programs as programs;
-ghost use Rattle.model.specs.TreeViews.{expr_of, program_of, stmt_of};
-ghost use Rattle.model.specs.Trees.{Bytes};
-ghost use Rattle.model.specs.Weights as weights;
+ghost use Rattle.model.specs.Language.Programs as programs;
+ghost use Rattle.model.specs.Deck.TreeViews.{expr_of, program_of, stmt_of};
+ghost use Rattle.model.specs.Deck.Trees.{Bytes};
+ghost use Rattle.model.specs.Deck.Weights as weights;
 ghost use Rattle.expr_codegen.specs.Emitting.{AddsAtMost, Countable, Extends, size};
 ghost use Rattle.expr_codegen.specs.Texts.{with_texts};
 ghost use Rattle.expr_codegen.specs.Views.{gen_of};
@@ -83,7 +83,7 @@ fn put_labels<'a>(
     ensures code { OnOk result ((gen_of g.new).code ≡ (gen_of g.old).code) }
     ensures extends { Extends (gen_of g.old) (gen_of g.new) }
     ensures labels { IfOk result (λ ls.
-        ls.items ≡ layout.labels (gen_of g.new).texts 1 (map stmt_of statements.now)) }
+        ls.items ≡ layout.label_entries (gen_of g.new).texts 1 (map stmt_of statements.now)) }
 {
     let mut labels = Vec::new(alloc);
     let mut number = 1;
@@ -103,7 +103,7 @@ fn put_labels<'a>(
 /// The image of a program.
 pub fn generate(alloc: Global, program: &Program) -> Result<Image, AllocError>
     requires { Fits (program_of program.now) }
-    ensures image { IfOk result (λ image. image ≡ layout.image_of (program_of program.now)) }
+    ensures image { IfOk result (λ image. image ≡ layout.generated_image (program_of program.now)) }
 {
     let statements = program.statements.as_slice();
     let labels = labels_of(alloc, statements)?;

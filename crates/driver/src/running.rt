@@ -2,7 +2,7 @@
 
 ghost use Rattle.std.specs.Prelude.{◌≡◌, ℕ, List, Err, Ok, IfErr, IfOk, OnErr, OnOk};
 ghost use Rattle.model.specs.declared.image.Image.{Image};
-ghost use Rattle.model.specs.Reading.{image_of};
+ghost use Rattle.model.specs.Module.Reading.{read_image};
 ghost use Rattle.loader.specs.Answers.{IsAnswer};
 ghost use Rattle.loader.specs.Loaded.{IsLoaded};
 ghost use Rattle.statement_machine.specs.Stopped.{IfRan, ending_of, stop_of_run};
@@ -26,10 +26,10 @@ pub fn run_module<U: Units>(
 ) -> Result<Status, LoadFault>
     ensures refused { IfErr result (λ fault. IsAnswer bytes.now (Err fault)) }
     ensures untouched { OnErr result (units.new ≡ units.old) }
-    ensures accepted { OnOk result ((m : Image) × (image_of bytes.now ≡ Ok m) × IsLoaded m) }
+    ensures accepted { OnOk result ((m : Image) × (read_image bytes.now ≡ Ok m) × IsLoaded m) }
     // What was printed is what was printed before, followed by what the machine prints, and what is left on each unit
     // is what the machine leaves there. A run that nothing stopped met no failure of a unit.
-    ensures served { IfOk result (λ status. (m : Image) → image_of bytes.now ≡ Ok m →
+    ensures served { IfOk result (λ status. (m : Image) → read_image bytes.now ≡ Ok m →
         Served U.Units (stop_of_run status) units.old units.new (λ io io'.
         IfRan status (IsRun m bound (ending_of status) io io'))) }
     // Of a module that compile_deck wrote, in the words of its deck alone: it ended as the deck's meaning does at some

@@ -3,8 +3,8 @@ use Rattle.std.proofs.Common.{◌≡◌, ℕ, List, [], ◌∷◌, map, refl, sy
 use Rattle.std.specs.Bool.{Decides}
 use Rattle.std.proofs.lemmas.Bool.Decides.{nat_tests}
 use Rattle.std.proofs.lemmas.Bool.{and_parts}
-use Rattle.model.specs.Machine.{Handler, OnBegin, OnTry}
-use Rattle.model.specs.Flow as flow
+use Rattle.model.specs.Machine.Steps.{Handler, OnBegin, OnTry}
+use Rattle.model.specs.Module.Flow as flow
 use Rattle.flow_check.specs.declared.pool.Node.{Node}
 use Rattle.flow_check.specs.declared.shapes.Mode.{Mode}
 use Rattle.flow_check.specs.declared.shapes.Mode.TheVariants.{Body, Goto, Evaluation}
@@ -64,7 +64,7 @@ tops_one (h ∷ hs) (g ∷ gs) e =
     let b : hs ≡ gs = tops_one hs gs (let z : map top_of hs ≡ map top_of gs = cc in z) in
     cc
 
-pub shapes : (m n : flow.Mode) (ks js : List flow.Kind) (hs gs : List Handler) → m ≡ n → ks ≡ js → hs ≡ gs → flow.shape m ks hs ≡ flow.shape n js gs
+pub shapes : (m n : flow.Mode) (ks js : List flow.OperandKind) (hs gs : List Handler) → m ≡ n → ks ≡ js → hs ≡ gs → flow.shape m ks hs ≡ flow.shape n js gs
 shapes m n ks js hs gs e f g = ap (λ x. flow.shape x ks hs) e ∙ ap (λ x. flow.shape n x hs) f ∙ ap (λ x. flow.shape n js x) g
 
 pub same_true : (ns : List Node) (a b : Shape) (s t : flow.Shape) → IsShape ns a s → IsShape ns b t → same_shape a b ≡ true → s ≡ t

@@ -2,8 +2,8 @@
 
 ghost use Rattle.std.specs.Prelude.{◌≡◌, ◌<◌, ◌≤◌, ◌^◌, ℕ, length, map, List, [], ◌∷◌, IfOk, OnOk};
 ghost use Rattle.std.specs.Bool.{Decides};
-ghost use Rattle.model.specs.Machine.{Handler, OnBegin};
-ghost use Rattle.model.specs.Flow as flow;
+ghost use Rattle.model.specs.Machine.Steps.{Handler, OnBegin};
+ghost use Rattle.model.specs.Module.Flow as flow;
 ghost use Rattle.flow_check.specs.declared.pool.Node.{Node};
 ghost use Rattle.flow_check.specs.declared.rules.Rule.TheVariants as rules;
 ghost use Rattle.flow_check.specs.Numbers.{Is, Grows};
@@ -193,11 +193,11 @@ fn put_back(
     depth: u32,
     shape: Shape,
 ) -> Result<Option<Led>, AllocError>
-    requires { (ks : List flow.Kind) × Is pool.old.nodes.keys below (runs ks)
+    requires { (ks : List flow.OperandKind) × Is pool.old.nodes.keys below (runs ks)
         × (length ks < 2 ^ 31) × (depth ≡ length ks) }
     ensures grows { OnOk result (Grows pool.old.nodes.keys pool.new.nodes.keys) }
     ensures put { IfOk result (λ led.
-        (ks : List flow.Kind) → (hs : List Handler) → Is pool.old.nodes.keys below (runs ks)
+        (ks : List flow.OperandKind) → (hs : List Handler) → Is pool.old.nodes.keys below (runs ks)
         → depth ≡ length ks → Is pool.old.nodes.keys shape.handlers (map top_of hs)
         → IsPut pool.new.nodes.keys led shape.mode (left leaves) ks hs) }
 {

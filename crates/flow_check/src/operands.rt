@@ -2,9 +2,9 @@
 
 ghost use Rattle.std.specs.Prelude.{◌≡◌, ◌<◌, ◌^◌, List, [], ◌∷◌, ◌++◌, map, length, IfOk, OnOk};
 ghost use Rattle.std.specs.Bool.{Decides};
-ghost use Rattle.model.specs.Machine.{Handler};
-ghost use Rattle.model.specs.Flow.{floor_of, V};
-ghost use Rattle.model.specs.Flow as flow;
+ghost use Rattle.model.specs.Machine.Steps.{Handler};
+ghost use Rattle.model.specs.Module.Flow.{floor_of, V};
+ghost use Rattle.model.specs.Module.Flow as flow;
 ghost use Rattle.flow_check.specs.Numbers.{Is, Grows};
 ghost use Rattle.flow_check.specs.Rules.{taken, left, run_kinds};
 ghost use Rattle.flow_check.specs.Shapes.{runs, top_of, kind_of, IsTaken};
@@ -17,7 +17,7 @@ impl Pool {
     fn pop_run(&mut self, run: Run, stack: Stack) -> Result<Option<Stack>, AllocError>
         ensures grows { OnOk result (Grows self.old.nodes.keys self.new.nodes.keys) }
         ensures taken { IfOk result (λ k.
-            (ks : List flow.Kind) → Is self.old.nodes.keys stack (runs ks)
+            (ks : List flow.OperandKind) → Is self.old.nodes.keys stack (runs ks)
             → IsTaken self.new.nodes.keys k (run_kinds run) ks) }
     {
         let below = self.pop(run.kind, run.count, stack)?;
@@ -28,7 +28,7 @@ impl Pool {
     pub(crate) fn take(&mut self, takes: Takes, stack: Stack) -> Result<Option<Stack>, AllocError>
         ensures grows { OnOk result (Grows self.old.nodes.keys self.new.nodes.keys) }
         ensures taken { IfOk result (λ k.
-            (ks : List flow.Kind) → Is self.old.nodes.keys stack (runs ks)
+            (ks : List flow.OperandKind) → Is self.old.nodes.keys stack (runs ks)
             → IsTaken self.new.nodes.keys k (taken takes) ks) }
     {
         let (first, second, third) = takes.runs();
@@ -49,7 +49,7 @@ impl Pool {
     ) -> Result<Option<Stack>, AllocError>
         ensures grows { OnOk result (Grows self.old.nodes.keys self.new.nodes.keys) }
         ensures taken { IfOk result (λ k.
-            (ks : List flow.Kind) → Is self.old.nodes.keys stack (runs ks)
+            (ks : List flow.OperandKind) → Is self.old.nodes.keys stack (runs ks)
             → IsTaken self.new.nodes.keys k (run_kinds upper ++ run_kinds lower) ks) }
     {
         match self.pop_run(upper, stack)? {
@@ -63,11 +63,11 @@ impl Pool {
 
     /// The stack with what an instruction leaves.
     pub(crate) fn leave(&mut self, leaves: Leaves, stack: Stack) -> Result<Stack, AllocError>
-        requires { (ks : List flow.Kind) × Is self.old.nodes.keys stack (runs ks)
+        requires { (ks : List flow.OperandKind) × Is self.old.nodes.keys stack (runs ks)
             × (length ks < 2 ^ 31) }
         ensures grows { OnOk result (Grows self.old.nodes.keys self.new.nodes.keys) }
         ensures left { IfOk result (λ k.
-            (ks : List flow.Kind) → Is self.old.nodes.keys stack (runs ks)
+            (ks : List flow.OperandKind) → Is self.old.nodes.keys stack (runs ks)
             → Is self.new.nodes.keys k (runs (left leaves ++ ks))) }
     {
         match leaves {
@@ -81,11 +81,11 @@ impl Pool {
 
     /// With a name, and one of a kind on it.
     fn push_both(&mut self, kind: Kind, stack: Stack) -> Result<Stack, AllocError>
-        requires { (ks : List flow.Kind) × Is self.old.nodes.keys stack (runs ks)
+        requires { (ks : List flow.OperandKind) × Is self.old.nodes.keys stack (runs ks)
             × (length ks < 2 ^ 31) }
         ensures grows { OnOk result (Grows self.old.nodes.keys self.new.nodes.keys) }
         ensures pushed { IfOk result (λ k.
-            (ks : List flow.Kind) → Is self.old.nodes.keys stack (runs ks)
+            (ks : List flow.OperandKind) → Is self.old.nodes.keys stack (runs ks)
             → Is self.new.nodes.keys k (runs (kind_of kind ∷ flow.N ∷ ks))) }
     {
         let name = self.push(Kind::Name, stack)?;
@@ -111,7 +111,7 @@ impl Pool {
 
     /// Whether there is a value and nothing else.
     pub(crate) fn is_value(&self, stack: Stack) -> bool
-        ensures { (ks : List flow.Kind) → Is self.now.nodes.keys stack (runs ks)
+        ensures { (ks : List flow.OperandKind) → Is self.now.nodes.keys stack (runs ks)
             → Decides result (ks ≡ V ∷ []) }
     {
         let (count, below) = self.run(Kind::Value, stack);

@@ -5,7 +5,7 @@ ghost use Rattle.std.specs.Prelude.{IfNone, Some, None, option_map, slice_get};
 ghost use Rattle.flow_check.specs.declared.pool.Top.{Top};
 ghost use Rattle.flow_check.specs.Numbers.{Is, Grows, AreBoth, node_at, run_length, below_run, popped};
 ghost use Rattle.flow_check.specs.Shapes.{kind_of, runs};
-ghost use Rattle.model.specs.Flow as flow;
+ghost use Rattle.model.specs.Module.Flow as flow;
 
 use indexmap::IndexSet;
 use std::alloc::{AllocError, Global};
@@ -90,11 +90,11 @@ impl Pool {
 
     /// The stack with one more operand.
     pub(crate) fn push(&mut self, kind: Kind, stack: Stack) -> Result<Stack, AllocError>
-        requires { (ks : List flow.Kind) × Is self.old.nodes.keys stack (runs ks)
+        requires { (ks : List flow.OperandKind) × Is self.old.nodes.keys stack (runs ks)
             × (length ks < 2 ^ 32 - 1) }
         ensures grows { OnOk result (Grows self.old.nodes.keys self.new.nodes.keys) }
         ensures pushed { IfOk result (λ k.
-            (ks : List flow.Kind) → Is self.old.nodes.keys stack (runs ks)
+            (ks : List flow.OperandKind) → Is self.old.nodes.keys stack (runs ks)
             → Is self.new.nodes.keys k (runs (kind_of kind ∷ ks))) }
     {
         let (count, below) = self.run(kind, stack);

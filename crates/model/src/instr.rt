@@ -1,8 +1,8 @@
 //! The instructions of a module.
 
 ghost use Rattle.std.specs.Prelude.{◌≡◌};
-ghost use Rattle.model.specs.Calls.{return_of};
-ghost use Rattle.model.specs.Modules.{bytes};
+ghost use Rattle.model.specs.Language.Calls.{return_of};
+ghost use Rattle.model.specs.Module.Images.{instr_size};
 
 use crate::keys::KeyId;
 use crate::primitives::PrimId;
@@ -141,7 +141,7 @@ pub enum Instr {
 impl Instr {
     /// How many bytes it has in a module.
     pub fn size(self) -> u32
-        ensures { result ≡ bytes self }
+        ensures { result ≡ instr_size self }
     {
         match self {
             Instr::Int(_) => 9,

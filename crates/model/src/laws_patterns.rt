@@ -1,14 +1,14 @@
 //! The laws of patterns. Each function does nothing; its contract states a law, and who calls it may use the law.
 
-ghost use Rattle.model.specs.PatternLaws.{EndsGrow, SearchStays, ScanStays, EndsPermitted, StepsOfScan};
-ghost use Rattle.model.specs.PatternLaws.{ScanOfSteps, ScanOfFirst, FirstOfScan, AnswersComeLater};
-ghost use Rattle.model.specs.PatternLaws.{StepsAreSound, LiteralsScanned, LiteralScansRight, LiteralsRun};
-ghost use Rattle.model.specs.PatternLaws.{LiteralRunsRight};
-ghost use Rattle.model.specs.MatchStates.{StatesAnswerAsScan, StatesAnswerFirstEnd, StatesAnswerLiterals};
-ghost use Rattle.model.specs.MatchStates.{StatesCome, StepsLeadOn, AnswersLeadOn};
-ghost use Rattle.model.specs.StepBound.{PatternStepsBounded, PatternStepsOnBounded};
-ghost use Rattle.model.specs.PatternCases.{ScansMeetCases, StepsMeetCases, ScansMeetQuestions};
-ghost use Rattle.model.specs.PatternCases.{StepsMeetQuestions, NestedEnds};
+ghost use Rattle.model.specs.Laws.Patterns.{EndsGrow, SearchStays, ScanStays, EndsPermitted, StepsOfScan};
+ghost use Rattle.model.specs.Laws.Patterns.{ScanOfSteps, ScanOfFirst, FirstOfScan, AnswersComeLater};
+ghost use Rattle.model.specs.Laws.Patterns.{StepsAreSound, LiteralsScanned, LiteralScansRight, LiteralsRun};
+ghost use Rattle.model.specs.Laws.Patterns.{LiteralRunsRight};
+ghost use Rattle.model.specs.Laws.MatchStates.{StatesAnswerAsScan, StatesAnswerFirstEnd, StatesAnswerLiterals};
+ghost use Rattle.model.specs.Laws.MatchStates.{StatesCome, StepsLeadOn, AnswersLeadOn};
+ghost use Rattle.model.specs.Laws.StepBound.{PatternStepsBounded, PatternStepsOnBounded};
+ghost use Rattle.model.specs.Rows.Patterns.{ScansMeetCases, StepsMeetCases, ScansMeetQuestions};
+ghost use Rattle.model.specs.Rows.Patterns.{StepsMeetQuestions, NestedEnds};
 
 /// What is answered at a bound stays at each greater one.
 pub fn answers_stay()

@@ -1,9 +1,9 @@
 //! The rules that statements keep.
 
 ghost use Rattle.std.specs.Prelude.{◌≡◌, option_map, option_to_list};
-ghost use Rattle.model.specs.Faults as faults;
-ghost use Rattle.model.specs.Names.{key_named};
-ghost use Rattle.model.specs.TreeViews.{body_of, goto_of, object_of, place_of, stmt_of};
+ghost use Rattle.model.specs.Deck.Faults as faults;
+ghost use Rattle.model.specs.Language.Names.{key_named};
+ghost use Rattle.model.specs.Deck.TreeViews.{body_of, goto_of, object_of, place_of, stmt_of};
 ghost use Rattle.parser.specs.Rules.{AreKept};
 
 use crate::labels::{Labels, label_given};
@@ -94,7 +94,7 @@ fn targets_fit(statement: &Stmt, kept: Kept) -> bool
 }
 
 fn is_return(label: &[u8]) -> bool
-    ensures { result ≡ faults.is_among label.now faults.returns }
+    ensures { result ≡ faults.is_one_of label.now faults.returns }
 {
     label == b"RETURN".as_slice()
         || label == b"FRETURN".as_slice()

@@ -3,9 +3,9 @@ use Rattle.std.specs.Prelude.{List, [], map, Option, Some, None}
 use Rattle.std.specs.Rc.{rc_slice_items}
 use Rattle.std.specs.declared.rc.RcSlice.{RcSlice}
 use Rattle.std.specs.declared.alloc.Global.{Global}
-use Rattle.model.specs.Target as target
-use Rattle.model.specs.Pattern as p
-use Rattle.model.specs.Steps.{Code}
+use Rattle.model.specs.Deck.Target as target
+use Rattle.model.specs.Pattern.Patterns as p
+use Rattle.model.specs.Pattern.Steps.{Code}
 use Rattle.pattern_compiler.specs.declared.instr.Name.{Name}
 use Rattle.pattern_compiler.specs.declared.instr.Name.TheVariants as name
 use Rattle.pattern_compiler.specs.declared.instr.Basic.{Basic}
@@ -15,7 +15,7 @@ use Rattle.pattern_compiler.specs.declared.instr.Kind.TheVariants as kind
 use Rattle.pattern_compiler.specs.declared.instr.Instr.{Instr}
 use Rattle.pattern_compiler.specs.declared.instr.Instr.TheVariants as instr
 
-abbrev pub name_of : Name → p.Name
+abbrev pub name_of : Name → target.Name
 name_of (name.Variable x) = target.Variable x
 name_of (name.Element o i) = target.Element o i
 name_of (name.IntegerKey o k) = target.IntegerKey o k

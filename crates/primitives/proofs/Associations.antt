@@ -1,12 +1,12 @@
 -- Variables that are associated with units.
 use Rattle.std.proofs.Common.{◌≡◌, ℕ, [], Bool, true, false, Some, None, refl, sym, ap, ◌∙◌}
 use Rattle.std.specs.Prelude.{if◌then◌else◌}
-use Rattle.model.specs.Trees.{Bytes}
-use Rattle.model.specs.Values.{Str}
-use Rattle.model.specs.Conversions.{Conv, Got, Bad, Op, Gives, conv, then_conv, to_integer, to_variable, is_null}
-use Rattle.model.specs.Calls.{AValue}
-use Rattle.model.specs.Machine.{MVal, MW, PCode}
-use Rattle.model.specs.Primitives.{Outcome, Returns, returned, unit_number, unit_op, input_op, output_op, detach_op, set_reads, set_writes}
+use Rattle.model.specs.Deck.Trees.{Bytes}
+use Rattle.model.specs.Language.Values.{Str}
+use Rattle.model.specs.Language.Conversions.{Conv, Got, Bad, Op, Gives, conv, then_conv, to_integer, to_variable, is_null}
+use Rattle.model.specs.Language.Calls.{AValue}
+use Rattle.model.specs.Machine.Steps.{MVal, MW, PCode}
+use Rattle.model.specs.Language.Primitives.{Outcome, Returns, returned, unit_number, unit_op, input_op, output_op, detach_op, set_reads, set_writes}
 use Rattle.primitives.specs.Units.{unit_of}
 
 unit_is : (usual : ℕ) (v : MVal) (w : MW) (k : ℕ → Op MW MVal) → unit_op usual v w k ≡ conv (unit_of usual v) w k

@@ -1,8 +1,8 @@
 -- Units that arguments name.
 use Rattle.std.specs.Prelude.{ℕ, if◌then◌else◌}
-use Rattle.model.specs.Conversions.{Conv, Got, then_conv, to_integer, is_null}
-use Rattle.model.specs.Primitives.{unit_number}
-use Rattle.model.specs.Machine.{MVal}
+use Rattle.model.specs.Language.Conversions.{Conv, Got, then_conv, to_integer, is_null}
+use Rattle.model.specs.Language.Primitives.{unit_number}
+use Rattle.model.specs.Machine.Steps.{MVal}
 
 -- a null value stands for the usual unit
 abbrev pub unit_of : ℕ → MVal → Conv ℕ

@@ -1,13 +1,13 @@
 //! The primitives of arrays, tables and records.
 
 ghost use Rattle.std.specs.Prelude.{◌≡◌, [], map, OnErr};
-ghost use Rattle.model.specs.Io.{Io};
-ghost use Rattle.model.specs.Machine.{codes_of};
-ghost use Rattle.model.specs.Values.{Str, Int, Pat, TableOf};
-ghost use Rattle.model.specs.Conversions.{Gives, conv, to_text, to_integer, to_pattern};
-ghost use Rattle.model.specs.Prototypes.{array_prototype};
-ghost use Rattle.model.specs.Aggregates.{new_object, array_op, copy_op, as_array};
-ghost use Rattle.model.specs.Primitives.{returned, item_op, converted, or_fail};
+ghost use Rattle.model.specs.Language.Io.{Io};
+ghost use Rattle.model.specs.Machine.Steps.{codes_of};
+ghost use Rattle.model.specs.Language.Values.{Str, Int, Pat, TableOf};
+ghost use Rattle.model.specs.Language.Conversions.{Gives, conv, to_text, to_integer, to_pattern};
+ghost use Rattle.model.specs.Language.Prototypes.{array_prototype};
+ghost use Rattle.model.specs.Language.Aggregates.{new_object, array_op, copy_op, as_array};
+ghost use Rattle.model.specs.Language.Primitives.{returned, item_op, converted, or_fail};
 ghost use Rattle.model.specs.declared.run.Stop.TheVariants.{NoMemory};
 ghost use Rattle.world.specs.Values.{value_of};
 ghost use Rattle.world.specs.Held.{world_of};

@@ -1,8 +1,8 @@
 //! The primitives that associate variables with units.
 
 ghost use Rattle.std.specs.Prelude.{◌≡◌, OnErr};
-ghost use Rattle.model.specs.Io.{Io};
-ghost use Rattle.model.specs.Primitives.{returned, input_op, output_op, detach_op};
+ghost use Rattle.model.specs.Language.Io.{Io};
+ghost use Rattle.model.specs.Language.Primitives.{returned, input_op, output_op, detach_op};
 ghost use Rattle.model.specs.declared.run.Stop.TheVariants.{NoMemory};
 ghost use Rattle.world.specs.Values.{value_of};
 ghost use Rattle.world.specs.Held.{world_of};

@@ -2,11 +2,11 @@
 use Rattle.std.proofs.Common.{◌≡◌, ℕ, ℤ, false, length, List, [], ◌∷◌, ◌++◌, Option, Some, None, append_assoc, refl, sym, ap, ◌∙◌}
 use Rattle.std.specs.Prelude.{◌==◌, SomeIff, option_map}
 use Rattle.std.specs.Str.Parse.{signed_digits_value}
-use Rattle.model.specs.Trees.{Bytes}
-use Rattle.model.specs.Values.{Bounds}
-use Rattle.model.specs.Prototypes.{cut_at, split_at, all_bounds, bounds_of, with_bounds, as_some, written_integer}
-use Rattle.model.specs.Strings.{IsIntText}
-use Rattle.model.proofs.IntegerLaws.{reads_integers, refuses_other_texts}
+use Rattle.model.specs.Deck.Trees.{Bytes}
+use Rattle.model.specs.Language.Values.{Bounds}
+use Rattle.model.specs.Language.Prototypes.{cut_at, split_at, all_bounds, bounds_of, with_bounds, as_some, written_integer}
+use Rattle.model.specs.Language.Strings.{IsIntText}
+use Rattle.model.proofs.Language.Integers.{reads_integers, refuses_other_texts}
 use Rattle.prototypes.proofs.Cuts.{split_turn, split_last}
 
 -- dimensions, with others before them

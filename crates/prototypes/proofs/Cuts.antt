@@ -2,8 +2,8 @@
 use Rattle.std.proofs.Common.{◌≡◌, ℕ, zero, suc, ◌+◌, ◌-◌, ◌<◌, ◌≤◌, List, [], ◌∷◌, ◌++◌, length, take, drop, Bool, true, false, Option, Some, None, refl, sym, ap, ◌∙◌, arith, get_or, append_assoc}
 use Rattle.std.specs.Prelude.{option_map, ◌==◌, if◌then◌else◌}
 use Rattle.memchr.specs.Find.{IsFirstByte, is_byte}
-use Rattle.model.specs.Trees.{Bytes}
-use Rattle.model.specs.Prototypes.{Cut, cut_at, split_at, begun_with}
+use Rattle.model.specs.Deck.Trees.{Bytes}
+use Rattle.model.specs.Language.Prototypes.{Cut, cut_at, split_at, begun_with}
 use Rattle.std.proofs.lemmas.List.{take_rest, length-drop}
 
 abbrev longer : ℕ → Cut → Cut

@@ -5,8 +5,8 @@ use Rattle.std.specs.List.{list_any}
 use Rattle.std.proofs.lemmas.List.{take_more, take-append-drop}
 use Rattle.indexmap.specs.IndexSet.{insert_key}
 use Rattle.std.proofs.lemmas.Slice.Eq.{bytes_eq-Decides}
-use Rattle.model.specs.Trees.{Bytes}
-use Rattle.model.specs.Prototypes.{are_distinct}
+use Rattle.model.specs.Deck.Trees.{Bytes}
+use Rattle.model.specs.Language.Prototypes.{are_distinct}
 
 same_back : (x y : Bytes) → bytes_eq x y ≡ true → bytes_eq y x ≡ true
 same_back x y h = (bytes_eq-Decides y x).1 (sym ((bytes_eq-Decides x y).0 h))

@@ -1,7 +1,7 @@
 //! Prototypes of arrays.
 
 ghost use Rattle.std.specs.Prelude.{◌≡◌, IfOk, option_map};
-ghost use Rattle.model.specs.Prototypes.{all_bounds, bounds_from, bounds_of, split_at, written_integer};
+ghost use Rattle.model.specs.Language.Prototypes.{all_bounds, bounds_from, bounds_of, split_at, written_integer};
 
 use crate::parts::cut;
 use aggregates::Bounds;

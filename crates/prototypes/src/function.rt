@@ -1,7 +1,7 @@
 //! Prototypes of functions.
 
 ghost use Rattle.std.specs.Prelude.{◌≡◌, IfOk};
-ghost use Rattle.model.specs.Prototypes.{cut_at, function_cut, function_prototype, is_function, listed};
+ghost use Rattle.model.specs.Language.Prototypes.{cut_at, function_cut, function_prototype, is_function, listed};
 ghost use Rattle.prototypes.specs.Views.{names_of};
 
 use crate::listed::Names;
@@ -27,7 +27,7 @@ impl Drop for FunctionPrototype {
 
 impl Model for FunctionPrototype {
     ghost use Rattle.std.specs.Prelude.{◌<◌, length};
-    ghost use Rattle.model.specs.Prototypes as model;
+    ghost use Rattle.model.specs.Language.Prototypes as model;
     ghost use Rattle.prototypes.specs.Views.{function_of};
 
     ghost Value = { model.FunctionPrototype };

@@ -20,7 +20,7 @@ impl Drop for Names {
 
 impl Model for Names {
     ghost use Rattle.std.specs.Prelude.{List};
-    ghost use Rattle.model.specs.Trees.{Bytes};
+    ghost use Rattle.model.specs.Deck.Trees.{Bytes};
 
     ghost Value = { List Bytes };
 

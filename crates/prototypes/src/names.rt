@@ -2,7 +2,7 @@
 
 ghost use Rattle.std.specs.Prelude.{◌≡◌, ◌&&◌, IfOk};
 ghost use Rattle.std.specs.List.{list_all};
-ghost use Rattle.model.specs.Prototypes.{is_letter, is_name_byte, is_name, are_distinct, is_primitive};
+ghost use Rattle.model.specs.Language.Prototypes.{is_letter, is_name_byte, is_name, are_distinct, is_primitive};
 
 use indexmap::IndexSet;
 use model::PrimId;

@@ -1,7 +1,7 @@
 //! Parts of a text.
 
 ghost use Rattle.std.specs.Prelude.{◌≡◌, ◌++◌, ◌∷◌, [], OnOk};
-ghost use Rattle.model.specs.Prototypes.{split_at, listed};
+ghost use Rattle.model.specs.Language.Prototypes.{split_at, listed};
 ghost use Rattle.prototypes.specs.Views.{IsCut};
 
 use memchr::memchr;

@@ -3,18 +3,18 @@ use Rattle.std.proofs.Common.{◌≡◌, ℕ, List, [], ◌∷◌, Option, Resul
 use Rattle.std.specs.Prelude.{OnOk}
 use Rattle.model.specs.declared.image.Image.{Image}
 use Rattle.model.specs.declared.instr.Instr.TheVariants as op
-use Rattle.model.specs.Io.{Io}
-use Rattle.model.specs.Conversions.{Op}
-use Rattle.model.specs.Operators.{assign_op, fetch_op, splice_op}
-use Rattle.model.specs.Machine as m
-use Rattle.model.specs.Machine.{MVal, MW, OV, Run, after_op, pop, pop_name, pop_span}
+use Rattle.model.specs.Language.Io.{Io}
+use Rattle.model.specs.Language.Conversions.{Op}
+use Rattle.model.specs.Language.Operators.{assign_op, fetch_op, splice_op}
+use Rattle.model.specs.Machine.Steps as m
+use Rattle.model.specs.Machine.Steps.{MVal, MW, OV, Run, after_op, pop, pop_name, pop_span}
 use Rattle.pattern_compiler.specs.View.{name_of}
 use Rattle.pattern_compiler.specs.declared.instr.Name.{Name}
 use Rattle.frames.specs.declared.operand.Operand.{Operand}
 use Rattle.frames.specs.declared.operand.Operand.TheVariants as operand
 use Rattle.frames.specs.View.{operands_of, handlers_of}
-use Rattle.world.specs.Answers.{Answers, AnswersOrFails}
-use Rattle.world.specs.Held.{Held, world_of}
+use Rattle.world.specs.Answers.{AnswersAs, AnswersOrFails}
+use Rattle.world.specs.Held.{WorldView, world_of}
 use Rattle.world.specs.Values.{value_of}
 use Rattle.world.specs.declared.value.Value.{Value}
 use Rattle.world.specs.declared.world_operators.Span.{Span}
@@ -22,20 +22,20 @@ use Rattle.world.specs.declared.fault.Fault.{Fault}
 use Rattle.statement_machine.specs.Held.{IsSound, Left, Meets, after}
 use Rattle.statement_machine.specs.declared.state.State.{State}
 use Rattle.statement_machine.specs.declared.status.Halt.{Halt}
-use Rattle.machine_laws.specs.Standing.{StateStands}
+use Rattle.model.specs.Machine.Standing.{StateStands}
 use Rattle.statement_machine.proofs.Flowing.{seen, fetch_stands, fetch_above_stands, assign_stands, splice_stands}
 use Rattle.statement_machine.proofs.Operations.{some_answer, some_answer_or_failure}
 use Rattle.statement_machine.proofs.Telling.{no_records}
 
 -- on from these operands and handlers after any operation that has this answer
-abbrev pub Goes : (q : ℕ) → Result (record {}) Fault → Held → List m.Operand → List m.Handler → Result (Unit {0}) Halt → State → Type 0
-Goes q answer mid ops hs r new = (io : Io) (o : Op MW (record {})) → Answers answer (world_of mid io) o → Left r new io (after_op o hs ops [] (λ u w. Run q ops hs [] w))
+abbrev pub Goes : (q : ℕ) → Result (record {}) Fault → WorldView → List m.Operand → List m.Handler → Result (Unit {0}) Halt → State → Type 0
+Goes q answer mid ops hs r new = (io : Io) (o : Op MW (record {})) → AnswersAs answer (world_of mid io) o → Left r new io (after_op o hs ops [] (λ u w. Run q ops hs [] w))
 
 -- on with the value of any operation that has this answer
-abbrev pub GoesWith : (q : ℕ) → Result (Option MVal) Fault → Held → List m.Operand → List m.Handler → Result (Unit {0}) Halt → State → Type 0
+abbrev pub GoesWith : (q : ℕ) → Result (Option MVal) Fault → WorldView → List m.Operand → List m.Handler → Result (Unit {0}) Halt → State → Type 0
 GoesWith q answer mid ops hs r new = (io : Io) (o : Op MW MVal) → AnswersOrFails answer (world_of mid io) o → Left r new io (after_op o hs ops [] (λ v w. Run q (OV v ∷ ops) hs [] w))
 
-module _ (im : Image) (q : ℕ) (s new : State) (mid : Held) (r : Result (Unit {0}) Halt) (rest : List Operand) (n : Name) where
+module _ (im : Image) (q : ℕ) (s new : State) (mid : WorldView) (r : Result (Unit {0}) Halt) (rest : List Operand) (n : Name) where
   abbrev hs : List m.Handler
   hs = handlers_of s.handlers
 
@@ -73,7 +73,7 @@ module _ (im : Image) (q : ℕ) (s new : State) (mid : Held) (r : Result (Unit {
 
   pub assigned : (v : Value) (answer : Result (record {}) Fault) → s.operands ≡ operand.Value v ∷ operand.Name n ∷ rest
       → Goes q answer mid (operands_of rest) hs r new
-      → (io io' : Io) → Answers answer (world_of mid io') (assign_op (name_of n) (value_of v) (world_of s.world io)) → Left r new io' (after im op.Assign q s io)
+      → (io io' : Io) → AnswersAs answer (world_of mid io') (assign_op (name_of n) (value_of v) (world_of s.world io)) → Left r new io' (after im op.Assign q s io)
   assigned v answer e g io io' x = rw e (g io' (assign_op (name_of n) (value_of v) (world_of s.world io)) x)
 
   pub assign_sound : (v : Value) (answer : Result (record {}) Fault) → Meets im op.Assign q s → s.operands ≡ operand.Value v ∷ operand.Name n ∷ rest → Goes q answer mid (operands_of rest) hs r new → OnOk r (IsSound im new)
@@ -84,7 +84,7 @@ module _ (im : Image) (q : ℕ) (s new : State) (mid : Held) (r : Result (Unit {
 
   pub spliced : (v : Value) (d : Span) (answer : Result (record {}) Fault) → s.operands ≡ operand.Value v ∷ operand.Span d ∷ operand.Name n ∷ rest
       → Goes q answer mid (operands_of rest) hs r new
-      → (io io' : Io) → Answers answer (world_of mid io') (splice_op (name_of n) d.subject d.start d.end (value_of v) (world_of s.world io)) → Left r new io' (after im op.Splice q s io)
+      → (io io' : Io) → AnswersAs answer (world_of mid io') (splice_op (name_of n) d.subject d.start d.end (value_of v) (world_of s.world io)) → Left r new io' (after im op.Splice q s io)
   spliced v d answer e g io io' x = rw e (g io' (splice_op (name_of n) d.subject d.start d.end (value_of v) (world_of s.world io)) x)
 
   pub splice_sound : (v : Value) (d : Span) (answer : Result (record {}) Fault) → Meets im op.Splice q s → s.operands ≡ operand.Value v ∷ operand.Span d ∷ operand.Name n ∷ rest → Goes q answer mid (operands_of rest) hs r new → OnOk r (IsSound im new)

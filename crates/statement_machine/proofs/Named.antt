@@ -4,14 +4,14 @@ use Rattle.std.specs.Prelude.{option_map}
 use Rattle.std.proofs.lemmas.List.{length-reverse}
 use Rattle.model.specs.declared.image.Image.{Image}
 use Rattle.model.specs.declared.instr.Instr.TheVariants as op
-use Rattle.model.specs.Flow.{Kind, V}
-use Rattle.model.specs.Io.{Io}
-use Rattle.model.specs.Aggregates.{element_op}
-use Rattle.model.specs.Conversions.{Op}
-use Rattle.model.specs.Target as target
-use Rattle.model.specs.Machine as m
-use Rattle.model.specs.Machine.{MVal, MW, ON, Run, fail_to, pop, pop_many, put_name}
-use Rattle.model.specs.Modules.{module_of}
+use Rattle.model.specs.Module.Flow.{OperandKind, V}
+use Rattle.model.specs.Language.Io.{Io}
+use Rattle.model.specs.Language.Aggregates.{element_op}
+use Rattle.model.specs.Language.Conversions.{Op}
+use Rattle.model.specs.Deck.Target as target
+use Rattle.model.specs.Machine.Steps as m
+use Rattle.model.specs.Machine.Steps.{MVal, MW, ON, Run, fail_to, pop, pop_many, put_name}
+use Rattle.model.specs.Module.Images.{module_of}
 use Rattle.frames.specs.View.{operands_of, handlers_of}
 use Rattle.frames.specs.Kinds.{AreOnTop, TopIs, kinds_of}
 use Rattle.frames.specs.declared.operand.Operand.{Operand}
@@ -31,7 +31,7 @@ use Rattle.statement_machine.specs.declared.status.Halt.{Halt}
 
 -- ---- the operands
 
-later : (n : ℕ) (below : List Kind) → V ∷ (replicate n V ++ below) ≡ replicate n V ++ V ∷ below
+later : (n : ℕ) (below : List OperandKind) → V ∷ (replicate n V ++ below) ≡ replicate n V ++ V ∷ below
 later zero below = refl
 later (suc n) below = ap (λ ks. V ∷ ks) (later n below)
 
@@ -43,7 +43,7 @@ values_kinds : (vs : List Value) (ops : List Operand) → kinds_of (map operand.
 values_kinds [] ops = refl
 values_kinds (v ∷ vs) ops = ap (λ ks. V ∷ ks) (values_kinds vs ops)
 
-rest_same : (n : ℕ) (ks ls : List Kind) → replicate n V ++ ks ≡ replicate n V ++ ls → ks ≡ ls
+rest_same : (n : ℕ) (ks ls : List OperandKind) → replicate n V ++ ks ≡ replicate n V ++ ls → ks ≡ ls
 rest_same zero ks ls e = e
 rest_same (suc n) ks ls e = rest_same n ks ls (ap (drop 1) e)
 

@@ -1,8 +1,8 @@
 -- Names of elements.
 use Rattle.std.specs.Prelude.{◌≡◌, ℕ, [], ◌∷◌, Option, Some, None, Result, Ok, Err}
-use Rattle.model.specs.Io.{Io}
-use Rattle.model.specs.Machine as m
-use Rattle.model.specs.Machine.{ON, Run, fail_to}
+use Rattle.model.specs.Language.Io.{Io}
+use Rattle.model.specs.Machine.Steps as m
+use Rattle.model.specs.Machine.Steps.{ON, Run, fail_to}
 use Rattle.frames.specs.View.{operands_of, handlers_of}
 use Rattle.pattern_compiler.specs.View.{name_of}
 use Rattle.pattern_compiler.specs.declared.instr.Name.{Name}

@@ -1,8 +1,8 @@
 //! Names of elements of arrays and tables.
 
 ghost use Rattle.std.specs.Prelude.{◌≡◌, ℕ};
-ghost use Rattle.model.specs.Io.{Io};
-ghost use Rattle.model.specs.Flow.{takes};
+ghost use Rattle.model.specs.Language.Io.{Io};
+ghost use Rattle.model.specs.Module.Flow.{takes};
 ghost use Rattle.model.specs.declared.image.Image.{Image};
 ghost use Rattle.model.specs.declared.run.Stop.TheVariants.{NoMemory};
 ghost use Rattle.frames.specs.Kinds.{AreOnTop};

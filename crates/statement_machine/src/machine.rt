@@ -1,12 +1,12 @@
 //! A run of a module, up to a bound on its steps.
 
 ghost use Rattle.std.specs.Prelude.{◌≡◌, Option, Some, None, IfOk};
-ghost use Rattle.model.specs.Io.{Io};
-ghost use Rattle.model.specs.Agreement.{first_m};
-ghost use Rattle.model.specs.PrintedBefore.{after_s};
-ghost use Rattle.model.specs.Machine as m;
-ghost use Rattle.model.specs.Machine.{begun, steps};
-ghost use Rattle.model.specs.Modules.{module_of};
+ghost use Rattle.model.specs.Language.Io.{Io};
+ghost use Rattle.model.specs.Laws.Agreement.{first_m};
+ghost use Rattle.model.specs.Laws.PrintedBefore.{after_s};
+ghost use Rattle.model.specs.Machine.Steps as m;
+ghost use Rattle.model.specs.Machine.Steps.{begun, steps};
+ghost use Rattle.model.specs.Module.Images.{module_of};
 ghost use Rattle.statement_machine.specs.Runs.{Holds, IsRun};
 ghost use Rattle.statement_machine.specs.Stopped.{IfRan, ending_of, status_at, stop_of_run, stopped_now};
 ghost use Rattle.unit_io.specs.Service.{Served};
@@ -29,13 +29,13 @@ pub struct Machine<'m> {
 }
 
 impl<'m> Model for Machine<'m> {
-    ghost use Rattle.statement_machine.specs.Runs.{Held, IsGoing, RunStands};
+    ghost use Rattle.statement_machine.specs.Runs.{MachineView, IsGoing, LacksNothing};
 
-    ghost Value = { Held };
+    ghost Value = { MachineView };
 
     ghost view = { λ m. record { image = m.program.now; run = m.run; halt = m.halt } };
 
-    ghost invariant = { λ m. IsGoing m.halt (RunStands m.program.now m.run) };
+    ghost invariant = { λ m. IsGoing m.halt (LacksNothing m.program.now m.run) };
 }
 
 impl<'m> Machine<'m> {

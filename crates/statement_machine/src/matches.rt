@@ -5,18 +5,18 @@ ghost use Rattle.frames.specs.Kinds.{kinds_of};
 ghost use Rattle.frames.specs.Matches.{matching_of};
 ghost use Rattle.frames.specs.View.{operands_of, handlers_of};
 ghost use Rattle.match_machine.specs.View.{pending_of, told_of};
-ghost use Rattle.model.specs.Io.{Io};
-ghost use Rattle.model.specs.Machine.{on_event};
-ghost use Rattle.model.specs.Modules.{module_of};
-ghost use Rattle.model.specs.Operators.{assign_all, told_value};
-ghost use Rattle.model.specs.Pattern.{Matched};
+ghost use Rattle.model.specs.Language.Io.{Io};
+ghost use Rattle.model.specs.Machine.Steps.{on_event};
+ghost use Rattle.model.specs.Module.Images.{module_of};
+ghost use Rattle.model.specs.Language.Operators.{assign_all, told_value};
+ghost use Rattle.model.specs.Pattern.Patterns.{Matched};
 ghost use Rattle.model.specs.declared.image.Image.{Image};
 ghost use Rattle.model.specs.declared.run.Stop.TheVariants.{NoMemory};
 ghost use Rattle.statement_machine.specs.Held.{Left};
 ghost use Rattle.statement_machine.specs.Runs.{found_kinds};
 ghost use Rattle.statement_machine.specs.Stopped.{halted_by};
 ghost use Rattle.unit_io.specs.Service.{Served};
-ghost use Rattle.world.specs.Answers.{Answers, done, stopped_by};
+ghost use Rattle.world.specs.Answers.{AnswersAs, done, stopped_by};
 ghost use Rattle.world.specs.Held.{world_of};
 ghost use Rattle.world.specs.Values.{value_of};
 
@@ -36,7 +36,7 @@ fn assign_all<U: Units>(
     pending: &[Assignment],
 ) -> Result<(), Fault>
     ensures served { Served U.Units (stopped_by result) units.old units.new (λ io io'.
-        Answers (done result) (world_of world.new io') (assign_all (pending_of pending.now) (world_of world.old io))) }
+        AnswersAs (done result) (world_of world.new io') (assign_all (pending_of pending.now) (world_of world.old io))) }
 {
     for assignment in pending {
         let value = Value::String(assignment.value.clone()?);

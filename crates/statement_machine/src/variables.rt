@@ -1,14 +1,14 @@
 //! Instructions that may read from a unit or write to one, by a variable that has it.
 
 ghost use Rattle.std.specs.Prelude.{ℕ, ◌∷◌, [], OnOk, option_map};
-ghost use Rattle.model.specs.Conversions.{Op};
-ghost use Rattle.model.specs.Flow.{V, N, R};
-ghost use Rattle.model.specs.Io.{Io};
-ghost use Rattle.model.specs.Machine.{MVal, MW, OV, Run, after_op};
+ghost use Rattle.model.specs.Language.Conversions.{Op};
+ghost use Rattle.model.specs.Module.Flow.{V, N, R};
+ghost use Rattle.model.specs.Language.Io.{Io};
+ghost use Rattle.model.specs.Machine.Steps.{MVal, MW, OV, Run, after_op};
 ghost use Rattle.model.specs.declared.image.Image.{Image};
 ghost use Rattle.frames.specs.Kinds.{AreOnTop};
 ghost use Rattle.frames.specs.View.{operands_of, handlers_of};
-ghost use Rattle.world.specs.Answers.{Answers, AnswersOrFails, answer_map, done, stopped_by};
+ghost use Rattle.world.specs.Answers.{AnswersAs, AnswersOrFails, answer_map, done, stopped_by};
 ghost use Rattle.unit_io.specs.Service.{KeepsCounts, Served};
 ghost use Rattle.world.specs.Held.{world_of};
 ghost use Rattle.world.specs.Values.{value_of};
@@ -25,7 +25,7 @@ use world::{Fault, Value};
 impl State {
     // On after an operation that gives nothing and may be an error.
     fn went(&mut self, answer: Result<(), Fault>, next: u32) -> Result<(), Halt>
-        ensures left { (io : Io) (o : Op MW (record {})) → Answers (done answer) (world_of self.old.world io) o →
+        ensures left { (io : Io) (o : Op MW (record {})) → AnswersAs (done answer) (world_of self.old.world io) o →
             Left result self.new io (after_op o (handlers_of self.old.handlers) (operands_of self.old.operands) [] (λ _ w. Run next (operands_of self.old.operands) (handlers_of self.old.handlers) [] w)) }
         ensures counts { (old new : ℕ → ℕ) → KeepsCounts (stopped_by answer) old new → KeepsCounts (halted_by result) old new }
     {

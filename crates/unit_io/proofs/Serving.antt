@@ -1,8 +1,8 @@
 -- What units did for one call carries over to the call around it.
 use Rattle.std.proofs.Common.{ℕ, ◌∙◌, refl, subst, Option, Some, None}
-use Rattle.model.specs.Io.{Io}
-use Rattle.model.specs.Told.{IfTold}
-use Rattle.model.specs.Units.{IsCounted}
+use Rattle.model.specs.Language.Io.{Io}
+use Rattle.model.specs.Language.Told.{IfTold}
+use Rattle.model.specs.Language.Units.{IsCounted}
 use Rattle.model.specs.declared.run.Stop.{Stop}
 use Rattle.model.specs.declared.run.Stop.TheVariants as stop
 use Rattle.unit_io.specs.Counts.{Same}

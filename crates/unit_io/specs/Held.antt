@@ -1,8 +1,8 @@
 -- What units in memory hold.
 use Rattle.std.specs.Prelude.{◌≡◌, ℕ, ◌+◌, List, [], ◌∷◌, ◌++◌, Option, Some, None, length, map, nat_eq, ◌⊎◌, set, if◌then◌else◌}
-use Rattle.model.specs.Io.{Io}
+use Rattle.model.specs.Language.Io.{Io}
 use Rattle.unit_io.specs.Counts.{count_of, one_more}
-use Rattle.model.specs.Units.{bytes_on, first_of, rest_of}
+use Rattle.model.specs.Language.Units.{bytes_on, first_of, rest_of}
 use Rattle.model.specs.declared.run.UnitFault.{UnitFault}
 use Rattle.model.specs.declared.run.UnitFault.TheVariants.{NotOpen, Memory}
 use Rattle.unit_io.specs.declared.mem.OpenUnit.{OpenUnit}
@@ -10,7 +10,7 @@ use Rattle.unit_io.specs.declared.mem.Side.{Side}
 use Rattle.unit_io.specs.declared.mem.Side.TheVariants.{Input, Output}
 use Rattle.unit_io.specs.declared.mem.Written.{Written}
 
-pub record Held : Type 0 where
+pub record UnitsView : Type 0 where
   -- in the order of opening
   pub opened : List OpenUnit
   pub printed : List Written
@@ -29,10 +29,10 @@ abbrev pub printed_of : List Written → List (record { unit : ℕ; bytes : List
 printed_of ws = map (λ w. record { unit = w.unit; bytes = w.bytes }) ws
 
 -- what they tell
-abbrev pub io_of : Held → Io
+abbrev pub io_of : UnitsView → Io
 io_of h = record { left = λ unit. left_by (side_at unit h.opened); printed = printed_of h.printed }
 
-abbrev pub failures_of : Held → ℕ → ℕ
+abbrev pub failures_of : UnitsView → ℕ → ℕ
 failures_of h unit = count_of h.failures unit
 
 abbrev pub IsReadable : Option Side → Type 0
@@ -61,21 +61,21 @@ with_side unit side (o ∷ os) = if nat_eq unit o.unit then record { unit = o.un
 -- ---- what calls do
 
 -- one more unit was opened
-abbrev pub with_unit : ℕ → Side → Held → Held
+abbrev pub with_unit : ℕ → Side → UnitsView → UnitsView
 with_unit unit side h = record h { opened = h.opened ++ record { unit = unit; side = side } ∷ [] }
 
 -- the first record left on the unit was taken
-abbrev pub IsRead : ℕ → Option (List ℕ) → Held → Held → Type 0
+abbrev pub IsRead : ℕ → Option (List ℕ) → UnitsView → UnitsView → Type 0
 IsRead unit got old new =
     (records : List (List ℕ)) × (side_at unit old.opened ≡ Some (Input records)) × (got ≡ first_of records) × (new ≡ record old { opened = with_side unit (Input (rest_of records)) old.opened })
 
 -- the record was written at the end
-abbrev pub IsWritten : ℕ → List ℕ → Held → Held → Type 0
+abbrev pub IsWritten : ℕ → List ℕ → UnitsView → UnitsView → Type 0
 IsWritten unit bytes old new =
     (before : List ℕ) × (side_at unit old.opened ≡ Some (Output before)) × (new ≡ record old { opened = with_side unit (Output (before ++ bytes ++ 10 ∷ [])) old.opened; printed = old.printed ++ record { unit = unit; bytes = bytes } ∷ [] })
 
 -- a call was refused
-abbrev pub refused : UnitFault → ℕ → Held → Held
+abbrev pub refused : UnitFault → ℕ → UnitsView → UnitsView
 refused NotOpen unit h = record h { failures = set h.failures unit (one_more (failures_of h unit)) }
 refused fault unit h = h
 
@@ -88,10 +88,10 @@ abbrev pub written_by : Option Side → List ℕ → Option (List ℕ)
 written_by (Some (Output bytes)) written = Some written
 written_by _ written = None
 
-abbrev pub written_to : ℕ → Held → Option (List ℕ)
+abbrev pub written_to : ℕ → UnitsView → Option (List ℕ)
 written_to unit h = written_by (side_at unit h.opened) (bytes_on unit (printed_of h.printed))
 
 -- each unit keeps just what was printed to it
-pub record IsKept (h : Held) : Type 0 where
+pub record IsKept (h : UnitsView) : Type 0 where
   pub long : length h.failures ≡ 256
   pub kept : (unit : ℕ) → output_of (side_at unit h.opened) ≡ bytes_on unit (printed_of h.printed)

@@ -1,8 +1,8 @@
 -- What units did for a call.
 use Rattle.std.specs.Prelude.{◌≢◌, ℕ, Option, Some, None}
-use Rattle.model.specs.Io.{Io}
-use Rattle.model.specs.Told.{IfTold}
-use Rattle.model.specs.Units.{IsCounted}
+use Rattle.model.specs.Language.Io.{Io}
+use Rattle.model.specs.Language.Told.{IfTold}
+use Rattle.model.specs.Language.Units.{IsCounted}
 use Rattle.model.specs.declared.run.Stop.{Stop}
 use Rattle.model.specs.declared.run.Stop.TheVariants as stop
 use Rattle.model.specs.declared.run.UnitFault.TheVariants as unit

@@ -2,7 +2,7 @@
 
 ghost use Rattle.std.specs.Prelude.{◌≡◌, ◌↔◌, ◌≤◌, ◌⊎◌, ℕ, [], ◌∷◌, ◌++◌, Some, None, Err, replicate};
 ghost use Rattle.std.specs.Prelude.{option_copied, set, IfOk, OnOk, IfErr, OnErr};
-ghost use Rattle.model.specs.Units.{records_of, Reads, Writes, IsCounted};
+ghost use Rattle.model.specs.Language.Units.{records_of, Reads, Writes, IsCounted};
 ghost use Rattle.unit_io.specs.Counts.{Same, SameBut, IfNoneFailed};
 ghost use Rattle.unit_io.specs.Held.{side_at, output_of, place_of, written_to, io_of, failures_of, refused};
 ghost use Rattle.unit_io.specs.Held.{IsRead, IsWritten, IsReadable, IsWritable, IsOfMemUnits, with_unit};
@@ -48,9 +48,9 @@ pub struct MemUnits {
 }
 
 impl Model for MemUnits {
-    ghost use Rattle.unit_io.specs.Held.{Held, IsKept};
+    ghost use Rattle.unit_io.specs.Held.{UnitsView, IsKept};
 
-    ghost Value = { Held };
+    ghost Value = { UnitsView };
 
     ghost view = { λ m. record {
       opened = m.opened.items;

@@ -4,23 +4,23 @@ use Rattle.std.specs.Prelude.{slice_get, option_map, if◌then◌else◌}
 use Rattle.std.proofs.lemmas.Option.{slice_get-map}
 use Rattle.std.proofs.lemmas.List.{length-map, map-append}
 use Rattle.model.specs.declared.run.ErrorCode.TheVariants as error
-use Rattle.model.specs.Trees.{Bytes}
-use Rattle.model.specs.Io.{Io}
-use Rattle.model.specs.Keywords.{Keys}
-use Rattle.model.specs.Values.{Obj, Key, IntegerAt, StringAt, Bounds, Entry, Object, ArrayOf, TableOf, RecordOf, set_objects}
-use Rattle.model.specs.Conversions.{Op, Gives, Refuses, Faults, is_null}
-use Rattle.model.specs.Prototypes.{passing, are_bounds, elements_in}
-use Rattle.model.specs.Aggregates.{row_count, rows, pairs, new_object, array_op, copy_of, copy_op, key_value, rows_array, table_array, as_array}
-use Rattle.model.specs.Machine.{MVal, MW}
+use Rattle.model.specs.Deck.Trees.{Bytes}
+use Rattle.model.specs.Language.Io.{Io}
+use Rattle.model.specs.Language.Keywords.{Keys}
+use Rattle.model.specs.Language.Values.{Obj, Key, IntegerAt, StringAt, Bounds, Entry, Object, ArrayOf, TableOf, RecordOf, set_objects}
+use Rattle.model.specs.Language.Conversions.{Op, Gives, Refuses, Faults, is_null}
+use Rattle.model.specs.Language.Prototypes.{passing, are_bounds, elements_in}
+use Rattle.model.specs.Language.Aggregates.{row_count, rows, pairs, new_object, array_op, copy_of, copy_op, value_of_key, rows_array, table_array, as_array}
+use Rattle.model.specs.Machine.Steps.{MVal, MW}
 use Rattle.aggregates.specs.Made as heap
 use Rattle.aggregates.specs.Made.{filled, copied, rows_in, number, with_object}
 use Rattle.world.specs.Values.{value_of, held_key}
 use Rattle.world.specs.Objects.{entry_map, object_map}
-use Rattle.world.specs.Held.{Held, world_of}
+use Rattle.world.specs.Held.{WorldView, world_of}
 use Rattle.world.specs.declared.value.Value.{Value}
 use Rattle.world.specs.declared.world.Variable.{Variable}
 
-pub made : (vs : List (Bytes × Variable)) (os new : List (Object Value)) (ks : Keys) (h : Held) (io : Io) (o : Object Value) (n : ℕ)
+pub made : (vs : List (Bytes × Variable)) (os new : List (Object Value)) (ks : Keys) (h : WorldView) (io : Io) (o : Object Value) (n : ℕ)
     → record { variables = vs; objects = os; keys = ks } ≡ h → n ≡ length os → new ≡ os ++ o ∷ []
     → new_object (object_map value_of o) (world_of h io) ≡ Gives (Obj n) (world_of (record { variables = vs; objects = new; keys = ks }) io)
 made vs os new ks h io o n is number more =
@@ -34,7 +34,7 @@ abbrev pub made_or : (MW → Op MW MVal) → Option (Object MVal) → MW → Op 
 made_or other None w = other w
 made_or other (Some o) w = new_object o w
 
-module _ (vs : List (Bytes × Variable)) (os new : List (Object Value)) (ks : Keys) (h : Held) (io : Io) (n : Option ℕ) (r : Option (Object Value)) (other : MW → Op MW MVal)
+module _ (vs : List (Bytes × Variable)) (os new : List (Object Value)) (ks : Keys) (h : WorldView) (io : Io) (n : Option ℕ) (r : Option (Object Value)) (other : MW → Op MW MVal)
     (is : record { variables = vs; objects = os; keys = ks } ≡ h) (at : n ≡ number r os) (more : new ≡ with_object r os) where
   was_made : (j : ℕ) → n ≡ Some j → made_or other (option_map (object_map value_of) r) (world_of h io) ≡ Gives (Obj j) (world_of (record { variables = vs; objects = new; keys = ks }) io)
   was_made j some = by r (sym at ∙ some) more
@@ -63,7 +63,7 @@ array_is bs v w = by (are_bounds bs)
     by true = ap (λ xs. new_object (ArrayOf bs xs) w) (sym (same_everywhere (elements_in bs) v))
     by false = refl
 
-module _ (vs : List (Bytes × Variable)) (os new : List (Object Value)) (ks : Keys) (h : Held) (io : Io) (n : Option ℕ) (bs : List Bounds) (v : Value)
+module _ (vs : List (Bytes × Variable)) (os new : List (Object Value)) (ks : Keys) (h : WorldView) (io : Io) (n : Option ℕ) (bs : List Bounds) (v : Value)
     (is : record { variables = vs; objects = os; keys = ks } ≡ h) (at : n ≡ number (filled bs v) os) (more : new ≡ with_object (filled bs v) os) where
   pub was_filled : (j : ℕ) → n ≡ Some j → array_op (passing are_bounds (Some bs)) (value_of v) (world_of h io) ≡ Gives (Obj j) (world_of (record { variables = vs; objects = new; keys = ks }) io)
   was_filled j some = array_is bs v (world_of h io) ∙ was_made vs os new ks h io n (filled bs v) (Faults error.BadArray) is at more j some
@@ -77,10 +77,10 @@ copy_is (Some (TableOf es)) w = refl
 copy_is (Some (RecordOf t fs vs)) w = refl
 
 -- an object of the world, seen as the definitions see it
-looked : (vs : List (Bytes × Variable)) (os : List (Object Value)) (ks : Keys) (h : Held) (io : Io) (k : ℕ) → record { variables = vs; objects = os; keys = ks } ≡ h → slice_get (world_of h io).objects k ≡ option_map (object_map value_of) (slice_get os k)
+looked : (vs : List (Bytes × Variable)) (os : List (Object Value)) (ks : Keys) (h : WorldView) (io : Io) (k : ℕ) → record { variables = vs; objects = os; keys = ks } ≡ h → slice_get (world_of h io).objects k ≡ option_map (object_map value_of) (slice_get os k)
 looked vs os ks h io k is = slice_get-map (object_map value_of) h.objects k ∙ ap (λ z. option_map (object_map value_of) (slice_get z.objects k)) (sym is)
 
-module _ (vs : List (Bytes × Variable)) (os new : List (Object Value)) (ks : Keys) (h : Held) (io : Io) (k : ℕ) (n : Option ℕ)
+module _ (vs : List (Bytes × Variable)) (os new : List (Object Value)) (ks : Keys) (h : WorldView) (io : Io) (k : ℕ) (n : Option ℕ)
     (is : record { variables = vs; objects = os; keys = ks } ≡ h) (at : n ≡ number (copied (slice_get os k)) os) (more : new ≡ with_object (copied (slice_get os k)) os) where
   copying : copy_op (Obj k) (world_of h io) ≡ made_or (Faults error.WrongType) (option_map (object_map value_of) (copied (slice_get os k))) (world_of h io)
   copying = ap (λ o. copy_of o (world_of h io)) (looked vs os ks h io k is) ∙ copy_is (slice_get os k) (world_of h io)
@@ -97,16 +97,16 @@ count_seen : (es : List (Entry Value)) → row_count is_null (map (entry_map val
 count_seen [] = refl
 count_seen (e ∷ es) = ap (λ n. if null_here e.value then n else n + 1) (count_seen es)
 
-key_seen : (k : Key) → value_of (held_key k) ≡ key_value k
+key_seen : (k : Key) → value_of (held_key k) ≡ value_of_key k
 key_seen (IntegerAt z) = refl
 key_seen (StringAt s) = refl
 
-rows_seen : (es : List (Entry Value)) → rows is_null key_value (map (entry_map value_of) es) ≡ map value_of (rows null_here held_key es)
+rows_seen : (es : List (Entry Value)) → rows is_null value_of_key (map (entry_map value_of) es) ≡ map value_of (rows null_here held_key es)
 rows_seen [] = refl
 rows_seen (e ∷ es) = by (null_here e.value) (rows_seen es)
   where
-    by : (b : Bool) → rows is_null key_value (map (entry_map value_of) es) ≡ map value_of (rows null_here held_key es)
-        → (if b then rows is_null key_value (map (entry_map value_of) es) else key_value e.key ∷ value_of e.value ∷ rows is_null key_value (map (entry_map value_of) es))
+    by : (b : Bool) → rows is_null value_of_key (map (entry_map value_of) es) ≡ map value_of (rows null_here held_key es)
+        → (if b then rows is_null value_of_key (map (entry_map value_of) es) else value_of_key e.key ∷ value_of e.value ∷ rows is_null value_of_key (map (entry_map value_of) es))
         ≡ map value_of (if b then rows null_here held_key es else held_key e.key ∷ e.value ∷ rows null_here held_key es)
     by true h = h
     by false h = λ i. sym (key_seen e.key) i ∷ value_of e.value ∷ h i
@@ -120,7 +120,7 @@ rows_object es = ArrayOf (pairs (row_count null_here es)) (rows null_here held_k
 
 rows_are : (es : List (Entry Value)) (w : MW) → rows_array (map (entry_map value_of) es) w ≡ rows_by (nat_eq (row_count null_here es) 0) (nat_lt 524288 (row_count null_here es)) (object_map value_of (rows_object es)) w
 rows_are es w =
-    ap (λ n. rows_by (nat_eq n 0) (nat_lt 524288 n) (ArrayOf (pairs n) (rows is_null key_value (map (entry_map value_of) es))) w) (count_seen es)
+    ap (λ n. rows_by (nat_eq n 0) (nat_lt 524288 n) (ArrayOf (pairs n) (rows is_null value_of_key (map (entry_map value_of) es))) w) (count_seen es)
     ∙ ap (λ xs. rows_by (nat_eq (row_count null_here es) 0) (nat_lt 524288 (row_count null_here es)) (ArrayOf (pairs (row_count null_here es)) xs) w) (rows_seen es)
 
 no_more : (n m : ℕ) → m ≤ n → nat_lt n m ≡ false
@@ -167,12 +167,12 @@ many_rows (Some (TableOf es)) w lt =
     ∙ ap (λ b. rows_by (nat_eq (row_count null_here es) 0) b (object_map value_of (rows_object es)) w) (more_than 524288 (row_count null_here es) lt)
     ∙ ap (λ b. rows_by b true (object_map value_of (rows_object es)) w) (some_of (row_count null_here es) lt)
 
-pub too_many_rows : (vs : List (Bytes × Variable)) (os : List (Object Value)) (ks : Keys) (h : Held) (io : Io) (k c : ℕ) → record { variables = vs; objects = os; keys = ks } ≡ h
+pub too_many_rows : (vs : List (Bytes × Variable)) (os : List (Object Value)) (ks : Keys) (h : WorldView) (io : Io) (k c : ℕ) → record { variables = vs; objects = os; keys = ks } ≡ h
     → c ≡ rows_in null_here (slice_get os k) → 524288 < c → as_array (Obj k) (world_of h io) ≡ Faults error.BadArray (world_of h io)
 too_many_rows vs os ks h io k c is count lt =
     ap (λ o. table_array o (world_of h io)) (looked vs os ks h io k is) ∙ many_rows (slice_get os k) (world_of h io) (subst (λ n. 524288 < n) count lt)
 
-module _ (vs : List (Bytes × Variable)) (os new : List (Object Value)) (ks : Keys) (h : Held) (io : Io) (k c : ℕ) (n : Option ℕ)
+module _ (vs : List (Bytes × Variable)) (os new : List (Object Value)) (ks : Keys) (h : WorldView) (io : Io) (k c : ℕ) (n : Option ℕ)
     (is : record { variables = vs; objects = os; keys = ks } ≡ h) (count : c ≡ rows_in null_here (slice_get os k)) (few : c ≤ 524288)
     (at : n ≡ number (heap.rows_array null_here held_key (slice_get os k)) os) (more : new ≡ with_object (heap.rows_array null_here held_key (slice_get os k)) os) where
   listing : as_array (Obj k) (world_of h io) ≡ made_or Refuses (option_map (object_map value_of) (heap.rows_array null_here held_key (slice_get os k))) (world_of h io)

@@ -6,19 +6,19 @@ use Rattle.std.proofs.lemmas.List.{take_more_set}
 use Rattle.std.proofs.lemmas.Result.{err_from_is_err_and}
 use Rattle.model.specs.declared.run.ErrorCode.{ErrorCode}
 use Rattle.model.specs.declared.run.ErrorCode.TheVariants as error
-use Rattle.model.specs.Io.{Io}
-use Rattle.model.specs.Target.{Name, Element}
-use Rattle.model.specs.Values.{Obj, Bounds, Object, ArrayOf, TableOf, RecordOf}
-use Rattle.model.specs.Conversions.{Conv, Got, Bad, Op, Gives, Refuses, Faults, conv, then_conv, to_integer}
-use Rattle.model.specs.Aggregates.{all_integers, place_from, named_element, table_element, element_in, element_op}
-use Rattle.model.specs.Machine.{MVal, MW}
+use Rattle.model.specs.Language.Io.{Io}
+use Rattle.model.specs.Deck.Target.{Name, Element}
+use Rattle.model.specs.Language.Values.{Obj, Bounds, Object, ArrayOf, TableOf, RecordOf}
+use Rattle.model.specs.Language.Conversions.{Conv, Got, Bad, Op, Gives, Refuses, Faults, conv, then_conv, to_integer}
+use Rattle.model.specs.Language.Aggregates.{all_integers, place_from, named_element, table_element, element_in, element_op}
+use Rattle.model.specs.Machine.Steps.{MVal, MW}
 use Rattle.aggregates.specs.Made.{kind_of}
 use Rattle.aggregates.specs.Objects.{dimensions_in}
 use Rattle.aggregates.specs.declared.object.Kind.{Kind}
 use Rattle.aggregates.specs.declared.object.Kind.TheVariants as kind
 use Rattle.world.specs.Values.{value_of}
 use Rattle.world.specs.Objects.{object_map, item_at}
-use Rattle.world.specs.Held.{Held, world_of}
+use Rattle.world.specs.Held.{WorldView, world_of}
 use Rattle.world.specs.Answers.{AnswersOrFails}
 use Rattle.world.specs.declared.fault.Fault.TheVariants as fault
 use Rattle.world.specs.declared.value.Value.{Value}
@@ -106,7 +106,7 @@ is_array (Some (ArrayOf bs es)) e = (bs, es, refl)
 is_array (Some (TableOf es)) e = absurd (cc)
 is_array (Some (RecordOf t fs vs)) e = absurd (cc)
 
-module _ (h : Held) (os : List (Object Value)) (io : Io) (k : ℕ) (vs : List MVal) (same : os ≡ h.objects) where
+module _ (h : WorldView) (os : List (Object Value)) (io : Io) (k : ℕ) (vs : List MVal) (same : os ≡ h.objects) where
   -- the object that is asked
   asked : element_op (Obj k) vs (world_of h io) ≡ element_in k (option_map (object_map value_of) (slice_get os k)) vs (world_of h io)
   asked = ap (λ o. element_in k o vs (world_of h io)) (slice_get-map (object_map value_of) h.objects k ∙ ap (λ xs. option_map (object_map value_of) (slice_get xs k)) (sym same))

@@ -5,13 +5,13 @@ use Rattle.std.specs.Borrow.{Bor}
 use Rattle.std.proofs.lemmas.Option.{slice_get-map}
 use Rattle.std.proofs.lemmas.List.{length-map, map-append}
 use Rattle.model.specs.declared.run.ErrorCode.TheVariants as error
-use Rattle.model.specs.Trees.{Bytes}
-use Rattle.model.specs.Io.{Io}
-use Rattle.model.specs.Keywords.{Keys}
-use Rattle.model.specs.Target.{Element}
-use Rattle.model.specs.Values.{Str, Obj, Key, Entry, Object, ArrayOf, TableOf, RecordOf, set_objects}
-use Rattle.model.specs.Conversions.{Op, Gives, Faults}
-use Rattle.model.specs.Operators.{same_key, element_of, value_for, entry_of, onto, with_item, with_entry, with_elements, there, fetch_op, put_objects, put_object}
+use Rattle.model.specs.Deck.Trees.{Bytes}
+use Rattle.model.specs.Language.Io.{Io}
+use Rattle.model.specs.Language.Keywords.{Keys}
+use Rattle.model.specs.Deck.Target.{Element}
+use Rattle.model.specs.Language.Values.{Str, Obj, Key, Entry, Object, ArrayOf, TableOf, RecordOf, set_objects}
+use Rattle.model.specs.Language.Conversions.{Op, Gives, Faults}
+use Rattle.model.specs.Language.Operators.{same_key, element_of, value_for, entry_of, onto, with_item, with_entry, with_elements, there, fetch_op, put_objects, put_object}
 use Rattle.aggregates.specs.Keys.{key_of, value_at}
 use Rattle.aggregates.specs.Objects.{if_stored, value_in, stored_at, put_at, record_type}
 use Rattle.aggregates.specs.Made.{kind_of, copied, number, with_object}
@@ -19,11 +19,11 @@ use Rattle.aggregates.specs.declared.object.Kind.{Kind}
 use Rattle.aggregates.specs.declared.object.Kind.TheVariants as kind
 use Rattle.aggregates.specs.declared.place.Place.{Place}
 use Rattle.aggregates.specs.declared.place.Place.TheVariants as place
-use Rattle.model.specs.Aggregates.{new_object, copy_of, copy_op, object_type, type_of}
-use Rattle.model.specs.Machine.{MVal, MW}
+use Rattle.model.specs.Language.Aggregates.{new_object, copy_of, copy_op, object_type, type_of}
+use Rattle.model.specs.Machine.Steps.{MVal, MW}
 use Rattle.world.specs.Values.{value_of}
 use Rattle.world.specs.Objects.{entry_map, object_map}
-use Rattle.world.specs.Held.{Held, world_of}
+use Rattle.world.specs.Held.{WorldView, world_of}
 use Rattle.world.specs.declared.value.Value.{Value}
 use Rattle.world.specs.declared.world.Variable.{Variable}
 
@@ -95,12 +95,12 @@ put_seen f k (Some o) os = item_put (object_map f) k o os
 
 -- ---- of the world
 
-pub element_is : (h : Held) (io : Io) (k i : ℕ) → fetch_op (Element k i) (world_of h io) ≡ there (option_map value_of (element_of (slice_get h.objects k) i)) (world_of h io)
+pub element_is : (h : WorldView) (io : Io) (k i : ℕ) → fetch_op (Element k i) (world_of h io) ≡ there (option_map value_of (element_of (slice_get h.objects k) i)) (world_of h io)
 element_is h io k i =
     ap (λ o. there (element_of o i) (world_of h io)) (slice_get-map (object_map value_of) h.objects k)
     ∙ ap (λ v. there v (world_of h io)) (element_seen value_of (slice_get h.objects k) i)
 
-pub entry_is : (h : Held) (io : Io) (k : ℕ) (key : Key) → there (entry_of (Str []) (slice_get (world_of h io).objects k) key) (world_of h io) ≡ there (entry_by (Str []) (option_map kind_of (slice_get h.objects k)) (option_map value_of (value_in key (slice_get h.objects k)))) (world_of h io)
+pub entry_is : (h : WorldView) (io : Io) (k : ℕ) (key : Key) → there (entry_of (Str []) (slice_get (world_of h io).objects k) key) (world_of h io) ≡ there (entry_by (Str []) (option_map kind_of (slice_get h.objects k)) (option_map value_of (value_in key (slice_get h.objects k)))) (world_of h io)
 entry_is h io k key =
     ap (λ o. there (entry_of (Str []) o key) (world_of h io)) (slice_get-map (object_map value_of) h.objects k)
     ∙ ap (λ v. there v (world_of h io)) (entry_seen value_of (Str []) (slice_get h.objects k) key)
@@ -109,7 +109,7 @@ put_by : (k : ℕ) (o : Option (Object MVal)) (w : MW) → put_object k o w ≡ 
 put_by k None w = refl
 put_by k (Some o) w = refl
 
-pub store_is : (h : Held) (io : Io) (k : ℕ) (p : Place) (v : Value)
+pub store_is : (h : WorldView) (io : Io) (k : ℕ) (p : Place) (v : Value)
     → put_object k (stored_at p (value_of v) (slice_get (world_of h io).objects k)) (world_of h io) ≡ put_objects (option_map (map (object_map value_of)) (put_at k (stored_at p v (slice_get h.objects k)) h.objects)) (world_of h io)
 store_is h io k p v =
     let w : MW = world_of h io in
@@ -119,7 +119,7 @@ store_is h io k p v =
     ∙ ap (λ os. put_objects os w) (put_seen value_of k (stored_at p v (slice_get h.objects k)) h.objects)
 
 -- a table's value for a key, as it was got
-pub entry_got : (h : Held) (os : List (Object Value)) (io : Io) (k : ℕ) (key : Key) (kd : Option Kind) (got : Option (Bor Value)) (v : MVal)
+pub entry_got : (h : WorldView) (os : List (Object Value)) (io : Io) (k : ℕ) (key : Key) (kd : Option Kind) (got : Option (Bor Value)) (v : MVal)
     → os ≡ h.objects → kd ≡ option_map kind_of (slice_get os k) → kd ≡ Some kind.Table → option_copied got ≡ value_in key (slice_get os k) → v ≡ unwrap_or (option_map value_of (option_copied got)) (Str [])
     → there (entry_of (Str []) (slice_get (world_of h io).objects k) key) (world_of h io) ≡ Gives v (world_of h io)
 entry_got h os io k key kd got v same by table is e =
@@ -130,7 +130,7 @@ entry_got h os io k key kd got v same by table is e =
     ∙ ap (λ x. there (entry_by (Str []) (Some kind.Table) (option_map value_of x)) w) (sym is)
     ∙ ap (λ x. Gives x w) (sym e)
 
-module _ (vs : List (Bytes × Variable)) (os new : List (Object Value)) (ks : Keys) (h : Held) (io : Io) (k : ℕ) (p : Place) (v : Value) (b : Bool)
+module _ (vs : List (Bytes × Variable)) (os new : List (Object Value)) (ks : Keys) (h : WorldView) (io : Io) (k : ℕ) (p : Place) (v : Value) (b : Bool)
     (is : record { variables = vs; objects = os; keys = ks } ≡ h) (at : if_stored b new ≡ put_at k (stored_at p v (slice_get os k)) os) where
   storing : put_object k (stored_at p (value_of v) (slice_get (world_of h io).objects k)) (world_of h io) ≡ put_objects (option_map (map (object_map value_of)) (if_stored b new)) (world_of (record { variables = vs; objects = os; keys = ks }) io)
   storing =
@@ -161,7 +161,7 @@ by_type (Some (ArrayOf bs vs)) = refl
 by_type (Some (TableOf es)) = refl
 by_type (Some (RecordOf t fs vs)) = refl
 
-pub type_is : (h : Held) (os : List (Object Value)) (io : Io) (k : ℕ) (t : Option Bytes) (kd : Option Kind) → os ≡ h.objects → t ≡ record_type (slice_get os k) → kd ≡ option_map kind_of (slice_get os k)
+pub type_is : (h : WorldView) (os : List (Object Value)) (io : Io) (k : ℕ) (t : Option Bytes) (kd : Option Kind) → os ≡ h.objects → t ≡ record_type (slice_get os k) → kd ≡ option_map kind_of (slice_get os k)
     → type_by t kd ≡ type_of (world_of h io) (Obj k)
 type_is h os io k t kd same named by =
     ap (λ z. type_by z kd) named

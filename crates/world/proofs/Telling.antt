@@ -2,10 +2,10 @@
 use Rattle.std.proofs.Common.{◌≡◌, ℕ, List, [], ◌∷◌, Bool, true, false, Option, Some, None, nat_eq, refl, sym, ap, ◌∙◌, subst}
 use Rattle.std.specs.Prelude.{if◌then◌else◌}
 use Rattle.std.proofs.lemmas.Bool.Decides.{Decides-eqb}
-use Rattle.model.specs.Trees.{Bytes}
-use Rattle.model.specs.Io.{Io}
-use Rattle.model.specs.Told.{IfTold}
-use Rattle.model.specs.Units.{Reads, after_read, first_of, rest_of}
+use Rattle.model.specs.Deck.Trees.{Bytes}
+use Rattle.model.specs.Language.Io.{Io}
+use Rattle.model.specs.Language.Told.{IfTold}
+use Rattle.model.specs.Language.Units.{Reads, after_read, first_of, rest_of}
 pub use Rattle.unit_io.proofs.Serving.{told_on, told_same}
 
 pub told_read : (o n : Option Io) (u : ℕ) (got : Option Bytes) (P : Io → Io → Type 0) → Reads u got o n → ((io : Io) → got ≡ first_of (io.left u) → P io (after_read u io)) → IfTold o n P

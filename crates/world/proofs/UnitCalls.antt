@@ -4,23 +4,24 @@ use Rattle.std.specs.Prelude.{OnErr, OnOk, IsErrAnd, if◌then◌else◌}
 use Rattle.std.proofs.lemmas.Result.{err_from_is_err_and}
 use Rattle.std.proofs.lemmas.Slice.Eq.{bytes_eq-Decides}
 use Rattle.model.specs.declared.run.ErrorCode.TheVariants as error
-use Rattle.model.specs.Trees.{Bytes}
-use Rattle.model.specs.Io.{Io}
-use Rattle.model.specs.Told.{IfTold}
-use Rattle.model.specs.Units.{Reads, after_read, first_of, rest_of}
-use Rattle.model.specs.Keywords.{IsInteger, KeyValue, is_zero}
-use Rattle.model.specs.Target.{Variable, IntegerKey}
-use Rattle.model.specs.Values.{Str, set_var, keys_of}
-use Rattle.model.specs.Conversions.{Op, Gives, Refuses, Faults, to_text}
-use Rattle.model.specs.Operators.{as_read, take_record, fetch_var, fetch_op, assign_op, write_var, print_text}
-use Rattle.model.specs.Machine.{MVal, MW}
-use Rattle.model.specs.Pattern as p
+use Rattle.model.specs.Deck.Trees.{Bytes}
+use Rattle.model.specs.Language.Io.{Io}
+use Rattle.model.specs.Language.Told.{IfTold}
+use Rattle.model.specs.Language.Units.{Reads, after_read, first_of, rest_of}
+use Rattle.model.specs.Language.Keywords.{IsInteger, KeyValue, is_zero}
+use Rattle.model.specs.Deck.Target.{Variable, IntegerKey}
+use Rattle.model.specs.Language.Values.{Str, set_var, keys_of}
+use Rattle.model.specs.Language.Conversions.{Op, Gives, Refuses, Faults, to_text}
+use Rattle.model.specs.Language.Operators.{as_read, take_record, fetch_var, fetch_op, assign_op, write_var, print_text}
+use Rattle.model.specs.Machine.Steps.{MVal, MW}
+use Rattle.model.specs.Pattern.Patterns as p
+use Rattle.model.specs.Deck.Target as target
 use Rattle.pattern_compiler.specs.View.{name_of}
 use Rattle.pattern_compiler.specs.declared.instr.Name.{Name}
 use Rattle.pattern_compiler.specs.declared.instr.Name.TheVariants as name
 use Rattle.world.specs.Values.{value_of}
-use Rattle.world.specs.Answers.{Answers, AnswersOrFails, LeadsTo, done}
-use Rattle.world.specs.Held.{Held, IsSet, IsSetOrKept, world_of, variable_at, value_in, input_in, output_in, taken}
+use Rattle.world.specs.Answers.{AnswersAs, AnswersOrFails, LeadsTo, done}
+use Rattle.world.specs.Held.{WorldView, IsSet, IsSetOrKept, world_of, variable_at, value_in, input_in, output_in, taken}
 use Rattle.world.specs.declared.fault.Fault.{Fault}
 use Rattle.world.specs.declared.fault.Fault.TheVariants as fault
 use Rattle.world.specs.declared.value.Value.{Value}
@@ -67,14 +68,14 @@ taken_as x line s t w w' n m is copy len limit le set =
 
 -- ---- reading
 
-reads_one : (x : Bytes) (u : ℕ) (rows : List Bytes) (line : Bytes) (h : Held) (io : Io) → Some line ≡ first_of rows
+reads_one : (x : Bytes) (u : ℕ) (rows : List Bytes) (line : Bytes) (h : WorldView) (io : Io) → Some line ≡ first_of rows
     → take_record x u rows (world_of h io) ≡ taken x line (world_of h (record io { left = λ v. if nat_eq u v then rest_of rows else io.left v }))
 reads_one x u [] line h io e = absurd (cc)
 reads_one x u (r ∷ rs) line h io e =
     let same : r ≡ line = cc in
     ap (λ z. taken x z (world_of h (record io { left = λ v. if nat_eq u v then rs else io.left v }))) same
 
-pub read_takes : (x : Bytes) (u : ℕ) (got : Option Bytes) (line : Bytes) (h new : Held) (o n : Option Io) (r : Result (Option MVal) Fault) → got ≡ Some line → Reads u got o n
+pub read_takes : (x : Bytes) (u : ℕ) (got : Option Bytes) (line : Bytes) (h new : WorldView) (o n : Option Io) (r : Result (Option MVal) Fault) → got ≡ Some line → Reads u got o n
     → ((io : Io) → AnswersOrFails r (world_of new io) (taken x line (world_of h io)))
     → IfTold o n (λ io io'. AnswersOrFails r (world_of new io') (take_record x u (io.left u) (world_of h io)))
 read_takes x u got line h new o n r is reads f =
@@ -85,7 +86,7 @@ reads_none : (x : Bytes) (u : ℕ) (rows : List Bytes) (w : MW) → None ≡ fir
 reads_none x u [] w e = refl
 reads_none x u (r ∷ rs) w e = absurd (cc)
 
-pub read_ends : (x : Bytes) (u : ℕ) (got : Option Bytes) (h : Held) (o n : Option Io) → got ≡ None → Reads u got o n → IfTold o n (λ io io'. take_record x u (io.left u) (world_of h io) ≡ Refuses (world_of h io'))
+pub read_ends : (x : Bytes) (u : ℕ) (got : Option Bytes) (h : WorldView) (o n : Option Io) → got ≡ None → Reads u got o n → IfTold o n (λ io io'. take_record x u (io.left u) (world_of h io) ≡ Refuses (world_of h io'))
 read_ends x u got h o n is reads =
     told_read o n u None _ (subst (λ z. Reads u z o n) is reads) (λ io e. reads_none x u (io.left u) (world_of h io) e ∙ ap (λ z. Refuses (world_of h z)) (sym (end_stays u io e)))
 
@@ -104,7 +105,7 @@ record_read false x (Some k) u w on e =
     ap (λ c. if c then Gives (w.vars x) w else take_record x k (w.io.left k) w) on ∙ ap (λ n. take_record x n (w.io.left n) w) same
 
 -- no variable
-pub fetched_null : (x : Bytes) (h : Held) (v : Value) (o : Option Io) → variable_at x h.variables ≡ None → value_of v ≡ Str []
+pub fetched_null : (x : Bytes) (h : WorldView) (v : Value) (o : Option Io) → variable_at x h.variables ≡ None → value_of v ≡ Str []
     → IfTold o o (λ io io'. fetch_op (Variable x) (world_of h io) ≡ Gives (value_of v) (world_of h io'))
 fetched_null x h v o none null =
     told_same o _
@@ -113,7 +114,7 @@ fetched_null x h v o none null =
     ∙ ap (λ z. Gives z (world_of h io)) (sym null))
 
 -- a variable's own value
-pub fetched_value : (x : Bytes) (h : Held) (variable : var.Variable) (v : Value) (i : Option ℕ) (o : Option Io) → variable_at x h.variables ≡ Some variable → i ≡ (if is_zero h.keys.input then None else variable.input) → i ≡ None → v ≡ variable.value
+pub fetched_value : (x : Bytes) (h : WorldView) (variable : var.Variable) (v : Value) (i : Option ℕ) (o : Option Io) → variable_at x h.variables ≡ Some variable → i ≡ (if is_zero h.keys.input then None else variable.input) → i ≡ None → v ≡ variable.value
     → IfTold o o (λ io io'. fetch_op (Variable x) (world_of h io) ≡ Gives (value_of v) (world_of h io'))
 fetched_value x h variable v i o at reads none same =
     told_same o _
@@ -123,7 +124,7 @@ fetched_value x h variable v i o at reads none same =
     ∙ ap (λ z. Gives (value_of z) (world_of h io)) (sym same))
 
 -- a record of the unit that a variable reads from
-pub fetched_unit : (x : Bytes) (u : ℕ) (h new : Held) (variable : var.Variable) (i : Option ℕ) (r : Result (Option MVal) Fault) (o m : Option Io) → variable_at x h.variables ≡ Some variable → i ≡ (if is_zero h.keys.input then None else variable.input) → i ≡ Some u
+pub fetched_unit : (x : Bytes) (u : ℕ) (h new : WorldView) (variable : var.Variable) (i : Option ℕ) (r : Result (Option MVal) Fault) (o m : Option Io) → variable_at x h.variables ≡ Some variable → i ≡ (if is_zero h.keys.input then None else variable.input) → i ≡ Some u
     → IfTold o m (λ io io'. AnswersOrFails r (world_of new io') (take_record x u (io.left u) (world_of h io)))
     → IfTold o m (λ io io'. AnswersOrFails r (world_of new io') (fetch_op (Variable x) (world_of h io)))
 fetched_unit x u h new variable i r o m at reads unit records =
@@ -137,30 +138,30 @@ fetched_unit x u h new variable i r o m at reads unit records =
 abbrev pub write_if : Bool → ℕ → MVal → MW → Op MW (record {})
 write_if off u v w = if off then Gives (record {}) w else print_text u (to_text v) w
 
-pub written : (u : ℕ) (v v' : MVal) (h : Held) (r : Result (record {}) Fault) (o n : Option Io) → v ≡ v' → is_zero h.keys.output ≡ false
-    → IfTold o n (λ io io'. (k : Held) → Answers r (world_of k io') (print_text u (to_text v) (world_of k io)))
-    → IfTold o n (λ io io'. Answers r (world_of h io') (write_var (Some u) v' (world_of h io)))
+pub written : (u : ℕ) (v v' : MVal) (h : WorldView) (r : Result (record {}) Fault) (o n : Option Io) → v ≡ v' → is_zero h.keys.output ≡ false
+    → IfTold o n (λ io io'. (k : WorldView) → AnswersAs r (world_of k io') (print_text u (to_text v) (world_of k io)))
+    → IfTold o n (λ io io'. AnswersAs r (world_of h io') (write_var (Some u) v' (world_of h io)))
 written u v v' h r o n same on prints =
     told_on o n _ _
-    (λ io io' f. subst (λ p. Answers r (world_of h io') p) (ap (λ z. print_text u (to_text z) (world_of h io)) same ∙ ap (λ b. write_if b u v' (world_of h io)) (sym on)) (f h))
+    (λ io io' f. subst (λ p. AnswersAs r (world_of h io') p) (ap (λ z. print_text u (to_text z) (world_of h io)) same ∙ ap (λ b. write_if b u v' (world_of h io)) (sym on)) (f h))
     prints
 
 if_same : (x : Bytes) (v w : MVal) → (if bytes_eq x x then v else w) ≡ v
 if_same x v w = ap (λ b. if b then v else w) ((bytes_eq-Decides x x).1 refl)
 
-pub assigned_to_unit : (x : Bytes) (u : ℕ) (v : MVal) (h new : Held) (r : Result (record {}) Fault) (o m : Option Io) → Some u ≡ output_in (variable_at x h.variables)
+pub assigned_to_unit : (x : Bytes) (u : ℕ) (v : MVal) (h new : WorldView) (r : Result (record {}) Fault) (o m : Option Io) → Some u ≡ output_in (variable_at x h.variables)
     → ((io : Io) → world_of new io ≡ set_var x v (world_of h io))
-    → IfTold o m (λ io io'. Answers r (world_of new io') (write_var (Some u) (value_in (variable_at x new.variables)) (world_of new io)))
-    → IfTold o m (λ io io'. Answers r (world_of new io') (assign_op (Variable x) v (world_of h io)))
+    → IfTold o m (λ io io'. AnswersAs r (world_of new io') (write_var (Some u) (value_in (variable_at x new.variables)) (world_of new io)))
+    → IfTold o m (λ io io'. AnswersAs r (world_of new io') (assign_op (Variable x) v (world_of h io)))
 assigned_to_unit x u v h new r o m out set writes =
     told_on o m _ _
-    (λ io io' a. subst (λ p. Answers r (world_of new io') p)
+    (λ io io' a. subst (λ p. AnswersAs r (world_of new io') p)
     (ap (λ z. write_var (Some u) z (world_of new io)) (ap (λ w. w.vars x) (set io) ∙ if_same x v ((world_of h io).vars x))
     ∙ ap (λ w. write_var (Some u) v w) (set io)
     ∙ ap (λ z. write_var z v (set_var x v (world_of h io))) out) a)
     writes
 
-pub assigned_alone : (x : Bytes) (v : MVal) (h new : Held) (o : Option Io) → None ≡ output_in (variable_at x h.variables)
+pub assigned_alone : (x : Bytes) (v : MVal) (h new : WorldView) (o : Option Io) → None ≡ output_in (variable_at x h.variables)
     → ((io : Io) → world_of new io ≡ set_var x v (world_of h io))
     → IfTold o o (λ io io'. assign_op (Variable x) v (world_of h io) ≡ Gives (record {}) (world_of new io'))
 assigned_alone x v h new o out set =
@@ -169,33 +170,33 @@ assigned_alone x v h new o out set =
 
 -- ---- names of elements
 
-pub fetched_there : (n m : Name) (h : Held) (r : Result (Option MVal) Fault) (o : Option Io) → n ≡ m
+pub fetched_there : (n m : Name) (h : WorldView) (r : Result (Option MVal) Fault) (o : Option Io) → n ≡ m
     → ((io : Io) → AnswersOrFails r (world_of h io) (fetch_op (name_of m) (world_of h io)))
     → IfTold o o (λ io io'. AnswersOrFails r (world_of h io') (fetch_op (name_of n) (world_of h io)))
 fetched_there n m h r o is f = told_same o _ (λ io. subst (λ z. AnswersOrFails r (world_of h io) (fetch_op (name_of z) (world_of h io))) (sym is) (f io))
 
 -- a key that went through 64 bits
-pub fetched_key : (n : Name) (k : ℕ) (z z' : ℤ) (h : Held) (r : Result (Option MVal) Fault) (o : Option Io) → n ≡ name.IntegerKey k z → z' ≡ z
+pub fetched_key : (n : Name) (k : ℕ) (z z' : ℤ) (h : WorldView) (r : Result (Option MVal) Fault) (o : Option Io) → n ≡ name.IntegerKey k z → z' ≡ z
     → ((io : Io) → AnswersOrFails r (world_of h io) (fetch_op (IntegerKey k z') (world_of h io)))
     → IfTold o o (λ io io'. AnswersOrFails r (world_of h io') (fetch_op (name_of n) (world_of h io)))
 fetched_key n k z z' h r o is same f = fetched_there n (name.IntegerKey k z') h r o (is ∙ ap (name.IntegerKey k) (sym same)) f
 
-pub assigned_there : (n m : Name) (v : MVal) (h new : Held) (r : Result (record {}) Fault) (o : Option Io) → n ≡ m
-    → ((io : Io) → Answers r (world_of new io) (assign_op (name_of m) v (world_of h io)))
-    → IfTold o o (λ io io'. Answers r (world_of new io') (assign_op (name_of n) v (world_of h io)))
-assigned_there n m v h new r o is f = told_same o _ (λ io. subst (λ z. Answers r (world_of new io) (assign_op (name_of z) v (world_of h io))) (sym is) (f io))
+pub assigned_there : (n m : Name) (v : MVal) (h new : WorldView) (r : Result (record {}) Fault) (o : Option Io) → n ≡ m
+    → ((io : Io) → AnswersAs r (world_of new io) (assign_op (name_of m) v (world_of h io)))
+    → IfTold o o (λ io io'. AnswersAs r (world_of new io') (assign_op (name_of n) v (world_of h io)))
+assigned_there n m v h new r o is f = told_same o _ (λ io. subst (λ z. AnswersAs r (world_of new io) (assign_op (name_of z) v (world_of h io))) (sym is) (f io))
 
 -- a name that is set by an assignment is set by this one
-pub set_there : (n m : Name) (v : MVal) (h new : Held) (r : Result (Unit {0}) Fault) → n ≡ m
+pub set_there : (n m : Name) (v : MVal) (h new : WorldView) (r : Result (Unit {0}) Fault) → n ≡ m
     → (((io : Io) → assign_op (name_of m) v (world_of h io) ≡ Gives (record {}) (world_of new io)) → IsSet (name_of m) v h new)
-    → ((io : Io) → Answers (done r) (world_of new io) (assign_op (name_of m) v (world_of h io)))
+    → ((io : Io) → AnswersAs (done r) (world_of new io) (assign_op (name_of m) v (world_of h io)))
     → OnOk r (IsSet (name_of n) v h new)
 set_there n m v h new (Ok u) is f g = subst (λ z. IsSet (name_of z) v h new) (sym is) (f g)
 set_there n m v h new (Err e) is f g = tt
 
-module _ (n : Name) (k : ℕ) (z z' : ℤ) (v : MVal) (h new : Held) (r : Result (Unit {0}) Fault) (is : n ≡ name.IntegerKey k z) (same : z' ≡ z)
-    (f : (io : Io) → Answers (done r) (world_of new io) (assign_op (IntegerKey k z') v (world_of h io))) where
-  pub assigned_key : (o : Option Io) → IfTold o o (λ io io'. Answers (done r) (world_of new io') (assign_op (name_of n) v (world_of h io)))
+module _ (n : Name) (k : ℕ) (z z' : ℤ) (v : MVal) (h new : WorldView) (r : Result (Unit {0}) Fault) (is : n ≡ name.IntegerKey k z) (same : z' ≡ z)
+    (f : (io : Io) → AnswersAs (done r) (world_of new io) (assign_op (IntegerKey k z') v (world_of h io))) where
+  pub assigned_key : (o : Option Io) → IfTold o o (λ io io'. AnswersAs (done r) (world_of new io') (assign_op (name_of n) v (world_of h io)))
   assigned_key o = assigned_there n (name.IntegerKey k z') v h new (done r) o (is ∙ ap (name.IntegerKey k) (sym same)) f
 
   pub set_key : OnOk r (IsSet (name_of n) v h new)
@@ -203,24 +204,24 @@ module _ (n : Name) (k : ℕ) (z z' : ℤ) (v : MVal) (h new : Held) (r : Result
 
 -- ---- replacing
 
-answers_by : (e : Fault) (w : MW) (k : MVal → Op MW (record {})) (o : Op MW (record {})) → LeadsTo (Err e) w k o → Answers (Err e) w o
+answers_by : (e : Fault) (w : MW) (k : MVal → Op MW (record {})) (o : Op MW (record {})) → LeadsTo (Err e) w k o → AnswersAs (Err e) w o
 answers_by (fault.Error e) w k o h = h
 answers_by (fault.Stop s) w k o h = tt
 
-pub not_replaced : (e : Fault) (r : Result (Unit {0}) Fault) (h : Held) (k : MVal → MW → Op MW (record {})) (op : MW → Op MW (record {})) (o : Option Io) → IsErrAnd r (λ x. x ≡ e)
+pub not_replaced : (e : Fault) (r : Result (Unit {0}) Fault) (h : WorldView) (k : MVal → MW → Op MW (record {})) (op : MW → Op MW (record {})) (o : Option Io) → IsErrAnd r (λ x. x ≡ e)
     → ((io : Io) → LeadsTo (Err e) (world_of h io) (λ v. k v (world_of h io)) (op (world_of h io)))
-    → IfTold o o (λ io io'. Answers (done r) (world_of h io') (op (world_of h io)))
+    → IfTold o o (λ io io'. AnswersAs (done r) (world_of h io') (op (world_of h io)))
 not_replaced e r h k op o is f =
     let p = err_from_is_err_and r is in
-    told_same o _ (λ io. subst (λ x. Answers (done x) (world_of h io) (op (world_of h io))) (sym (p.1 ∙ ap Err p.2)) (answers_by e (world_of h io) (λ v. k v (world_of h io)) (op (world_of h io)) (f io)))
+    told_same o _ (λ io. subst (λ x. AnswersAs (done x) (world_of h io) (op (world_of h io))) (sym (p.1 ∙ ap Err p.2)) (answers_by e (world_of h io) (λ v. k v (world_of h io)) (op (world_of h io)) (f io)))
 
-pub replaced_by : (h new : Held) (k op : MW → Op MW (record {})) (r : Result (record {}) Fault) (o n : Option Io)
+pub replaced_by : (h new : WorldView) (k op : MW → Op MW (record {})) (r : Result (record {}) Fault) (o n : Option Io)
     → ((io : Io) → op (world_of h io) ≡ k (world_of h io))
-    → IfTold o n (λ io io'. Answers r (world_of new io') (k (world_of h io)))
-    → IfTold o n (λ io io'. Answers r (world_of new io') (op (world_of h io)))
-replaced_by h new k op r o n f a = told_on o n _ _ (λ io io' x. subst (λ p. Answers r (world_of new io') p) (sym (f io)) x) a
+    → IfTold o n (λ io io'. AnswersAs r (world_of new io') (k (world_of h io)))
+    → IfTold o n (λ io io'. AnswersAs r (world_of new io') (op (world_of h io)))
+replaced_by h new k op r o n f a = told_on o n _ _ (λ io io' x. subst (λ p. AnswersAs r (world_of new io') p) (sym (f io)) x) a
 
 -- whatever an assignment answers, it changes no more than the variable
-pub no_more : {A E : Type 0} (r : Result A E) (n : p.Name) (v : MVal) (old new : Held) → OnOk r (IsSet n v old new) → OnErr r (IsSetOrKept n v old new) → (new ≡ old) ⊎ ((x : MVal) × IsSet n x old new)
+pub no_more : {A E : Type 0} (r : Result A E) (n : target.Name) (v : MVal) (old new : WorldView) → OnOk r (IsSet n v old new) → OnErr r (IsSetOrKept n v old new) → (new ≡ old) ⊎ ((x : MVal) × IsSet n x old new)
 no_more (Ok a) n v old new set kept = inr (v, set)
 no_more (Err e) n v old new set kept = elim kept [ inl same ↦ inl same | inr is ↦ inr (v, is) ]

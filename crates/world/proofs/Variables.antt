@@ -9,16 +9,16 @@ use Rattle.std.specs.Cmp.Lexicographic.{nat_list_eq_equiv}
 use Rattle.indexmap.specs.IndexMap.{IndexMap, IsUnique, insert_entry, with_value_at}
 use Rattle.indexmap.proofs.CallerLemmas.{updates-with_value_at}
 use Rattle.indexmap.proofs.MapLemmas.{absent_from_lookup, insert_entry-absent}
-use Rattle.model.specs.Trees.{Bytes}
-use Rattle.model.specs.Io.{Io}
-use Rattle.model.specs.Keywords.{Keys}
-use Rattle.model.specs.Values.{Object, Str, set_var, set_plain}
-use Rattle.model.specs.Primitives.{set_reads, set_writes}
+use Rattle.model.specs.Deck.Trees.{Bytes}
+use Rattle.model.specs.Language.Io.{Io}
+use Rattle.model.specs.Language.Keywords.{Keys}
+use Rattle.model.specs.Language.Values.{Object, Str, set_var, set_plain}
+use Rattle.model.specs.Language.Primitives.{set_reads, set_writes}
 use Rattle.world.specs.Values.{value_of}
 use Rattle.world.specs.Objects.{object_map}
 use Rattle.world.specs.declared.value.Value.{Value}
 use Rattle.world.specs.declared.value.Value.TheVariants.{String}
-use Rattle.world.specs.Held.{Held, variable_at, name_at, value_in, input_in, output_in, world_of}
+use Rattle.world.specs.Held.{WorldView, variable_at, name_at, value_in, input_in, output_in, world_of}
 use Rattle.world.specs.declared.world.Variable.{Variable}
 
 -- the variable of one name is this, and all others stay
@@ -52,7 +52,7 @@ puts_var old new os ks x v h reads writes io = λ i. record {
 }
 
 -- a variable that is there takes another value
-pub put_there : (vs new : List (Bytes × Variable)) (os : List (Object Value)) (ks : Keys) (held : Held) (x : Bytes) (old v : Variable) (value : Value) → record { variables = vs; objects = os; keys = ks } ≡ held → v ≡ record old { value = value } → variable_at x vs ≡ Some old → Puts vs new x v
+pub put_there : (vs new : List (Bytes × Variable)) (os : List (Object Value)) (ks : Keys) (held : WorldView) (x : Bytes) (old v : Variable) (value : Value) → record { variables = vs; objects = os; keys = ks } ≡ held → v ≡ record old { value = value } → variable_at x vs ≡ Some old → Puts vs new x v
     → (io : Io) → world_of (record { variables = new; objects = os; keys = ks }) io ≡ set_var x (value_of value) (world_of held io)
 put_there vs new os ks held x old v value is e at h io =
     puts_var vs new os ks x v h (ap (λ z. z.input) e ∙ sym (ap input_in at)) (ap (λ z. z.output) e ∙ sym (ap output_in at)) io
@@ -60,7 +60,7 @@ put_there vs new os ks held x old v value is e at h io =
     ∙ ap (λ z. set_var x (value_of value) (world_of z io)) is
 
 -- a variable that isn't there is put there
-pub put_new : (vs new : List (Bytes × Variable)) (os : List (Object Value)) (ks : Keys) (held : Held) (x : Bytes) (value : Value) → record { variables = vs; objects = os; keys = ks } ≡ held → variable_at x vs ≡ None → Puts vs new x (record { value = value; input = None; output = None })
+pub put_new : (vs new : List (Bytes × Variable)) (os : List (Object Value)) (ks : Keys) (held : WorldView) (x : Bytes) (value : Value) → record { variables = vs; objects = os; keys = ks } ≡ held → variable_at x vs ≡ None → Puts vs new x (record { value = value; input = None; output = None })
     → (io : Io) → world_of (record { variables = new; objects = os; keys = ks }) io ≡ set_var x (value_of value) (world_of held io)
 put_new vs new os ks held x value is at h io =
     puts_var vs new os ks x (record { value = value; input = None; output = None }) h (sym (ap input_in at)) (sym (ap output_in at)) io
@@ -91,7 +91,7 @@ puts_units old new os ks x v h same io = λ i. record {
 }
 
 -- a variable that is there takes other units
-pub units_there : (vs new : List (Bytes × Variable)) (os : List (Object Value)) (ks : Keys) (held : Held) (x : Bytes) (old v : Variable) (input output : Option ℕ) → record { variables = vs; objects = os; keys = ks } ≡ held
+pub units_there : (vs new : List (Bytes × Variable)) (os : List (Object Value)) (ks : Keys) (held : WorldView) (x : Bytes) (old v : Variable) (input output : Option ℕ) → record { variables = vs; objects = os; keys = ks } ≡ held
     → v ≡ record old { input = input; output = output } → variable_at x vs ≡ Some old → Puts vs new x v
     → (io : Io) → world_of (record { variables = new; objects = os; keys = ks }) io ≡ set_writes x output (set_reads x input (world_of held io))
 units_there vs new os ks held x old v input output is e at h io =
@@ -100,7 +100,7 @@ units_there vs new os ks held x old v input output is e at h io =
     ∙ ap (λ z. set_writes x output (set_reads x input (world_of z io))) is
 
 -- a variable that isn't there is put there, with units
-pub units_new : (vs new : List (Bytes × Variable)) (os : List (Object Value)) (ks : Keys) (held : Held) (x : Bytes) (v : Variable) (input output : Option ℕ) → record { variables = vs; objects = os; keys = ks } ≡ held
+pub units_new : (vs new : List (Bytes × Variable)) (os : List (Object Value)) (ks : Keys) (held : WorldView) (x : Bytes) (v : Variable) (input output : Option ℕ) → record { variables = vs; objects = os; keys = ks } ≡ held
     → v ≡ record { value = String []; input = input; output = output } → variable_at x vs ≡ None → Puts vs new x v
     → (io : Io) → world_of (record { variables = new; objects = os; keys = ks }) io ≡ set_writes x output (set_reads x input (world_of held io))
 units_new vs new os ks held x v input output is e at h io =
@@ -116,25 +116,25 @@ same_at f x y = go (bytes_eq x y) refl
     go true q = ap f ((bytes_eq-Decides x y).0 q)
     go false q = refl
 
-output_stays : (h : Held) (x : Bytes) (u : Option ℕ) (io : Io) → set_writes x (output_in (variable_at x h.variables)) (set_reads x u (world_of h io)) ≡ set_reads x u (world_of h io)
+output_stays : (h : WorldView) (x : Bytes) (u : Option ℕ) (io : Io) → set_writes x (output_in (variable_at x h.variables)) (set_reads x u (world_of h io)) ≡ set_reads x u (world_of h io)
 output_stays h x u io = λ i. set_plain (record (set_reads x u (world_of h io)).plain { writes = λ y. same_at (λ z. output_in (variable_at z h.variables)) x y i }) (world_of h io)
 
-input_stays : (h : Held) (x : Bytes) (u : Option ℕ) (io : Io) → set_writes x u (set_reads x (input_in (variable_at x h.variables)) (world_of h io)) ≡ set_writes x u (world_of h io)
+input_stays : (h : WorldView) (x : Bytes) (u : Option ℕ) (io : Io) → set_writes x u (set_reads x (input_in (variable_at x h.variables)) (world_of h io)) ≡ set_writes x u (world_of h io)
 input_stays h x u io = λ i. set_writes x u (set_plain (record (world_of h io).plain { reads = λ y. same_at (λ z. input_in (variable_at z h.variables)) x y i }) (world_of h io))
 
 -- a unit is read from, and the other stays
-pub reads_set : {A E : Type 0} (h new : Held) (x : Bytes) (u : ℕ) (output : Option ℕ) (r : Result A E) → output ≡ output_in (variable_at x h.variables)
+pub reads_set : {A E : Type 0} (h new : WorldView) (x : Bytes) (u : ℕ) (output : Option ℕ) (r : Result A E) → output ≡ output_in (variable_at x h.variables)
     → OnOk r ((io : Io) → world_of new io ≡ set_writes x output (set_reads x (Some u) (world_of h io))) → OnOk r ((io : Io) → world_of new io ≡ set_reads x (Some u) (world_of h io))
 reads_set h new x u output (Ok a) is f = λ io. f io ∙ ap (λ z. set_writes x z (set_reads x (Some u) (world_of h io))) is ∙ output_stays h x (Some u) io
 reads_set h new x u output (Err e) is f = tt
 
-pub writes_set : {A E : Type 0} (h new : Held) (x : Bytes) (u : ℕ) (input : Option ℕ) (r : Result A E) → input ≡ input_in (variable_at x h.variables)
+pub writes_set : {A E : Type 0} (h new : WorldView) (x : Bytes) (u : ℕ) (input : Option ℕ) (r : Result A E) → input ≡ input_in (variable_at x h.variables)
     → OnOk r ((io : Io) → world_of new io ≡ set_writes x (Some u) (set_reads x input (world_of h io))) → OnOk r ((io : Io) → world_of new io ≡ set_writes x (Some u) (world_of h io))
 writes_set h new x u input (Ok a) is f = λ io. f io ∙ ap (λ z. set_writes x (Some u) (set_reads x z (world_of h io))) is ∙ input_stays h x (Some u) io
 writes_set h new x u input (Err e) is f = tt
 
 -- a variable that isn't there is put there with a null value
-pub put_unseen : (vs new : List (Bytes × Variable)) (os : List (Object Value)) (ks : Keys) (held : Held) (x : Bytes) (value : Value) → record { variables = vs; objects = os; keys = ks } ≡ held → variable_at x vs ≡ None → value_of value ≡ Str [] → Puts vs new x (record { value = value; input = None; output = None })
+pub put_unseen : (vs new : List (Bytes × Variable)) (os : List (Object Value)) (ks : Keys) (held : WorldView) (x : Bytes) (value : Value) → record { variables = vs; objects = os; keys = ks } ≡ held → variable_at x vs ≡ None → value_of value ≡ Str [] → Puts vs new x (record { value = value; input = None; output = None })
     → (io : Io) → world_of (record { variables = new; objects = os; keys = ks }) io ≡ world_of held io
 put_unseen vs new os ks held x value is at null h io =
     let v : Variable = record { value = value; input = None; output = None } in
@@ -199,7 +199,7 @@ pub held_there : (vs : List (Bytes × Variable)) (x : Bytes) (k : ℕ) (v : Vari
 held_there vs x k v (w, is, found) there = found ∙ sym (slice_get-map (λ e. e.1) vs k ∙ ap (λ o. option_map (λ e. e.1) o) is) ∙ sym there
 
 -- the variable in a slot takes another value
-pub put_in_slot : {S : Type 0} (m : IndexMap Bytes Variable S) (os : List (Object Value)) (ks : Keys) (held : Held) (x : Bytes) (k : ℕ) (old v : Variable) (value : Value) → record { variables = m.entries; objects = os; keys = ks } ≡ held → IsUnique bytes_eq m → Stands x k m.entries → Some old ≡ slice_get (values_of m.entries) k → v ≡ record old { value = value }
+pub put_in_slot : {S : Type 0} (m : IndexMap Bytes Variable S) (os : List (Object Value)) (ks : Keys) (held : WorldView) (x : Bytes) (k : ℕ) (old v : Variable) (value : Value) → record { variables = m.entries; objects = os; keys = ks } ≡ held → IsUnique bytes_eq m → Stands x k m.entries → Some old ≡ slice_get (values_of m.entries) k → v ≡ record old { value = value }
     → (io : Io) → world_of (record { variables = (with_value_at m k v).entries; objects = os; keys = ks }) io ≡ set_var x (value_of value) (world_of held io)
 put_in_slot m os ks held x k old v value is unique stands there e io =
     put_there m.entries (with_value_at m k v).entries os ks held x old v value is e (held_there m.entries x k old stands there)

@@ -1,24 +1,24 @@
 -- The world as it is held, and as the definitions see it.
 use Rattle.std.specs.Prelude.{◌≡◌, ◌⊎◌, ℕ, List, [], ◌∷◌, ◌++◌, map, Option, Some, None, bytes_eq, codes, slice_get, Bool, false}
 use Rattle.std.specs.Map.{lookup, keys_of}
-use Rattle.model.specs.Trees.{Bytes}
-use Rattle.model.specs.Io.{Io}
-use Rattle.model.specs.Keywords.{Keys, KeyValue, IsInteger, IsText, is_zero}
-use Rattle.model.specs.Conversions.{Op, Gives}
-use Rattle.model.specs.Operators.{as_read, limited, assign_op}
-use Rattle.model.specs.Values.{Object, Str, set_var}
+use Rattle.model.specs.Deck.Trees.{Bytes}
+use Rattle.model.specs.Language.Io.{Io}
+use Rattle.model.specs.Language.Keywords.{Keys, KeyValue, IsInteger, IsText, is_zero}
+use Rattle.model.specs.Language.Conversions.{Op, Gives}
+use Rattle.model.specs.Language.Operators.{as_read, limited, assign_op}
+use Rattle.model.specs.Language.Values.{Object, Str, set_var}
 use Rattle.indexmap.specs.IndexMap.{insert_entry}
-use Rattle.model.specs.Pattern as p
-use Rattle.model.specs.Target as target
-use Rattle.model.specs.Steps.{Code}
-use Rattle.model.specs.Machine.{MVal, MW, codes_of}
+use Rattle.model.specs.Pattern.Patterns as p
+use Rattle.model.specs.Deck.Target as target
+use Rattle.model.specs.Pattern.Steps.{Code}
+use Rattle.model.specs.Machine.Steps.{MVal, MW, codes_of}
 use Rattle.world.specs.Values.{value_of}
 use Rattle.world.specs.Objects.{object_map}
 use Rattle.world.specs.declared.value.Value.{Value}
 use Rattle.world.specs.declared.value.Value.TheVariants as v
 use Rattle.world.specs.declared.world.Variable.{Variable}
 
-pub record Held : Type 0 where
+pub record WorldView : Type 0 where
   -- in the order of first assignment
   pub variables : List (Bytes × Variable)
   -- arrays, tables and records, in the order of making
@@ -46,7 +46,7 @@ output_in None = None
 output_in (Some v) = v.output
 
 -- the world that it is, with what stands on units
-abbrev pub world_of : Held → Io → MW
+abbrev pub world_of : WorldView → Io → MW
 world_of h io = record {
   vars = λ x. value_in (variable_at x h.variables);
   objects = map (object_map value_of) h.objects;
@@ -66,11 +66,11 @@ abbrev pub taken : (name bytes : Bytes) → MW → Op MW MVal
 taken x r w = let s : Bytes = as_read r w in limited s w (Gives (Str s) (set_var x (Str s) w))
 
 -- a name has this value, and nothing else changed
-abbrev pub IsSet : p.Name → MVal → Held → Held → Type 0
+abbrev pub IsSet : target.Name → MVal → WorldView → WorldView → Type 0
 IsSet (target.Variable x) v old new = (io : Io) → world_of new io ≡ set_var x v (world_of old io)
 IsSet n v old new = (io : Io) → assign_op n v (world_of old io) ≡ Gives (record {}) (world_of new io)
 
-abbrev pub IsSetOrKept : p.Name → MVal → Held → Held → Type 0
+abbrev pub IsSetOrKept : target.Name → MVal → WorldView → WorldView → Type 0
 IsSetOrKept n v old new = (new ≡ old) ⊎ IsSet n v old new
 
 abbrev pub zero_in : KeyValue → Bool
@@ -79,7 +79,7 @@ zero_in (IsText s) = false
 
 -- ---- at first
 
-abbrev pub with_variable : Bytes → Variable → Held → Held
+abbrev pub with_variable : Bytes → Variable → WorldView → WorldView
 with_variable x v h = record h { variables = insert_entry bytes_eq h.variables x v }
 
 abbrev pub pattern_variable : Code → Variable

@@ -1,11 +1,11 @@
 -- Objects whose values are seen as others, and the names of an array's elements.
 use Rattle.std.specs.Prelude.{ℕ, List, length, map, nat_eq, Option, option_map, if◌then◌else◌}
 use Rattle.model.specs.declared.run.ErrorCode.TheVariants as error
-use Rattle.model.specs.Target.{Name, Element}
-use Rattle.model.specs.Values.{Bounds, Entry, Object, ArrayOf, TableOf, RecordOf}
-use Rattle.model.specs.Conversions.{Conv, Got, Bad, then_conv}
-use Rattle.model.specs.Aggregates.{all_integers, place_from}
-use Rattle.model.specs.Machine.{MVal}
+use Rattle.model.specs.Deck.Target.{Name, Element}
+use Rattle.model.specs.Language.Values.{Bounds, Entry, Object, ArrayOf, TableOf, RecordOf}
+use Rattle.model.specs.Language.Conversions.{Conv, Got, Bad, then_conv}
+use Rattle.model.specs.Language.Aggregates.{all_integers, place_from}
+use Rattle.model.specs.Machine.Steps.{MVal}
 
 module _ {V W : Type 0} (f : V → W) where
   abbrev pub entry_map : Entry V → Entry W

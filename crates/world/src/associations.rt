@@ -1,8 +1,8 @@
 //! Variables that a unit is associated with.
 
 ghost use Rattle.std.specs.Prelude.{◌≡◌, Some, None, OnOk, OnErr};
-ghost use Rattle.model.specs.Io.{Io};
-ghost use Rattle.model.specs.Primitives.{set_reads, set_writes};
+ghost use Rattle.model.specs.Language.Io.{Io};
+ghost use Rattle.model.specs.Language.Primitives.{set_reads, set_writes};
 ghost use Rattle.world.specs.Held.{world_of};
 
 use crate::world::World;

@@ -1,16 +1,16 @@
 //! Elements of arrays, values of tables and fields of records.
 
 ghost use Rattle.std.specs.Prelude.{◌≡◌, [], slice_get, option_map, OnErr};
-ghost use Rattle.model.specs.Io.{Io};
-ghost use Rattle.model.specs.Target.{Element};
-ghost use Rattle.model.specs.Values.{Str};
-ghost use Rattle.model.specs.Operators.{there, entry_of, fetch_op, put_object};
+ghost use Rattle.model.specs.Language.Io.{Io};
+ghost use Rattle.model.specs.Deck.Target.{Element};
+ghost use Rattle.model.specs.Language.Values.{Str};
+ghost use Rattle.model.specs.Language.Operators.{there, entry_of, fetch_op, put_object};
 ghost use Rattle.model.specs.declared.run.Stop.TheVariants.{NoMemory};
 ghost use Rattle.aggregates.specs.Keys.{key_of};
 ghost use Rattle.aggregates.specs.Objects.{stored_at};
 ghost use Rattle.world.specs.Values.{value_of};
 ghost use Rattle.world.specs.Held.{world_of};
-ghost use Rattle.world.specs.Answers.{answer_map, done, Answers, AnswersOrFails, IfStopped};
+ghost use Rattle.world.specs.Answers.{answer_map, done, AnswersAs, AnswersOrFails, IfStopped};
 
 use crate::fault::Fault;
 use crate::value::Value;
@@ -46,7 +46,7 @@ impl World {
 
     /// Another value at a place of an object.
     pub(crate) fn store(&mut self, object: usize, place: Place, value: Value) -> Result<(), Fault>
-        ensures stored { (io : Io) → Answers (done result) (world_of self.new io) (put_object object (stored_at place (value_of value) (slice_get (world_of self.old io).objects object)) (world_of self.old io)) }
+        ensures stored { (io : Io) → AnswersAs (done result) (world_of self.new io) (put_object object (stored_at place (value_of value) (slice_get (world_of self.old io).objects object)) (world_of self.old io)) }
         ensures err { OnErr result (self.new ≡ self.old) }
         ensures stop { IfStopped result (λ stop. stop ≡ NoMemory) }
     {

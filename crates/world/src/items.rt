@@ -1,11 +1,11 @@
 //! Names of elements, by an array or a table and the subscripts.
 
 ghost use Rattle.std.specs.Prelude.{◌≡◌, ◌≤◌, List, length, map, take, slice_get, Some, option_map, IfErr, OnOk};
-ghost use Rattle.model.specs.Io.{Io};
-ghost use Rattle.model.specs.Machine.{MW};
-ghost use Rattle.model.specs.Values.{Bounds, ArrayOf};
-ghost use Rattle.model.specs.Conversions.{Got, Bad};
-ghost use Rattle.model.specs.Aggregates.{all_integers, element_op, table_element};
+ghost use Rattle.model.specs.Language.Io.{Io};
+ghost use Rattle.model.specs.Machine.Steps.{MW};
+ghost use Rattle.model.specs.Language.Values.{Bounds, ArrayOf};
+ghost use Rattle.model.specs.Language.Conversions.{Got, Bad};
+ghost use Rattle.model.specs.Language.Aggregates.{all_integers, element_op, table_element};
 ghost use Rattle.model.specs.declared.run.Stop.TheVariants.{NoMemory};
 ghost use Rattle.pattern_compiler.specs.View.{name_of};
 ghost use Rattle.world.specs.Values.{value_of};

@@ -1,14 +1,14 @@
 //! Arrays, tables and records: what makes them.
 
 ghost use Rattle.std.specs.Prelude.{◌≡◌, [], Some, option_map, OnErr};
-ghost use Rattle.model.specs.Io.{Io};
-ghost use Rattle.model.specs.Values.{Obj, TableOf};
-ghost use Rattle.model.specs.Prototypes.{passing, are_bounds};
-ghost use Rattle.model.specs.Aggregates.{new_object, array_op, copy_op, as_array, type_of};
+ghost use Rattle.model.specs.Language.Io.{Io};
+ghost use Rattle.model.specs.Language.Values.{Obj, TableOf};
+ghost use Rattle.model.specs.Language.Prototypes.{passing, are_bounds};
+ghost use Rattle.model.specs.Language.Aggregates.{new_object, array_op, copy_op, as_array, type_of};
 ghost use Rattle.model.specs.declared.run.Stop.TheVariants.{NoMemory};
 ghost use Rattle.world.specs.Values.{value_of};
 ghost use Rattle.world.specs.Held.{world_of};
-ghost use Rattle.world.specs.Answers.{answer_map, Answers, AnswersOrFails, IfStopped};
+ghost use Rattle.world.specs.Answers.{answer_map, AnswersAs, AnswersOrFails, IfStopped};
 
 use crate::fault::Fault;
 use crate::value::Value;
@@ -20,7 +20,7 @@ use std::alloc::Global;
 impl World {
     /// A new table without entries.
     pub fn table(&mut self, alloc: Global) -> Result<Value, Fault>
-        ensures made { (io : Io) → Answers (answer_map value_of result) (world_of self.new io) (new_object (TableOf []) (world_of self.old io)) }
+        ensures made { (io : Io) → AnswersAs (answer_map value_of result) (world_of self.new io) (new_object (TableOf []) (world_of self.old io)) }
         ensures stop { IfStopped result (λ stop. stop ≡ NoMemory) }
         ensures err { OnErr result (self.new ≡ self.old) }
     {
@@ -30,7 +30,7 @@ impl World {
 
     /// Another array like this one.
     pub fn copy(&mut self, alloc: Global, value: &Value) -> Result<Value, Fault>
-        ensures made { (io : Io) → Answers (answer_map value_of result) (world_of self.new io) (copy_op (value_of value.now) (world_of self.old io)) }
+        ensures made { (io : Io) → AnswersAs (answer_map value_of result) (world_of self.new io) (copy_op (value_of value.now) (world_of self.old io)) }
         ensures stop { IfStopped result (λ stop. stop ≡ NoMemory) }
         ensures err { OnErr result (self.new ≡ self.old) }
     {
@@ -63,7 +63,7 @@ impl World {
         bounds: Vec<Bounds>,
         value: &Value,
     ) -> Result<Value, Fault>
-        ensures made { (io : Io) → Answers (answer_map value_of result) (world_of self.new io) (array_op (passing are_bounds (Some bounds.items)) (value_of value.now) (world_of self.old io)) }
+        ensures made { (io : Io) → AnswersAs (answer_map value_of result) (world_of self.new io) (array_op (passing are_bounds (Some bounds.items)) (value_of value.now) (world_of self.old io)) }
         ensures stop { IfStopped result (λ stop. stop ≡ NoMemory) }
         ensures err { OnErr result (self.new ≡ self.old) }
     {

@@ -1,16 +1,16 @@
 //! Names that are fetched and assigned to. A variable may read its value from a unit, or write it to one.
 
 ghost use Rattle.std.specs.Prelude.{◌≡◌, ◌≢◌, ◌⊎◌, Some, None, Ok, length, option_map, IfOk, IfErr, OnOk, OnErr};
-ghost use Rattle.model.specs.Io.{Io};
-ghost use Rattle.model.specs.Target.{Variable};
-ghost use Rattle.model.specs.Operators.{fetch_op, take_record, as_read, assign_op, splice_op, write_var, print_text};
-ghost use Rattle.model.specs.Conversions.{to_text};
-ghost use Rattle.model.specs.Machine.{MVal};
+ghost use Rattle.model.specs.Language.Io.{Io};
+ghost use Rattle.model.specs.Deck.Target.{Variable};
+ghost use Rattle.model.specs.Language.Operators.{fetch_op, take_record, as_read, assign_op, splice_op, write_var, print_text};
+ghost use Rattle.model.specs.Language.Conversions.{to_text};
+ghost use Rattle.model.specs.Machine.Steps.{MVal};
 ghost use Rattle.model.specs.declared.run.Stop.TheVariants.{NoMemory};
 ghost use Rattle.pattern_compiler.specs.View.{name_of};
 ghost use Rattle.world.specs.Values.{value_of};
-ghost use Rattle.world.specs.Held.{Held, IsSet, IsSetOrKept, world_of, taken, variable_at, value_in};
-ghost use Rattle.world.specs.Answers.{answer_map, Answers, AnswersOrFails, done, IfStopped, stop_of, stopped_by};
+ghost use Rattle.world.specs.Held.{WorldView, IsSet, IsSetOrKept, world_of, taken, variable_at, value_in};
+ghost use Rattle.world.specs.Answers.{answer_map, AnswersAs, AnswersOrFails, done, IfStopped, stop_of, stopped_by};
 ghost use Rattle.unit_io.specs.Service.{Served};
 
 use crate::fault::Fault;
@@ -137,7 +137,7 @@ impl World {
         value: Value,
     ) -> Result<(), Fault>
         ensures served { Served U.Units (stopped_by result) units.old units.new (λ io io'.
-            Answers (done result) (world_of self.new io') (assign_op (name_of name.now) (value_of value) (world_of self.old io))) }
+            AnswersAs (done result) (world_of self.new io') (assign_op (name_of name.now) (value_of value) (world_of self.old io))) }
         ensures ok { OnOk result (IsSet (name_of name.now) (value_of value) self.old self.new) }
         ensures err { OnErr result (IsSetOrKept (name_of name.now) (value_of value) self.old self.new) }
     {
@@ -154,7 +154,7 @@ impl World {
         value: Value,
     ) -> Result<(), Fault>
         ensures served { Served U.Units (stopped_by result) units.old units.new (λ io io'.
-            Answers (done result) (world_of self.new io') (assign_op (name_of name.now) (value_of value) (world_of self.old io))) }
+            AnswersAs (done result) (world_of self.new io') (assign_op (name_of name.now) (value_of value) (world_of self.old io))) }
         ensures ok { OnOk result (IsSet (name_of name.now) (value_of value) self.old self.new) }
         ensures err { OnErr result (IsSetOrKept (name_of name.now) (value_of value) self.old self.new) }
     {
@@ -181,7 +181,7 @@ impl World {
         value: Value,
     ) -> Result<(), Fault>
         ensures served { Served U.Units (stopped_by result) units.old units.new (λ io io'.
-            Answers (done result) (world_of self.new io') (assign_op (Variable name.now) (value_of value) (world_of self.old io))) }
+            AnswersAs (done result) (world_of self.new io') (assign_op (Variable name.now) (value_of value) (world_of self.old io))) }
         ensures ok { OnOk result (IsSet (Variable name.now) (value_of value) self.old self.new) }
         ensures err { OnErr result (IsSetOrKept (Variable name.now) (value_of value) self.old self.new) }
     {
@@ -201,7 +201,7 @@ impl World {
         value: &Value,
     ) -> Result<(), Fault>
         ensures served { Served U.Units (stopped_by result) units.old units.new (λ io io'.
-            Answers (done result) (world_of self.new io') (splice_op (name_of name.now) span.now.subject span.now.start span.now.end (value_of value.now) (world_of self.old io))) }
+            AnswersAs (done result) (world_of self.new io') (splice_op (name_of name.now) span.now.subject span.now.start span.now.end (value_of value.now) (world_of self.old io))) }
         ensures only { (self.new ≡ self.old) ⊎ ((v : MVal) × IsSet (name_of name.now) v self.old self.new) }
     {
         self.splice_at(alloc, units, name, NO_SLOT, span, value)
@@ -218,7 +218,7 @@ impl World {
         value: &Value,
     ) -> Result<(), Fault>
         ensures served { Served U.Units (stopped_by result) units.old units.new (λ io io'.
-            Answers (done result) (world_of self.new io') (splice_op (name_of name.now) span.now.subject span.now.start span.now.end (value_of value.now) (world_of self.old io))) }
+            AnswersAs (done result) (world_of self.new io') (splice_op (name_of name.now) span.now.subject span.now.start span.now.end (value_of value.now) (world_of self.old io))) }
         ensures only { (self.new ≡ self.old) ⊎ ((v : MVal) × IsSet (name_of name.now) v self.old self.new) }
     {
         let whole = self.replaced(alloc, span, value)?;
@@ -236,7 +236,7 @@ impl World {
         unit: u8,
     ) -> Result<(), Fault>
         ensures served { Served U.Units (stopped_by result) units.old units.new (λ io io'.
-            Answers (done result) (world_of self.now io') (write_var (Some unit) (value_in (variable_at name.now self.now.variables)) (world_of self.now io))) }
+            AnswersAs (done result) (world_of self.now io') (write_var (Some unit) (value_in (variable_at name.now self.now.variables)) (world_of self.now io))) }
     {
         if is_zero(&self.keywords, KeyId::Output) {
             return Ok(());
@@ -251,7 +251,7 @@ impl World {
 // Writes a value as a record.
 fn print<U: Units>(alloc: Global, units: &mut U, unit: u8, value: &Value) -> Result<(), Fault>
     ensures served { Served U.Units (stopped_by result) units.old units.new (λ io io'.
-        (h : Held) → Answers (done result) (world_of h io') (print_text unit (to_text (value_of value.now)) (world_of h io))) }
+        (h : WorldView) → AnswersAs (done result) (world_of h io') (print_text unit (to_text (value_of value.now)) (world_of h io))) }
 {
     let text = match value.to_text(alloc) {
         Ok(text) => text,

@@ -1,8 +1,8 @@
 //! Values.
 
 ghost use Rattle.std.specs.Prelude.{◌≡◌, []};
-ghost use Rattle.model.specs.Values.{Str};
-ghost use Rattle.model.specs.Conversions.{is_null, to_text};
+ghost use Rattle.model.specs.Language.Values.{Str};
+ghost use Rattle.model.specs.Language.Conversions.{is_null, to_text};
 ghost use Rattle.model.specs.declared.run.Stop.TheVariants.{NoMemory};
 ghost use Rattle.world.specs.Answers.{Converts, IfStopped};
 ghost use Rattle.world.specs.Values.{value_of, has_text};
@@ -53,7 +53,7 @@ impl Clone for Value {
 }
 
 impl Element for Value {
-    ghost use Rattle.model.specs.Conversions.{is_null};
+    ghost use Rattle.model.specs.Language.Conversions.{is_null};
     ghost use Rattle.world.specs.Values.{value_of, held_key};
 
     ghost null_test = { λ v. is_null (value_of v) };

@@ -1,12 +1,12 @@
 //! The world of a run.
 
 ghost use Rattle.std.specs.Prelude.{◌≡◌, [], pos, Some, None, is_some, option_copied, slice_get, IfOk, IfSome, OnOk, OnErr, if◌then◌else◌};
-ghost use Rattle.model.specs.Io.{Io};
-ghost use Rattle.model.specs.Values.{set_var};
-ghost use Rattle.model.specs.Primitives.{set_reads, set_writes};
-ghost use Rattle.model.specs.Keywords.{key_value};
-ghost use Rattle.model.specs.Agreement.{first_m};
-ghost use Rattle.model.specs.PrintedBefore.{after_w};
+ghost use Rattle.model.specs.Language.Io.{Io};
+ghost use Rattle.model.specs.Language.Values.{set_var};
+ghost use Rattle.model.specs.Language.Primitives.{set_reads, set_writes};
+ghost use Rattle.model.specs.Language.Keywords.{key_value};
+ghost use Rattle.model.specs.Laws.Agreement.{first_m};
+ghost use Rattle.model.specs.Laws.PrintedBefore.{after_w};
 ghost use Rattle.world.specs.Values.{value_of};
 ghost use Rattle.world.specs.Held.{world_of, name_at, zero_in, variable_at, input_in, output_in, with_variable, pattern_variable, first_patterns, first_variables};
 ghost use Rattle.world.specs.declared.value.Value.TheVariants.{String};
@@ -90,9 +90,9 @@ impl Drop for World {
 }
 
 impl Model for World {
-    ghost use Rattle.world.specs.Held.{Held};
+    ghost use Rattle.world.specs.Held.{WorldView};
 
-    ghost Value = { Held };
+    ghost Value = { WorldView };
 
     ghost view = { λ w. record { variables = w.variables.entries; objects = w.heap; keys = w.keywords } };
 }

@@ -1,14 +1,14 @@
 //! Operators that ask the world, but no unit.
 
 ghost use Rattle.std.specs.Prelude.{◌≡◌, ◌++◌, ◌+◌, ◌<◌, ◌≤◌, length, IfOk, IfErr, Err, ◌↔◌, take, drop};
-ghost use Rattle.model.specs.Io.{Io};
-ghost use Rattle.model.specs.Machine.{codes_of};
-ghost use Rattle.model.specs.Operators.{cat_op, keyget_op, keyset_op, match_op, assign_op, splice_op};
-ghost use Rattle.model.specs.Target.{Name};
+ghost use Rattle.model.specs.Language.Io.{Io};
+ghost use Rattle.model.specs.Machine.Steps.{codes_of};
+ghost use Rattle.model.specs.Language.Operators.{cat_op, keyget_op, keyset_op, match_op, assign_op, splice_op};
+ghost use Rattle.model.specs.Deck.Target.{Name};
 ghost use Rattle.model.specs.declared.run.Stop.TheVariants.{NoMemory};
 ghost use Rattle.world.specs.Values.{value_of, begun_of};
 ghost use Rattle.world.specs.Held.{world_of};
-ghost use Rattle.world.specs.Answers.{answer_map, done, op_of, Answers, IfStopped, LeadsTo};
+ghost use Rattle.world.specs.Answers.{answer_map, done, op_of, AnswersAs, IfStopped, LeadsTo};
 
 use crate::fault::Fault;
 use crate::value::Value;
@@ -87,7 +87,7 @@ impl World {
     /// Two values one after the other. The null string gives the other, unconverted. Bytes of the left one that nothing
     /// else shares aren't copied while they have room.
     pub fn cat(&self, alloc: Global, left: Value, right: Value) -> Result<Value, Fault>
-        ensures value { (io : Io) → Answers (answer_map value_of result) (world_of self.now io) (cat_op codes_of (value_of left) (value_of right) (world_of self.now io)) }
+        ensures value { (io : Io) → AnswersAs (answer_map value_of result) (world_of self.now io) (cat_op codes_of (value_of left) (value_of right) (world_of self.now io)) }
         ensures stop { IfStopped result (λ stop. stop ≡ NoMemory) }
     {
         if left.is_null() {
@@ -109,7 +109,7 @@ impl World {
 
     /// The value of a keyword.
     pub fn keyword(&self, id: KeyId) -> Result<Value, Fault>
-        ensures value { (io : Io) → Answers (answer_map value_of result) (world_of self.now io) (keyget_op id (world_of self.now io)) }
+        ensures value { (io : Io) → AnswersAs (answer_map value_of result) (world_of self.now io) (keyget_op id (world_of self.now io)) }
         ensures stop { IfStopped result (λ stop. stop ≡ NoMemory) }
     {
         match self.keywords.get(id) {
@@ -136,7 +136,7 @@ impl World {
         subject: &Value,
         pattern: &Value,
     ) -> Result<Begun, Fault>
-        ensures begun { (io : Io) → Answers (answer_map begun_of result) (world_of self.now io) (match_op codes_of (value_of subject.now) (value_of pattern.now) (world_of self.now io)) }
+        ensures begun { (io : Io) → AnswersAs (answer_map begun_of result) (world_of self.now io) (match_op codes_of (value_of subject.now) (value_of pattern.now) (world_of self.now io)) }
         ensures stop { IfStopped result (λ stop. stop ≡ NoMemory) }
     {
         let subject = subject.to_text(alloc)?;

@@ -1,6 +1,6 @@
 use Rattle.std.proofs.Common.{◌≡◌, refl, subst, sym, ◌∙◌}
 use Rattle.model.specs.declared.image.Image.{Image}
-use Rattle.model.proofs.SpeltNumbers.{ok_is}
+use Rattle.model.proofs.Module.SpeltNumbers.{ok_is}
 use Rattle.statement_machine.specs.Runs.{IsRun}
 use Rattle.statement_machine.specs.Stopped.{IfRan, ending_of, stop_of_run}
 use Rattle.unit_io.specs.Service.{Served}

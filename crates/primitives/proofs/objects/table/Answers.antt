@@ -1,19 +1,19 @@
 use Rattle.std.proofs.Common.{[], sym, ap, subst, ◌∙◌, Err, Result}
 use Rattle.std.proofs.lemmas.Result.{err_from_is_err_and}
-use Rattle.model.specs.Aggregates.{new_object}
-use Rattle.model.specs.Conversions.{Op}
-use Rattle.model.specs.Machine.{MVal, MW}
-use Rattle.model.specs.Primitives.{returned}
-use Rattle.model.specs.Values.{TableOf}
+use Rattle.model.specs.Language.Aggregates.{new_object}
+use Rattle.model.specs.Language.Conversions.{Op}
+use Rattle.model.specs.Machine.Steps.{MVal, MW}
+use Rattle.model.specs.Language.Primitives.{returned}
+use Rattle.model.specs.Language.Values.{TableOf}
 use Rattle.world.specs.Held.{world_of}
-use Rattle.world.specs.Answers.{Answers}
+use Rattle.world.specs.Answers.{AnswersAs}
 use Rattle.world.specs.declared.fault.Fault.{Fault}
 use Rattle.world.specs.declared.fault.Fault.TheVariants as fault
 use Rattle.primitives.specs.Answers.{ComesTo}
 use Rattle.primitives.specs.declared.outcome.Outcome.{Outcome}
 use Rattle.primitives.proofs.objects.table.Goals as goal
 
-refused_as : (e : Fault) (w : MW) (o : Op MW MVal) → Answers (Err e) w o → ComesTo (Err e) w (returned o)
+refused_as : (e : Fault) (w : MW) (o : Op MW MVal) → AnswersAs (Err e) w o → ComesTo (Err e) w (returned o)
 refused_as (fault.Error x) w o h = ap returned h
 refused_as (fault.Stop s) w o h = tt
 

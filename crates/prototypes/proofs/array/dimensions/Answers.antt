@@ -1,5 +1,5 @@
 use Rattle.std.proofs.Common.{Some, ap, sym, ◌∙◌}
-use Rattle.model.specs.Prototypes.{split_at, all_bounds}
+use Rattle.model.specs.Language.Prototypes.{split_at, all_bounds}
 use Rattle.prototypes.proofs.Bounds.{behind, first_read, first_refused, last_read, last_refused}
 use Rattle.prototypes.proofs.array.dimensions.Goals as goal
 

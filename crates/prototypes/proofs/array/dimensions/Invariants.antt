@@ -1,5 +1,5 @@
 use Rattle.std.proofs.Common.{◌≡◌, length}
-use Rattle.model.specs.Prototypes.{split_at, all_bounds}
+use Rattle.model.specs.Language.Prototypes.{split_at, all_bounds}
 use Rattle.prototypes.proofs.Bounds.{behind}
 use Rattle.prototypes.proofs.array.dimensions.Given as goal
 

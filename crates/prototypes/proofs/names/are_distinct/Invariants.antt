@@ -1,5 +1,5 @@
 use Rattle.std.proofs.Common.{◌≡◌, take, true}
-use Rattle.model.specs.Prototypes.{are_distinct}
+use Rattle.model.specs.Language.Prototypes.{are_distinct}
 use Rattle.prototypes.proofs.names.are_distinct.Given as goal
 
 abbrev pub invariant-loop-name : goal.invariant-loop-name

@@ -1,5 +1,5 @@
 use Rattle.std.proofs.Common.{◌≡◌, ◌++◌, length}
-use Rattle.model.specs.Prototypes.{split_at}
+use Rattle.model.specs.Language.Prototypes.{split_at}
 use Rattle.prototypes.proofs.parts.push_parts.Given as goal
 
 abbrev pub invariant-loop-name : goal.invariant-loop-name

@@ -1,6 +1,6 @@
 use Rattle.std.proofs.Common.{◌≡◌, None, drop}
 use Rattle.match_machine.specs.View.{pending_of}
-use Rattle.model.specs.Operators.{assign_all}
+use Rattle.model.specs.Language.Operators.{assign_all}
 use Rattle.unit_io.specs.Service.{Served}
 use Rattle.world.specs.Held.{world_of}
 use Rattle.statement_machine.proofs.matches.assign_all.Given as goal

@@ -1,5 +1,5 @@
 use Rattle.std.proofs.Common.{◌≡◌, map, take, drop}
-use Rattle.model.specs.Aggregates.{all_integers}
+use Rattle.model.specs.Language.Aggregates.{all_integers}
 use Rattle.world.specs.Values.{value_of}
 use Rattle.world.proofs.Named.{with_front}
 use Rattle.world.proofs.items.put_integers.Given as goal

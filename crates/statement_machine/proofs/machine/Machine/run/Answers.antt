@@ -1,11 +1,11 @@
 use Rattle.std.proofs.Common.{sym, ap, ◌∙◌}
-use Rattle.statement_machine.specs.Runs.{Held}
+use Rattle.statement_machine.specs.Runs.{MachineView}
 use Rattle.statement_machine.proofs.Seeing.{ran_on, ran_out, ran_same}
 use Rattle.statement_machine.proofs.machine.Machine.run.Goals as goal
 
 pub returns-in-Some-clause-served : goal.returns-in-Some-clause-served
 returns-in-Some-clause-served g c =
-    ran_same g.U.Units c.args.units.now c.args.self.now c.args.bound c.status.result c.in-Some.halt (sym (ap (λ (h : Held). h.halt) c.self.view_is) ∙ c.in-Some.is)
+    ran_same g.U.Units c.args.units.now c.args.self.now c.args.bound c.status.result c.in-Some.halt (sym (ap (λ (h : MachineView). h.halt) c.self.view_is) ∙ c.in-Some.is)
 
 pub returns-in-Ok-clause-served : goal.returns-in-Ok-clause-served
 returns-in-Ok-clause-served g c =

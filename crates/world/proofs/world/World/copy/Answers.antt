@@ -1,5 +1,5 @@
 use Rattle.std.proofs.Common.{ap, ◌∙◌}
-use Rattle.model.specs.Aggregates.{copy_op}
+use Rattle.model.specs.Language.Aggregates.{copy_op}
 use Rattle.world.specs.Values.{value_of}
 use Rattle.world.specs.Held.{world_of}
 use Rattle.world.proofs.Made.{was_copied}

@@ -1,6 +1,6 @@
 use Rattle.std.proofs.Common.{[], ap, ◌∙◌, sym, Some}
 use Rattle.std.specs.Prelude.{option_map, option_copied, unwrap_or}
-use Rattle.model.specs.Values.{Str}
+use Rattle.model.specs.Language.Values.{Str}
 use Rattle.aggregates.specs.Keys.{key_of}
 use Rattle.world.specs.Values.{value_of}
 use Rattle.world.proofs.Objects.{entry_got}

@@ -1,8 +1,8 @@
 use Rattle.std.proofs.Common.{ap, sym, subst, ◌∙◌, Some, Ok, Err, Result, Option}
 use Rattle.std.specs.Prelude.{map, option_map}
 use Rattle.std.proofs.lemmas.Result.{err_from_is_err_and}
-use Rattle.model.specs.Conversions.{Bad}
-use Rattle.model.specs.Aggregates.{element_op}
+use Rattle.model.specs.Language.Conversions.{Bad}
+use Rattle.model.specs.Language.Aggregates.{element_op}
 use Rattle.pattern_compiler.specs.View.{name_of}
 use Rattle.pattern_compiler.specs.declared.instr.Name.{Name}
 use Rattle.world.specs.declared.fault.Fault.{Fault}

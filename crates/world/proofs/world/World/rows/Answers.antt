@@ -1,5 +1,5 @@
 use Rattle.std.proofs.Common.{ap, ◌∙◌}
-use Rattle.model.specs.Aggregates.{as_array}
+use Rattle.model.specs.Language.Aggregates.{as_array}
 use Rattle.world.specs.Values.{value_of}
 use Rattle.world.specs.Held.{world_of}
 use Rattle.world.proofs.Made.{too_many_rows, was_listed, not_listed}

@@ -1,5 +1,5 @@
 use Rattle.std.proofs.Common.{rules, inl, refl}
-use Rattle.model.specs.Operators.{assign_op, splice_op}
+use Rattle.model.specs.Language.Operators.{assign_op, splice_op}
 use Rattle.pattern_compiler.specs.View.{name_of}
 use Rattle.world.specs.Values.{value_of}
 use Rattle.world.proofs.UnitCalls.{no_more, not_replaced, replaced_by}

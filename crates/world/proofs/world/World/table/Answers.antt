@@ -1,5 +1,5 @@
 use Rattle.std.proofs.Common.{[]}
-use Rattle.model.specs.Values.{TableOf}
+use Rattle.model.specs.Language.Values.{TableOf}
 use Rattle.world.proofs.Made.{made}
 use Rattle.world.proofs.world.World.table.Goals as goal
 

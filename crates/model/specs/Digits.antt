@@ -1,9 +1,0 @@
--- The number that decimal digits stand for.
-use Rattle.std.specs.Prelude.{ℕ, ◌+◌, ◌-◌, ◌*◌, List, [], ◌∷◌}
-
-abbrev pub value_from : ℕ → List ℕ → ℕ
-value_from n [] = n
-value_from n (d ∷ ds) = value_from (10 * n + (d - 48)) ds
-
-unfoldable pub value : List ℕ → ℕ
-value ds = value_from 0 ds
