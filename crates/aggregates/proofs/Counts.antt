@@ -3,8 +3,8 @@ use Rattle.std.proofs.Common.{◌≡◌, ℕ, zero, suc, ◌+◌, ◌*◌, ◌<�
 use Rattle.std.proofs.lemmas.Bool.{cases_lt}
 use Rattle.std.proofs.lemmas.List.{take_more}
 use Rattle.std.proofs.Math.Nat.{mul_assoc, mul-one, one-mul, mul-suc}
-use Rattle.model.specs.Values.{Bounds}
-use Rattle.model.specs.Prototypes.{elements_in}
+use Rattle.model.specs.Language.Values.{Bounds}
+use Rattle.model.specs.Language.Prototypes.{elements_in}
 
 -- a product is no less than a factor
 pub at_least : (a b : ℕ) → 0 < b → a ≤ a * b

@@ -7,10 +7,10 @@ use Rattle.std.proofs.lemmas.Grind.{common_steps}
 use Rattle.std.proofs.lemmas.List.{append-nil}
 use Rattle.std.specs.Ordering.{int_eq}
 use Rattle.indexmap.specs.IndexMap.{insert_entry}
-use Rattle.model.specs.Values.{Entry, IntegerAt, StringAt}
-use Rattle.model.specs.Values as values
-use Rattle.model.specs.Operators.{same_key, with_entry}
-use Rattle.model.specs.Aggregates.{row_count, rows}
+use Rattle.model.specs.Language.Values.{Entry, IntegerAt, StringAt}
+use Rattle.model.specs.Language.Values as values
+use Rattle.model.specs.Language.Operators.{same_key, with_entry}
+use Rattle.model.specs.Language.Aggregates.{row_count, rows}
 use Rattle.aggregates.specs.declared.place.Key as held
 use Rattle.aggregates.specs.declared.place.Key.TheVariants as k
 use Rattle.aggregates.specs.contracts.place.KeyPartialEq.TheImpl.{ghosts}

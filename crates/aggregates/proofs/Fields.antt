@@ -1,8 +1,8 @@
 -- The place of a name among others.
 use Rattle.std.proofs.Common.{◌≡◌, ℕ, ◌+◌, ◌<◌, ◌≤◌, List, ◌∷◌, length, get_or, drop, Some, None, true, false, bytes_eq, if◌then◌else◌, sym, ap, ◌∙◌}
 use Rattle.std.proofs.lemmas.List.{drop_more, drop_all}
-use Rattle.model.specs.Trees.{Bytes}
-use Rattle.model.specs.Aggregates.{place_of}
+use Rattle.model.specs.Deck.Trees.{Bytes}
+use Rattle.model.specs.Language.Aggregates.{place_of}
 
 module _ (name : Bytes) (fs : List Bytes) (k : ℕ) (f : Bytes) (inside : k < length fs) (is : f ≡ get_or fs k f) where
   here : place_of k name (drop k fs) ≡ (if bytes_eq name f then Some k else place_of (k + 1) name (drop (k + 1) fs))

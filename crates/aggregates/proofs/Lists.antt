@@ -2,7 +2,7 @@
 use Rattle.std.proofs.Common.{◌≡◌, ℕ, zero, suc, ◌+◌, ◌<◌, ◌≤◌, List, [], ◌∷◌, ◌++◌, length, replicate, Some, None, refl, sym, ap, arith}
 use Rattle.std.specs.Prelude.{slice_set, Result, Ok, Err, OnErr}
 use Rattle.std.proofs.lemmas.List.{replicate-append-replicate}
-use Rattle.model.specs.Operators.{with_item, onto}
+use Rattle.model.specs.Language.Operators.{with_item, onto}
 
 pub with_item_past : {V : Type 0} (n : ℕ) (v : V) (xs : List V) → length xs ≤ n → with_item n v xs ≡ None
 with_item_past n v [] le = refl

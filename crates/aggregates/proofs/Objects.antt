@@ -2,8 +2,8 @@
 use Rattle.std.proofs.Common.{◌≡◌, ℕ, zero, suc, ◌<◌, ◌≤◌, List, [], ◌∷◌, ◌++◌, length, get_or, Option, Some, None, Bool, true, false, refl, sym, ap, ◌∙◌, arith}
 use Rattle.std.specs.Prelude.{slice_get, slice_set}
 use Rattle.std.proofs.lemmas.List.{length-map, map-append}
-use Rattle.model.specs.Values.{Object}
-use Rattle.model.specs.Operators.{with_item, onto}
+use Rattle.model.specs.Language.Values.{Object}
+use Rattle.model.specs.Language.Operators.{with_item, onto}
 use Rattle.aggregates.specs.declared.object.Object as held
 use Rattle.aggregates.specs.Objects.{if_stored, put_at}
 use Rattle.aggregates.specs.Made.{object_of, objects_of}

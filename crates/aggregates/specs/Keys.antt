@@ -1,8 +1,8 @@
 -- Keys and entries as they are held, and as the definitions see them.
 use Rattle.std.specs.Prelude.{Bool, nat_eq, List, [], ◌∷◌, Option, Some, None, if◌then◌else◌}
-use Rattle.model.specs.Values.{Bounds, Key, IntegerAt, StringAt, Entry}
-use Rattle.model.specs.Aggregates.{row_count, rows, pairs}
-use Rattle.model.specs.Operators.{same_key}
+use Rattle.model.specs.Language.Values.{Bounds, Key, IntegerAt, StringAt, Entry}
+use Rattle.model.specs.Language.Aggregates.{row_count, rows, pairs}
+use Rattle.model.specs.Language.Operators.{same_key}
 use Rattle.aggregates.specs.declared.place.Key as held
 use Rattle.aggregates.specs.declared.place.Key.TheVariants as k
 

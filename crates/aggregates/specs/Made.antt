@@ -1,7 +1,7 @@
 -- Objects as they are held, and as the definitions see them; and those that calls make.
 use Rattle.std.specs.Prelude.{ℕ, List, [], ◌∷◌, ◌++◌, length, map, replicate, Option, Some, None, Bool, if◌then◌else◌}
-use Rattle.model.specs.Values.{Key, Bounds, Object, ArrayOf, TableOf, RecordOf}
-use Rattle.model.specs.Prototypes.{elements_in, are_bounds}
+use Rattle.model.specs.Language.Values.{Key, Bounds, Object, ArrayOf, TableOf, RecordOf}
+use Rattle.model.specs.Language.Prototypes.{elements_in, are_bounds}
 use Rattle.aggregates.specs.Keys.{table_rows}
 use Rattle.aggregates.specs.declared.object.Object as held
 use Rattle.aggregates.specs.declared.object.Object.TheVariants as o

@@ -1,9 +1,9 @@
 -- What an object holds at a place, and what it is with another value there.
 use Rattle.std.specs.Prelude.{ℕ, ℤ, List, Option, Some, None, Bool, true, false}
-use Rattle.model.specs.Values.{Key, Object, ArrayOf, TableOf, RecordOf}
-use Rattle.model.specs.Trees.{Bytes}
-use Rattle.model.specs.Aggregates.{place_from, place_of}
-use Rattle.model.specs.Operators.{element_of, with_element, with_value_for, with_item}
+use Rattle.model.specs.Language.Values.{Key, Object, ArrayOf, TableOf, RecordOf}
+use Rattle.model.specs.Deck.Trees.{Bytes}
+use Rattle.model.specs.Language.Aggregates.{place_from, place_of}
+use Rattle.model.specs.Language.Operators.{element_of, with_element, with_value_for, with_item}
 use Rattle.aggregates.specs.Keys.{key_of, value_at}
 use Rattle.aggregates.specs.declared.place.Place.{Place}
 use Rattle.aggregates.specs.declared.place.Place.TheVariants as place

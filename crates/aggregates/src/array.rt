@@ -2,9 +2,9 @@
 
 ghost use Rattle.std.specs.Prelude.{◌≡◌, ◌<◌, ◌^◌, IfOk, Some, replicate, slice_get, length, false};
 ghost use Rattle.std.specs.Option.{option_copied};
-ghost use Rattle.model.specs.Aggregates.{place_from};
-ghost use Rattle.model.specs.Prototypes.{elements_in};
-ghost use Rattle.model.specs.Operators.{with_item};
+ghost use Rattle.model.specs.Language.Aggregates.{place_from};
+ghost use Rattle.model.specs.Language.Prototypes.{elements_in};
+ghost use Rattle.model.specs.Language.Operators.{with_item};
 ghost use Rattle.aggregates.specs.Objects.{if_stored};
 
 use crate::bounds::{Bounds, place_of};
@@ -22,8 +22,8 @@ pub(crate) struct Array<V> {
 
 impl<V> Model for Array<V> {
     ghost use Rattle.std.specs.Prelude.{◌≡◌, ◌<◌, List, length};
-    ghost use Rattle.model.specs.Values as values;
-    ghost use Rattle.model.specs.Prototypes.{elements_in};
+    ghost use Rattle.model.specs.Language.Values as values;
+    ghost use Rattle.model.specs.Language.Prototypes.{elements_in};
 
     ghost Value = { List values.Bounds × List V };
 

@@ -1,8 +1,8 @@
 //! The dimensions of arrays.
 
 ghost use Rattle.std.specs.Prelude.{◌≡◌, ◌<◌, ◌-◌, ◌^◌, min, Some, pos, ◌<ℤ◌, nat_abs, IfSome};
-ghost use Rattle.model.specs.Aggregates.{place_from};
-ghost use Rattle.model.specs.Prototypes.{bounds_from, elements_in, are_bounds};
+ghost use Rattle.model.specs.Language.Aggregates.{place_from};
+ghost use Rattle.model.specs.Language.Prototypes.{bounds_from, elements_in, are_bounds};
 ghost use Rattle.aggregates.specs.Bounds.{offset_in};
 
 use std::alloc::AllocError;
@@ -17,7 +17,7 @@ pub struct Bounds {
 
 impl Model for Bounds {
     ghost use Rattle.std.specs.Prelude.{◌+◌, ◌-ℤ◌, ◌≤ℤ◌, nat_abs};
-    ghost use Rattle.model.specs.Values as values;
+    ghost use Rattle.model.specs.Language.Values as values;
 
     ghost Value = { values.Bounds };
 

@@ -9,7 +9,7 @@ use std::alloc::AllocError;
 /// A value that an array, a table or a record holds. A clone is the same value.
 pub trait Element: Clone + Drop {
     ghost use Rattle.std.specs.Prelude.{Bool};
-    ghost use Rattle.model.specs.Values as values;
+    ghost use Rattle.model.specs.Language.Values as values;
 
     // Whether a value is null.
     ghost null_test: { Self → Bool };

@@ -2,8 +2,8 @@
 
 ghost use Rattle.std.specs.Prelude.{◌≡◌, ◌++◌, ◌∷◌, [], length, slice_get, Some, false, IfOk, OnOk, OnErr, option_map, if◌then◌else◌, None};
 ghost use Rattle.std.specs.Option.{option_copied};
-ghost use Rattle.model.specs.Values.{ArrayOf, TableOf, RecordOf};
-ghost use Rattle.model.specs.Prototypes.{elements_in};
+ghost use Rattle.model.specs.Language.Values.{ArrayOf, TableOf, RecordOf};
+ghost use Rattle.model.specs.Language.Prototypes.{elements_in};
 ghost use Rattle.aggregates.specs.Objects.{held_at, stored_at, put_at, if_stored, place_in, field_in, record_type};
 ghost use Rattle.aggregates.specs.Made.{kind_of, filled, copied, rows_array, number, with_object, object_of};
 
@@ -25,7 +25,7 @@ pub struct Heap<V> {
 
 impl<V> Model for Heap<V> {
     ghost use Rattle.std.specs.Prelude.{List};
-    ghost use Rattle.model.specs.Values as values;
+    ghost use Rattle.model.specs.Language.Values as values;
 
     ghost Value = { List (values.Object V) };
 

@@ -1,7 +1,7 @@
 //! Vectors: their copies, and another item in one.
 
 ghost use Rattle.std.specs.Prelude.{◌≡◌, IfOk, replicate, length, false};
-ghost use Rattle.model.specs.Operators.{with_item};
+ghost use Rattle.model.specs.Language.Operators.{with_item};
 ghost use Rattle.aggregates.specs.Objects.{if_stored};
 
 use std::alloc::{AllocError, Global};

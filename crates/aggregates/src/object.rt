@@ -2,7 +2,7 @@
 
 ghost use Rattle.std.specs.Prelude.{◌≡◌, Some, IfOk, OnErr, false};
 ghost use Rattle.std.specs.Option.{option_copied};
-ghost use Rattle.model.specs.Aggregates.{place_of};
+ghost use Rattle.model.specs.Language.Aggregates.{place_of};
 ghost use Rattle.aggregates.specs.Objects.{held_at, stored_at, if_stored};
 ghost use Rattle.aggregates.specs.Made.{object_of, kind_of};
 

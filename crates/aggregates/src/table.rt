@@ -2,8 +2,8 @@
 
 ghost use Rattle.std.specs.Prelude.{◌≡◌, ◌<◌, ◌^◌, [], IfOk, OnOk, OnErr};
 ghost use Rattle.std.specs.Option.{option_copied};
-ghost use Rattle.model.specs.Operators.{with_entry};
-ghost use Rattle.model.specs.Aggregates.{row_count, rows, pairs};
+ghost use Rattle.model.specs.Language.Operators.{with_entry};
+ghost use Rattle.model.specs.Language.Aggregates.{row_count, rows, pairs};
 ghost use Rattle.aggregates.specs.Keys.{key_of, value_at, table_rows};
 
 use crate::array::Array;
@@ -22,7 +22,7 @@ pub(crate) struct Table<V> {
 
 impl<V> Model for Table<V> {
     ghost use Rattle.std.specs.Prelude.{List};
-    ghost use Rattle.model.specs.Values.{Entry};
+    ghost use Rattle.model.specs.Language.Values.{Entry};
 
     ghost Value = { List (Entry V) };
 

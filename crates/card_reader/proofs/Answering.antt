@@ -9,7 +9,7 @@ use Rattle.model.specs.declared.cards.CardFault.{CardFault}
 use Rattle.model.specs.declared.cards.CardRule.{CardRule}
 use Rattle.model.specs.declared.cards.CardRule.TheVariants as rule
 use Rattle.model.specs.declared.cards.Deck.{Deck}
-use Rattle.model.specs.Cards.{Card, CardKind, Comment, Control, UnknownControl, Continuation, Start, Column, cards, kind_of, kind_of_columns, pieces_of, ended, kept, bad_bytes, before_lost, lost_continuations, before_unknown, unknown_controls, long_statements, faults_of, fault, least, lesser, is_less, is_plain, verdict, deck_of, deck}
+use Rattle.model.specs.Deck.Cards.{Card, CardKind, Comment, Control, UnknownControl, Continuation, Start, Column, cards, kind_of, kind_of_columns, pieces_of, ended, kept, bad_bytes, before_lost, lost_continuations, before_unknown, unknown_controls, long_statements, faults_of, fault, least, lesser, is_less, is_plain, verdict, deck_of, deck}
 use Rattle.card_reader.specs.declared.reader.Reader.{Reader}
 use Rattle.card_reader.specs.Parts.{Parts, parts_of}
 use Rattle.card_reader.specs.Reading.{merge, IsClosed, Waits, pieces_now}

@@ -5,7 +5,7 @@ use Rattle.std.specs.declared.alloc.AllocError.{AllocError}
 use Rattle.std.proofs.lemmas.List.{length-take}
 use Rattle.model.specs.declared.cards.CardFault.{CardFault}
 use Rattle.model.specs.declared.cards.CardRule.TheVariants as rule
-use Rattle.model.specs.Cards.{CardKind, Comment, Control, UnknownControl, Continuation, Start, fault, is_blank_text, is_known_control, kind_of_columns, kind_by_first}
+use Rattle.model.specs.Deck.Cards.{CardKind, Comment, Control, UnknownControl, Continuation, Start, fault, is_blank_text, is_known_control, kind_of_columns, kind_by_first}
 use Rattle.card_reader.specs.declared.reader.Reader.{Reader}
 use Rattle.card_reader.specs.Parts.{Parts, parts_of, next_text, step}
 use Rattle.card_reader.specs.Reading.{merge, kind_fault, Holds, Waits, IsClosed, IsCardRead, text_length}

@@ -6,7 +6,7 @@ use Rattle.std.proofs.lemmas.Bool.{cases_Bool}
 use Rattle.model.specs.declared.cards.Statement.{Statement}
 use Rattle.model.specs.declared.cards.CardFault.{CardFault}
 use Rattle.model.specs.declared.cards.CardRule.TheVariants as rule
-use Rattle.model.specs.Cards.{Card, CardKind, Comment, Control, UnknownControl, Continuation, Start, lines, numbered_from, cards, kind_of, pieces_of, has_end, ended, kept, statements_from, statements_of, bad_bytes, before_lost, lost_continuations, before_unknown, unknown_controls, long_statements, faults_of, fault, least, is_plain, verdict, deck_of}
+use Rattle.model.specs.Deck.Cards.{Card, CardKind, Comment, Control, UnknownControl, Continuation, Start, lines, numbered_from, cards, kind_of, pieces_of, has_end, ended, kept, statements_from, statements_of, bad_bytes, before_lost, lost_continuations, before_unknown, unknown_controls, long_statements, faults_of, fault, least, is_plain, verdict, deck_of}
 use Rattle.card_reader.specs.declared.reader.Reader.{Reader}
 use Rattle.card_reader.specs.Parts.{Parts, nothing, step}
 use Rattle.card_reader.specs.Reading.{merge, bad_byte, kind_fault, card_fault, Holds, Waits, pieces_now, IsCardRead}

@@ -1,7 +1,7 @@
 -- The pieces of all cards, from the parts of the cards so far and the cards that follow.
 use Rattle.std.proofs.Common.{◌≡◌, refl, sym, ◌∙◌, ap, ℕ, ◌+◌, true, false, List, [], ◌∷◌, ◌++◌, take, drop, append_assoc, append-nil}
 use Rattle.std.specs.Prelude.{Option, Some, None, map}
-use Rattle.model.specs.Cards.{Card, CardKind, Comment, Control, UnknownControl, Continuation, Start, Column, placed, continued, texts, split, kind_of, pieces_of_texts, pieces_of, has_end, beginnings, first_ended, ended}
+use Rattle.model.specs.Deck.Cards.{Card, CardKind, Comment, Control, UnknownControl, Continuation, Start, Column, placed, continued, texts, split, kind_of, pieces_of_texts, pieces_of, has_end, beginnings, first_ended, ended}
 use Rattle.card_reader.specs.Parts.{after, glue, Parts, parts, nothing, grown, appended, ended_text, step, all_pieces}
 use Rattle.card_reader.specs.Reached.{with_more, pieces_at, ended_at}
 use Rattle.card_reader.specs.declared.reader.Stop.TheVariants as stop

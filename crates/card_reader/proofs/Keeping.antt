@@ -6,7 +6,7 @@ use Rattle.std.proofs.lemmas.Bool.Decides.{nat_tests}
 use Rattle.std.proofs.lemmas.List.{map-append}
 use Rattle.model.specs.declared.cards.CardFault.{CardFault}
 use Rattle.model.specs.declared.cards.CardRule.TheVariants as rule
-use Rattle.model.specs.Cards.{Column, placed, bytes, is_end, has_end, kept, first_card, is_blank_text, is_word_first, statements_from, long_statements, least, fault}
+use Rattle.model.specs.Deck.Cards.{Column, placed, bytes, is_end, has_end, kept, first_card, is_blank_text, is_word_first, statements_from, long_statements, least, fault}
 use Rattle.card_reader.specs.declared.reader.Reader.{Reader}
 use Rattle.card_reader.specs.Parts.{Parts, parts, parts_of}
 use Rattle.card_reader.specs.Reading.{merge, when, Holds, Ends, Others, IsClosed, IsPieceEnd, IsRead, Waits, statement_of, too_long}

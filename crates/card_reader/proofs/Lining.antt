@@ -3,7 +3,7 @@ use Rattle.std.proofs.Common.{◌≡◌, ◌≢◌, ℕ, zero, suc, ◌-◌, ◌
 use Rattle.std.proofs.lemmas.Bool.{cases_Bool}
 use Rattle.std.proofs.lemmas.Bool.Decides.{nat_tests}
 use Rattle.std.proofs.lemmas.List.{take_all, length-drop}
-use Rattle.model.specs.Cards.{lines}
+use Rattle.model.specs.Deck.Cards.{lines}
 
 pub line_at : (bs : List ℕ) (i : ℕ) → i < length bs → ((k : ℕ) → k < i → (get_or bs k 0 == 10) ≡ true → ⊥) → (get_or bs i 0 == 10) ≡ true → lines bs ≡ take i bs ∷ lines (drop (suc i) bs)
 line_at [] i lt none e = absurd (omega arith)

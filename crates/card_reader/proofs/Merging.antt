@@ -6,7 +6,7 @@ use Rattle.std.proofs.lemmas.Bool.Decides.{nat_tests}
 use Rattle.model.specs.declared.cards.CardFault.{CardFault}
 use Rattle.model.specs.declared.cards.CardRule.{CardRule}
 use Rattle.model.specs.declared.cards.CardRule.TheVariants as rule
-use Rattle.model.specs.Cards.{rank, is_less, lesser, least}
+use Rattle.model.specs.Deck.Cards.{rank, is_less, lesser, least}
 use Rattle.card_reader.specs.Reading.{merge}
 
 -- ---- faults are in one order

@@ -4,7 +4,7 @@ use Rattle.std.specs.Prelude.{Option, Some, None}
 use Rattle.std.proofs.Math.Seq.{take-suc, drop-cons}
 use Rattle.std.proofs.lemmas.Bool.{cases_Bool}
 use Rattle.std.proofs.lemmas.List.{map-append}
-use Rattle.model.specs.Cards.{Column, placed, into_first, split}
+use Rattle.model.specs.Deck.Cards.{Column, placed, into_first, split}
 use Rattle.card_reader.specs.Parts.{after, next_quote, glue}
 
 -- there is always a piece

@@ -3,7 +3,7 @@ use Rattle.std.proofs.Common.{◌≡◌, refl, ◌∙◌, ℕ, ◌<◌, ◌≤�
 use Rattle.std.proofs.lemmas.Bool.{cases_Bool}
 use Rattle.std.proofs.lemmas.Bool.Decides.{nat_tests}
 use lib.Pointwise.{pointwise}
-use Rattle.model.specs.Cards.{is_word_first}
+use Rattle.model.specs.Deck.Cards.{is_word_first}
 
 other_way : (a b : ℕ) (t : Bool) → eqb a b ≡ t → (b == a) ≡ t
 other_way a b t h = (let turned : (b == a) ≡ eqb a b = grind (arith, nat_tests) in turned ∙ h)

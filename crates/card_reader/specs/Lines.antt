@@ -1,7 +1,7 @@
 -- The lines of a deck, one by one.
 use Rattle.std.specs.Prelude.{◌≡◌, ◌≤◌, ℕ, ◌+◌, ◌∷◌, List, [], length, Option, Some, None}
 use Rattle.std.specs.Borrow.{Bor}
-use Rattle.model.specs.Cards.{lines}
+use Rattle.model.specs.Deck.Cards.{lines}
 
 -- the first line and the others; the line and its line feed, or at least a byte, are gone
 abbrev pub IsNextLine : List ℕ → Option (Bor (List ℕ) × Bor (List ℕ)) → Type 0

@@ -1,6 +1,6 @@
 -- The texts of the cards so far, cut into pieces as far as they are known.
 use Rattle.std.specs.Prelude.{ℕ, ◌==◌, ◌||◌, ◌∷◌, ◌++◌, List, [], Option, Some, None, if◌then◌else◌}
-use Rattle.model.specs.Cards.{CardKind, Continuation, Start, Column, placed, split}
+use Rattle.model.specs.Deck.Cards.{CardKind, Continuation, Start, Column, placed, split}
 
 -- the quote of the literal that is open behind these columns
 abbrev pub after : Option ℕ → List Column → Option ℕ

@@ -2,7 +2,7 @@
 use Rattle.std.specs.Prelude.{◌≡◌, ℕ, ◌+◌, ◌∷◌, ◌++◌, ◌||◌, Bool, true, false, List, [], length, Option, Some, None, is_some, Result, Ok, Err, map}
 use Rattle.model.specs.declared.cards.Statement.{Statement}
 use Rattle.model.specs.declared.cards.CardFault.{CardFault}
-use Rattle.model.specs.Cards.{Card, CardKind, Start, Column, lines, numbered_from, cards, kind_of, continued, texts, split, pieces_of_texts, pieces_of, beginnings, first_ended, ended, bad_bytes, lost_continuations, unknown_controls, least}
+use Rattle.model.specs.Deck.Cards.{Card, CardKind, Start, Column, lines, numbered_from, cards, kind_of, continued, texts, split, pieces_of_texts, pieces_of, beginnings, first_ended, ended, bad_bytes, lost_continuations, unknown_controls, least}
 use Rattle.card_reader.specs.declared.reader.Reader.{Reader}
 use Rattle.card_reader.specs.Parts.{Parts, glue}
 use Rattle.card_reader.specs.Reading.{merge, Waits}

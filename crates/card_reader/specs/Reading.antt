@@ -6,7 +6,7 @@ use Rattle.model.specs.declared.cards.Statement.{Statement}
 use Rattle.model.specs.declared.cards.CardFault.{CardFault}
 use Rattle.model.specs.declared.cards.CardRule.{CardRule}
 use Rattle.model.specs.declared.cards.CardRule.TheVariants as rule
-use Rattle.model.specs.Cards.{CardKind, Comment, Control, UnknownControl, Continuation, Start, Column, placed, bytes, split, is_end, has_end, kept, first_card, statements_from, is_blank_text, long_statements, least, lesser, fault, is_plain}
+use Rattle.model.specs.Deck.Cards.{CardKind, Comment, Control, UnknownControl, Continuation, Start, Column, placed, bytes, split, is_end, has_end, kept, first_card, statements_from, is_blank_text, long_statements, least, lesser, fault, is_plain}
 use Rattle.card_reader.specs.declared.kinds.Kind as declared
 use Rattle.card_reader.specs.declared.kinds.Kind.TheVariants as k
 use Rattle.card_reader.specs.declared.reader.Reader.{Reader}

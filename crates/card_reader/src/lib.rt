@@ -9,7 +9,7 @@
 
 ghost use Rattle.std.specs.Prelude.{◌≡◌, ◌≢◌, ◌≤◌, length, IfOk, IfErr, Ok, Err};
 ghost use Rattle.model.specs.declared.cards.CardRule.TheVariants as rule;
-ghost use Rattle.model.specs.Cards as cards;
+ghost use Rattle.model.specs.Deck.Cards as cards;
 
 mod kinds;
 mod lines;

@@ -1,7 +1,7 @@
 //! The reader: the statements so far, the piece that may go on, and the least fault.
 
 ghost use Rattle.std.specs.Prelude.{◌≡◌, ◌≤◌, ◌<◌, ◌+◌, ℕ, true, false, [], ◌∷◌, ◌++◌, length, take, List, Option, Some, None, OnOk, IfOk, IfErr, Ok, Err, is_some, if◌then◌else◌, nat_lt};
-ghost use Rattle.model.specs.Cards as cards;
+ghost use Rattle.model.specs.Deck.Cards as cards;
 ghost use Rattle.card_reader.specs.Parts as parts;
 ghost use Rattle.card_reader.specs.Parts.{Parts, appended, nothing, step};
 ghost use Rattle.card_reader.specs.Reached.{answer};

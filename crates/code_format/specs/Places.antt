@@ -5,7 +5,7 @@ use Rattle.model.specs.declared.format.FormatRule.TheVariants.{UnknownInstructio
 use Rattle.model.specs.declared.format.Miss.{Miss}
 use Rattle.model.specs.declared.image.PatInstr.{PatInstr}
 use Rattle.model.specs.declared.instr.Instr.{Instr}
-use Rattle.model.specs.Reading.{instr_of, pat_instr_at}
+use Rattle.model.specs.Module.Reading.{instr_of, pat_instr_at}
 
 -- where a place is what the input has before so many bytes that are left
 abbrev pub found : ℕ → ℕ → Option (Instr × List ℕ) → Result (Instr × ℕ) FormatFault

@@ -1,8 +1,8 @@
 //! Instructions as bytes.
 
 ghost use Rattle.std.specs.Prelude.{◌≡◌, ◌⊎◌, [], ◌∷◌, ◌++◌, OnOk, OnErr, slice_get};
-ghost use Rattle.model.specs.Spelling.{instr, u16 as u16_bytes, u32 as u32_bytes};
-ghost use Rattle.model.specs.Reading.{Finds, instr_of, readers, ◌>>>◌};
+ghost use Rattle.model.specs.Module.Spelling.{instr, u16 as u16_bytes, u32 as u32_bytes};
+ghost use Rattle.model.specs.Module.Reading.{Finds, instr_of, readers, ◌>>>◌};
 ghost use Rattle.code_format.specs.Places.{instr_at};
 
 use crate::codes::{ARITH_OPS, RETURN_KINDS, SIGN_OPS, coded};
@@ -12,7 +12,7 @@ use model::{FormatFault, FormatRule, Instr, KeyId, PrimId};
 use std::alloc::AllocError;
 
 /// The instruction with a number of 4 bytes that has this code, and what is behind it.
-#[tactic(auto, unfolding(model::specs::Reading::readers, model::specs::Reading::wide))]
+#[tactic(auto, unfolding(model::specs::Module::Reading::readers, model::specs::Module::Reading::wide))]
 fn wide(code: u8, bytes: &[u8]) -> Option<(Instr, &[u8])>
     requires { (code ≡ 1) ⊎ (code ≡ 3) ⊎ (code ≡ 7) ⊎ (code ≡ 10) ⊎ (code ≡ 18) ⊎ (code ≡ 24) ⊎ (code ≡ 34) }
     ensures { Finds (λ x. (x.0, x.1.now)) result (slice_get readers code >>> λ r. r bytes.now) }
@@ -30,7 +30,7 @@ fn wide(code: u8, bytes: &[u8]) -> Option<(Instr, &[u8])>
 }
 
 /// The instruction with a choice that has this code, and what is behind it.
-#[tactic(auto, unfolding(model::specs::Reading::readers, model::specs::Reading::choice))]
+#[tactic(auto, unfolding(model::specs::Module::Reading::readers, model::specs::Module::Reading::choice))]
 fn choice(code: u8, bytes: &[u8]) -> Option<(Instr, &[u8])>
     requires { (code ≡ 4) ⊎ (code ≡ 12) ⊎ (code ≡ 13) ⊎ (code ≡ 27) ⊎ (code ≡ 28) }
     ensures { Finds (λ x. (x.0, x.1.now)) result (slice_get readers code >>> λ r. r bytes.now) }
@@ -46,7 +46,7 @@ fn choice(code: u8, bytes: &[u8]) -> Option<(Instr, &[u8])>
 }
 
 /// The call that has this code, and what is behind it.
-#[tactic(auto, unfolding(model::specs::Reading::readers, model::specs::Reading::call))]
+#[tactic(auto, unfolding(model::specs::Module::Reading::readers, model::specs::Module::Reading::call))]
 fn call(code: u8, bytes: &[u8]) -> Option<(Instr, &[u8])>
     requires { (code ≡ 19) ⊎ (code ≡ 20) }
     ensures { Finds (λ x. (x.0, x.1.now)) result (slice_get readers code >>> λ r. r bytes.now) }
@@ -60,7 +60,7 @@ fn call(code: u8, bytes: &[u8]) -> Option<(Instr, &[u8])>
 }
 
 /// The call of a primitive that has this code, and what is behind it.
-#[tactic(auto, unfolding(model::specs::Reading::readers, model::specs::Reading::prim))]
+#[tactic(auto, unfolding(model::specs::Module::Reading::readers, model::specs::Module::Reading::prim))]
 fn prim(code: u8, bytes: &[u8]) -> Option<(Instr, &[u8])>
     requires { (code ≡ 21) ⊎ (code ≡ 22) }
     ensures { Finds (λ x. (x.0, x.1.now)) result (slice_get readers code >>> λ r. r bytes.now) }
@@ -75,7 +75,7 @@ fn prim(code: u8, bytes: &[u8]) -> Option<(Instr, &[u8])>
 }
 
 /// The instruction in front, and what is behind it; none if it is in no table or is cut.
-#[tactic(auto, unfolding(model::specs::Reading::instr_of, model::specs::Reading::readers, model::specs::Reading::alone, model::specs::Reading::short, model::specs::Reading::whole))]
+#[tactic(auto, unfolding(model::specs::Module::Reading::instr_of, model::specs::Module::Reading::readers, model::specs::Module::Reading::alone, model::specs::Module::Reading::short, model::specs::Module::Reading::whole))]
 pub fn first_instr(bytes: &[u8]) -> Option<(Instr, &[u8])>
     ensures { Finds (λ x. (x.0, x.1.now)) result (instr_of bytes.now) }
 {
@@ -154,7 +154,7 @@ fn put_prim(out: &mut Vec<u8>, code: u8, prim: u8, n: u8) -> Result<(), AllocErr
     out.extend_from_slice(&[code, prim, n])
 }
 
-#[tactic(auto, unfolding(model::specs::Spelling::u16))]
+#[tactic(auto, unfolding(model::specs::Module::Spelling::u16))]
 fn put_short(out: &mut Vec<u8>, code: u8, n: u16) -> Result<(), AllocError>
     ensures ok { OnOk result (out.new.items ≡ out.old.items ++ code ∷ u16_bytes n) }
     ensures err { OnErr result (out.new.items ≡ out.old.items) }
@@ -164,7 +164,7 @@ fn put_short(out: &mut Vec<u8>, code: u8, n: u16) -> Result<(), AllocError>
     out.extend_from_slice(&bytes)
 }
 
-#[tactic(auto, unfolding(model::specs::Spelling::u16, model::specs::Spelling::u32))]
+#[tactic(auto, unfolding(model::specs::Module::Spelling::u16, model::specs::Module::Spelling::u32))]
 fn put_call(out: &mut Vec<u8>, code: u8, string: u32, n: u16) -> Result<(), AllocError>
     ensures ok { OnOk result (out.new.items ≡ out.old.items ++ code ∷ (u32_bytes string ++ u16_bytes n)) }
     ensures err { OnErr result (out.new.items ≡ out.old.items) }

@@ -2,8 +2,8 @@
 
 ghost use Rattle.std.specs.Prelude.{◌≡◌, ◌∷◌, ◌++◌, OnOk, OnErr};
 ghost use Rattle.std.specs.Int.{w16, w32, w64};
-ghost use Rattle.model.specs.Spelling.{u32 as u32_bytes, u64 as u64_bytes};
-ghost use Rattle.model.specs.Reading.{Finds, Reads, number, number_at, byte, required};
+ghost use Rattle.model.specs.Module.Spelling.{u32 as u32_bytes, u64 as u64_bytes};
+ghost use Rattle.model.specs.Module.Reading.{Finds, Reads, number, number_at, byte, required};
 
 use byteorder::{BigEndian, ByteOrder};
 use model::{FormatRule, Miss};
@@ -20,7 +20,7 @@ pub(crate) fn first_byte(bytes: &[u8]) -> Option<(u8, &[u8])>
 }
 
 /// The number of 2 bytes in front, and what is behind it.
-#[tactic(auto, unfolding(model::specs::Reading::number))]
+#[tactic(auto, unfolding(model::specs::Module::Reading::number))]
 pub(crate) fn first_u16(bytes: &[u8]) -> Option<(u16, &[u8])>
     ensures { Finds (λ x. (x.0, x.1.now)) result (number w16 bytes.now) }
 {
@@ -32,7 +32,7 @@ pub(crate) fn first_u16(bytes: &[u8]) -> Option<(u16, &[u8])>
 }
 
 /// The number of 4 bytes in front, and what is behind it.
-#[tactic(auto, unfolding(model::specs::Reading::number))]
+#[tactic(auto, unfolding(model::specs::Module::Reading::number))]
 pub(crate) fn first_u32(bytes: &[u8]) -> Option<(u32, &[u8])>
     ensures { Finds (λ x. (x.0, x.1.now)) result (number w32 bytes.now) }
 {
@@ -44,7 +44,7 @@ pub(crate) fn first_u32(bytes: &[u8]) -> Option<(u32, &[u8])>
 }
 
 /// The number of 8 bytes in front, and what is behind it.
-#[tactic(auto, unfolding(model::specs::Reading::number))]
+#[tactic(auto, unfolding(model::specs::Module::Reading::number))]
 pub(crate) fn first_u64(bytes: &[u8]) -> Option<(u64, &[u8])>
     ensures { Finds (λ x. (x.0, x.1.now)) result (number w64 bytes.now) }
 {
@@ -72,7 +72,7 @@ pub(crate) fn read_byte(bytes: &[u8]) -> Result<(u8, &[u8]), Miss>
 }
 
 /// The field of 2 bytes in front, and what is behind it.
-#[tactic(auto, unfolding(model::specs::Reading::number_at))]
+#[tactic(auto, unfolding(model::specs::Module::Reading::number_at))]
 pub fn read_u16(bytes: &[u8]) -> Result<(u16, &[u8]), Miss>
     ensures { Reads (λ x. (x.0, x.1.now)) result (number_at w16 bytes.now) }
 {
@@ -83,7 +83,7 @@ pub fn read_u16(bytes: &[u8]) -> Result<(u16, &[u8]), Miss>
 }
 
 /// The field of 4 bytes in front, and what is behind it.
-#[tactic(auto, unfolding(model::specs::Reading::number_at))]
+#[tactic(auto, unfolding(model::specs::Module::Reading::number_at))]
 pub fn read_u32(bytes: &[u8]) -> Result<(u32, &[u8]), Miss>
     ensures { Reads (λ x. (x.0, x.1.now)) result (number_at w32 bytes.now) }
 {
@@ -94,7 +94,7 @@ pub fn read_u32(bytes: &[u8]) -> Result<(u32, &[u8]), Miss>
 }
 
 /// The field of 8 bytes in front, and what is behind it.
-#[tactic(auto, unfolding(model::specs::Reading::number_at))]
+#[tactic(auto, unfolding(model::specs::Module::Reading::number_at))]
 pub(crate) fn read_u64(bytes: &[u8]) -> Result<(u64, &[u8]), Miss>
     ensures { Reads (λ x. (x.0, x.1.now)) result (number_at w64 bytes.now) }
 {
@@ -105,7 +105,7 @@ pub(crate) fn read_u64(bytes: &[u8]) -> Result<(u64, &[u8]), Miss>
 }
 
 /// Puts a number of 4 bytes at the end; after a refusal the bytes are as before.
-#[tactic(auto, unfolding(model::specs::Spelling::u32))]
+#[tactic(auto, unfolding(model::specs::Module::Spelling::u32))]
 pub fn put_u32(out: &mut Vec<u8>, n: u32) -> Result<(), AllocError>
     ensures ok { OnOk result (out.new.items ≡ out.old.items ++ u32_bytes n) }
     ensures err { OnErr result (out.new.items ≡ out.old.items) }
@@ -116,7 +116,7 @@ pub fn put_u32(out: &mut Vec<u8>, n: u32) -> Result<(), AllocError>
 }
 
 /// Puts a code and a number of 4 bytes at the end; after a refusal the bytes are as before.
-#[tactic(auto, unfolding(model::specs::Spelling::u32))]
+#[tactic(auto, unfolding(model::specs::Module::Spelling::u32))]
 pub(crate) fn put_wide(out: &mut Vec<u8>, code: u8, n: u32) -> Result<(), AllocError>
     ensures ok { OnOk result (out.new.items ≡ out.old.items ++ code ∷ u32_bytes n) }
     ensures err { OnErr result (out.new.items ≡ out.old.items) }
@@ -127,7 +127,7 @@ pub(crate) fn put_wide(out: &mut Vec<u8>, code: u8, n: u32) -> Result<(), AllocE
 }
 
 /// Puts a code and a number of 8 bytes at the end; after a refusal the bytes are as before.
-#[tactic(auto, unfolding(model::specs::Spelling::u64))]
+#[tactic(auto, unfolding(model::specs::Module::Spelling::u64))]
 pub(crate) fn put_whole(out: &mut Vec<u8>, code: u8, n: u64) -> Result<(), AllocError>
     ensures ok { OnOk result (out.new.items ≡ out.old.items ++ code ∷ u64_bytes n) }
     ensures err { OnErr result (out.new.items ≡ out.old.items) }

@@ -1,8 +1,8 @@
 //! Instructions of patterns as bytes.
 
 ghost use Rattle.std.specs.Prelude.{◌≡◌, ◌⊎◌, [], ◌++◌, OnOk, OnErr, slice_get};
-ghost use Rattle.model.specs.Spelling.{pat_instr};
-ghost use Rattle.model.specs.Reading.{Reads, pat_instr_at, pat_readers, required, ◌>>>◌};
+ghost use Rattle.model.specs.Module.Spelling.{pat_instr};
+ghost use Rattle.model.specs.Module.Reading.{Reads, pat_instr_at, pat_readers, required, ◌>>>◌};
 ghost use Rattle.code_format.specs.Places.{pat_at};
 
 use crate::numbers::{put_whole, put_wide, read_byte, read_u32, read_u64};
@@ -10,7 +10,7 @@ use model::{FormatFault, FormatRule, Miss, PatInstr};
 use std::alloc::AllocError;
 
 /// The instruction with 4 bytes that has this kind, and what is behind it.
-#[tactic(auto, unfolding(model::specs::Reading::pat_readers, model::specs::Reading::wide, model::specs::Reading::distance, model::specs::Reading::number_at))]
+#[tactic(auto, unfolding(model::specs::Module::Reading::pat_readers, model::specs::Module::Reading::wide, model::specs::Module::Reading::distance, model::specs::Module::Reading::number_at))]
 fn wide(kind: u8, bytes: &[u8]) -> Result<(PatInstr, &[u8]), Miss>
     requires { (kind ≡ 0) ⊎ (kind ≡ 1) ⊎ (kind ≡ 2) ⊎ (kind ≡ 8) ⊎ (kind ≡ 9) ⊎ (kind ≡ 10) ⊎ (kind ≡ 11) }
     ensures { Reads (λ x. (x.0, x.1.now)) result (required (slice_get pat_readers kind >>> λ r. r bytes.now)) }
@@ -28,7 +28,7 @@ fn wide(kind: u8, bytes: &[u8]) -> Result<(PatInstr, &[u8]), Miss>
 }
 
 /// The instruction with 8 bytes that has this kind, and what is behind it.
-#[tactic(auto, unfolding(model::specs::Reading::pat_readers, model::specs::Reading::long, model::specs::Reading::number_at))]
+#[tactic(auto, unfolding(model::specs::Module::Reading::pat_readers, model::specs::Module::Reading::long, model::specs::Module::Reading::number_at))]
 fn long(kind: u8, bytes: &[u8]) -> Result<(PatInstr, &[u8]), Miss>
     requires { (kind ≡ 3) ⊎ (kind ≡ 4) ⊎ (kind ≡ 5) ⊎ (kind ≡ 6) ⊎ (kind ≡ 7) }
     ensures { Reads (λ x. (x.0, x.1.now)) result (required (slice_get pat_readers kind >>> λ r. r bytes.now)) }
@@ -44,7 +44,7 @@ fn long(kind: u8, bytes: &[u8]) -> Result<(PatInstr, &[u8]), Miss>
 }
 
 /// The instruction in front, and what is behind it.
-#[tactic(auto, unfolding(model::specs::Reading::pat_instr_at, model::specs::Reading::pat_readers))]
+#[tactic(auto, unfolding(model::specs::Module::Reading::pat_instr_at, model::specs::Module::Reading::pat_readers))]
 pub fn first_pat_instr(bytes: &[u8]) -> Result<(PatInstr, &[u8]), Miss>
     ensures { Reads (λ x. (x.0, x.1.now)) result (pat_instr_at [] bytes.now) }
 {

@@ -4,8 +4,8 @@ use Rattle.model.specs.declared.image.Image.{Image}
 use Rattle.model.specs.declared.instr.Instr.TheVariants as op
 use Rattle.model.specs.declared.trees.Unary.TheVariants as u
 use Rattle.model.specs.declared.trees.Binary.TheVariants as b
-use Rattle.model.specs.Trees.{Bytes, Expr, Name, Literal, Apply, Combine, Label, Goto, Next, OnSuccess, OnFailure, Body, Assign, Replace, Stmt, Plain, End}
-use Rattle.model.specs.Names.{named, key_named, prim_named}
+use Rattle.model.specs.Deck.Trees.{Bytes, Expr, Name, Literal, Apply, Combine, Label, Goto, Next, OnSuccess, OnFailure, Body, Assign, Replace, Stmt, Plain, End}
+use Rattle.model.specs.Language.Names.{named, key_named, prim_named}
 use Rattle.expr_codegen.specs.Code.{nothing, one, with_string, unevaluated, ◌>>◌, handled}
 use Rattle.codegen.specs.Layout.{image_of}
 

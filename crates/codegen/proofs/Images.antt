@@ -4,11 +4,11 @@ use Rattle.std.specs.List.{AllByRecursion}
 use Rattle.model.specs.declared.image.Image.{Image}
 use Rattle.model.specs.declared.image.Label as image
 use Rattle.model.specs.declared.trees.Stmt.{Stmt as Statement}
-use Rattle.model.specs.Modules.{total}
-use Rattle.model.specs.Programs.{labelled_from, entry_label, entry_in}
-use Rattle.model.specs.Trees.{Bytes, Expr, Stmt, Plain, End}
-use Rattle.model.specs.TreeViews.{stmt_of}
-use Rattle.model.specs.Weights as weights
+use Rattle.model.specs.Module.Images.{total}
+use Rattle.model.specs.Language.Programs.{labelled_from, entry_label, entry_in}
+use Rattle.model.specs.Deck.Trees.{Bytes, Expr, Stmt, Plain, End}
+use Rattle.model.specs.Deck.TreeViews.{stmt_of}
+use Rattle.model.specs.Deck.Weights as weights
 use Rattle.expr_codegen.specs.Texts.{place_of, with_text, with_texts}
 use Rattle.expr_codegen.specs.Code.{Part}
 use Rattle.expr_codegen.specs.Emitting.{Gen, Emits, Longer, Countable, Extends, Numbered, size}

@@ -7,10 +7,10 @@ use Rattle.std.specs.declared.alloc.Global.{Global}
 use Rattle.std.specs.Map.{lookup}
 use Rattle.std.proofs.lemmas.Slice.Eq.{bytes_eq-Decides}
 use Rattle.indexmap.specs.IndexMap.{insert_entry}
-use Rattle.model.specs.Trees.{Bytes}
-use Rattle.model.specs.Programs.{is_text, label_of, labelled_from}
+use Rattle.model.specs.Deck.Trees.{Bytes}
+use Rattle.model.specs.Language.Programs.{is_text, label_of, labelled_from}
 use Rattle.model.specs.declared.trees.Stmt.{Stmt as Statement}
-use Rattle.model.specs.TreeViews.{stmt_of}
+use Rattle.model.specs.Deck.TreeViews.{stmt_of}
 use Rattle.codegen.specs.Labels.{entry_of, number_in, with_label}
 
 abbrev pub Text : Type 0

@@ -3,10 +3,10 @@ use Rattle.std.proofs.Common.{◌≡◌, ℕ, suc, ◌+◌, ◌*◌, ◌<◌, �
 use Rattle.std.proofs.lemmas.List.{at_drop_more}
 use Rattle.std.specs.List.{AllByRecursion}
 use Rattle.model.specs.declared.trees.Stmt.{Stmt as Statement}
-use Rattle.model.specs.Modules.{total}
-use Rattle.model.specs.Trees.{Bytes, Expr, Stmt}
-use Rattle.model.specs.TreeViews.{stmt_of}
-use Rattle.model.specs.Weights as weights
+use Rattle.model.specs.Module.Images.{total}
+use Rattle.model.specs.Deck.Trees.{Bytes, Expr, Stmt}
+use Rattle.model.specs.Deck.TreeViews.{stmt_of}
+use Rattle.model.specs.Deck.Weights as weights
 use Rattle.expr_codegen.specs.Code.{Part, nothing, one, ◌>>◌}
 use Rattle.expr_codegen.specs.Emitting.{Gen, Emits, Extends, Longer, size}
 use Rattle.expr_codegen.proofs.Joins.{both, nothing_put, total_append, longer_trans, longer_texts}

@@ -2,10 +2,10 @@
 use Rattle.std.proofs.Common.{◌≡◌, ℕ, zero, suc, ◌+◌, ◌*◌, ◌<◌, ◌≤◌, List, [], ◌∷◌, ◌++◌, length, refl, sym, ap, ◌∙◌, subst, append_assoc, append-nil, arith, drop, Option, Some, None}
 use Rattle.std.specs.List.{AllByRecursion}
 use Rattle.model.specs.declared.instr.Instr.TheVariants as op
-use Rattle.model.specs.Modules.{total}
-use Rattle.model.specs.Trees.{Expr}
-use Rattle.model.specs.Weights as weights
-use Rattle.model.specs.Weights.{of_expr}
+use Rattle.model.specs.Module.Images.{total}
+use Rattle.model.specs.Deck.Trees.{Expr}
+use Rattle.model.specs.Deck.Weights as weights
+use Rattle.model.specs.Deck.Weights.{of_expr}
 use Rattle.expr_codegen.specs.Code.{Part, value}
 use Rattle.expr_codegen.specs.Emitting.{Gen, Emits, Countable, Takes, size, due, with_instr}
 use Rattle.expr_codegen.proofs.Joins.{both, instr, drop_join}

@@ -1,8 +1,8 @@
 -- Statements whose calls and references have as few arguments as instructions can count.
 use Rattle.std.specs.Prelude.{⊤, ◌≤◌, ℕ, List, length, Option, Some, None}
 use Rattle.std.specs.List.{AllByRecursion}
-use Rattle.model.specs.Trees.{Expr, Place, Label, Computed, Goto, Next, Always, OnSuccess, OnFailure, Both, Body, Nothing, Evaluate, Match, Assign, Replace, Stmt, Plain, End}
-use Rattle.model.specs.Weights.{of_place, total, weight}
+use Rattle.model.specs.Deck.Trees.{Expr, Place, Label, Computed, Goto, Next, Always, OnSuccess, OnFailure, Both, Body, Nothing, Evaluate, Match, Assign, Replace, Stmt, Plain, End}
+use Rattle.model.specs.Deck.Weights.{of_place, total, weight}
 use Rattle.expr_codegen.specs.Emitting.{Countable}
 
 abbrev pub CountableObject : Option Expr → Type 0

@@ -2,8 +2,8 @@
 use Rattle.std.specs.Prelude.{ℕ, List, [], ◌∷◌, ◌++◌, Option, None, Some, bytes_eq, is_some, if◌then◌else◌}
 use Rattle.std.specs.declared.vec.Vec.{Vec}
 use Rattle.std.specs.declared.alloc.Global.{Global}
-use Rattle.model.specs.Trees.{Bytes, Stmt, Plain, End}
-use Rattle.model.specs.Programs.{number_or}
+use Rattle.model.specs.Deck.Trees.{Bytes, Stmt, Plain, End}
+use Rattle.model.specs.Language.Programs.{number_or}
 
 abbrev pub entry_of : (Vec ℕ Global × ℕ) → (List ℕ × ℕ)
 entry_of e = (e.0.items, e.1)

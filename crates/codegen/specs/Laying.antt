@@ -1,7 +1,7 @@
 -- Parts that were put one behind the other, with their offsets.
 use Rattle.std.specs.Prelude.{◌≡◌, ℕ, List, length, drop}
-use Rattle.model.specs.Modules.{total}
-use Rattle.model.specs.Trees.{Bytes, Expr}
+use Rattle.model.specs.Module.Images.{total}
+use Rattle.model.specs.Deck.Trees.{Bytes, Expr}
 use Rattle.expr_codegen.specs.Code.{Part}
 use Rattle.expr_codegen.specs.Emitting.{Gen, Emits, Longer}
 use Rattle.codegen.specs.Layout.{joined, offsets}

@@ -5,13 +5,13 @@ use Rattle.model.specs.declared.image.Label as image
 use Rattle.model.specs.declared.instr.Instr.{Instr}
 use Rattle.model.specs.declared.instr.Instr.TheVariants as op
 use Rattle.model.specs.declared.instr.ReturnKind.{ReturnKind}
-use Rattle.model.specs.Trees.{Bytes, Expr, Place, Label, Computed, Goto, Next, Always, OnSuccess, OnFailure, Both, Body, Nothing, Evaluate, Match, Assign, Replace, Stmt, Plain, End}
-use Rattle.model.specs.Names.{key_named}
-use Rattle.model.specs.Calls.{return_of}
-use Rattle.model.specs.Meaning.{key_target}
-use Rattle.model.specs.Programs.{labelled_from, entry_in, entry_label}
-use Rattle.model.specs.Modules.{total}
-use Rattle.model.specs.Weights as weights
+use Rattle.model.specs.Deck.Trees.{Bytes, Expr, Place, Label, Computed, Goto, Next, Always, OnSuccess, OnFailure, Both, Body, Nothing, Evaluate, Match, Assign, Replace, Stmt, Plain, End}
+use Rattle.model.specs.Language.Names.{key_named}
+use Rattle.model.specs.Language.Calls.{return_of}
+use Rattle.model.specs.Language.Meaning.{key_target}
+use Rattle.model.specs.Language.Programs.{labelled_from, entry_in, entry_label}
+use Rattle.model.specs.Module.Images.{total}
+use Rattle.model.specs.Deck.Weights as weights
 use Rattle.expr_codegen.specs.Texts.{place_of, with_texts}
 use Rattle.expr_codegen.specs.Code.{Part, nothing, one, ◌>>◌, handled, with_key, value, name}
 

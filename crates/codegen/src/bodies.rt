@@ -1,11 +1,11 @@
 //! Code of bodies.
 
 ghost use Rattle.std.specs.Prelude.{◌≡◌, ◌<◌, ◌≤◌, ◌+◌, ◌*◌, ◌^◌, option_map, OnOk};
-ghost use Rattle.model.specs.Meaning as meaning;
-ghost use Rattle.model.specs.Names.{key_named};
-ghost use Rattle.model.specs.Trees as trees;
-ghost use Rattle.model.specs.TreeViews.{body_of, expr_of, object_of};
-ghost use Rattle.model.specs.Weights as weights;
+ghost use Rattle.model.specs.Language.Meaning as meaning;
+ghost use Rattle.model.specs.Language.Names.{key_named};
+ghost use Rattle.model.specs.Deck.Trees as trees;
+ghost use Rattle.model.specs.Deck.TreeViews.{body_of, expr_of, object_of};
+ghost use Rattle.model.specs.Deck.Weights as weights;
 ghost use Rattle.expr_codegen.specs.Code.{with_key};
 ghost use Rattle.expr_codegen.specs.Emitting.{Countable, Emits, Extends, size};
 ghost use Rattle.expr_codegen.specs.Views.{gen_of};

@@ -2,10 +2,10 @@
 
 ghost use Rattle.std.specs.Prelude.{◌≡◌, ◌<◌, ◌≤◌, ◌+◌, ◌*◌, ◌^◌, ℕ, List, map, length, OnOk, IfOk};
 ghost use Rattle.std.specs.List.{AllByRecursion};
-ghost use Rattle.model.specs.Programs as programs;
-ghost use Rattle.model.specs.TreeViews.{expr_of, program_of, stmt_of};
-ghost use Rattle.model.specs.Trees.{Bytes};
-ghost use Rattle.model.specs.Weights as weights;
+ghost use Rattle.model.specs.Language.Programs as programs;
+ghost use Rattle.model.specs.Deck.TreeViews.{expr_of, program_of, stmt_of};
+ghost use Rattle.model.specs.Deck.Trees.{Bytes};
+ghost use Rattle.model.specs.Deck.Weights as weights;
 ghost use Rattle.expr_codegen.specs.Emitting.{Countable, Extends, size};
 ghost use Rattle.expr_codegen.specs.Texts.{with_texts};
 ghost use Rattle.expr_codegen.specs.Views.{gen_of};

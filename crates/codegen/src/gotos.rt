@@ -1,9 +1,9 @@
 //! Code of gotos.
 
 ghost use Rattle.std.specs.Prelude.{◌≡◌, ◌<◌, ◌≤◌, ◌+◌, ◌*◌, ◌^◌, OnOk};
-ghost use Rattle.model.specs.Calls as calls;
-ghost use Rattle.model.specs.TreeViews.{goto_of, place_of};
-ghost use Rattle.model.specs.Weights as weights;
+ghost use Rattle.model.specs.Language.Calls as calls;
+ghost use Rattle.model.specs.Deck.TreeViews.{goto_of, place_of};
+ghost use Rattle.model.specs.Deck.Weights as weights;
 ghost use Rattle.expr_codegen.specs.Emitting.{Emits, Extends, size};
 ghost use Rattle.expr_codegen.specs.Views.{gen_of};
 ghost use Rattle.codegen.specs.Countable as countables;

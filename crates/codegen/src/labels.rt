@@ -1,8 +1,8 @@
 //! The table of labels.
 
 ghost use Rattle.std.specs.Prelude.{◌≡◌, ◌<◌, ◌^◌, List, [], ℕ, map, length, option_map, OnOk, OnErr, IfOk};
-ghost use Rattle.model.specs.Programs as programs;
-ghost use Rattle.model.specs.TreeViews.{stmt_of};
+ghost use Rattle.model.specs.Language.Programs as programs;
+ghost use Rattle.model.specs.Deck.TreeViews.{stmt_of};
 ghost use Rattle.codegen.specs.Labels.{entry_by, entry_of, number_in, with_label};
 ghost use Rattle.codegen.specs.Labels as labels;
 

@@ -1,9 +1,9 @@
 //! Code of statements.
 
 ghost use Rattle.std.specs.Prelude.{◌≡◌, ◌<◌, ◌≤◌, ◌+◌, ◌*◌, ◌^◌, None, OnOk};
-ghost use Rattle.model.specs.Trees as trees;
-ghost use Rattle.model.specs.TreeViews.{body_of, goto_of, stmt_of};
-ghost use Rattle.model.specs.Weights as weights;
+ghost use Rattle.model.specs.Deck.Trees as trees;
+ghost use Rattle.model.specs.Deck.TreeViews.{body_of, goto_of, stmt_of};
+ghost use Rattle.model.specs.Deck.Weights as weights;
 ghost use Rattle.expr_codegen.specs.Emitting.{Emits, Extends, size};
 ghost use Rattle.expr_codegen.specs.Views.{gen_of};
 ghost use Rattle.codegen.specs.Countable.{CountableBody, CountableGoto, CountableStmt};

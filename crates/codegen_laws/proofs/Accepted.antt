@@ -6,19 +6,19 @@ use Rattle.model.specs.declared.cards.Statement.{Statement}
 use Rattle.model.specs.declared.causes.Cause.{Cause}
 use Rattle.model.specs.declared.causes.StmtFault.{StmtFault}
 use Rattle.model.specs.declared.keys.KeyId.{KeyId}
-use Rattle.model.specs.Calls.{return_of}
-use Rattle.model.specs.Cards.{deck}
-use Rattle.model.specs.DeckLaws.{IsPlain}
-use Rattle.model.specs.Faults.{everywhere, in_args, in_place, in_goto, in_object, in_body, throughout, count, at_most, call_fits, keyword_known, operand_fits, subject_fits, targets_fit, label_given, is_among, returns, is_taken, rule_broken, cause_of, told, faults, faults_after, labels, labels_of_read, trees, Accepted, verdict, verdict_of_cards, verdict_of_faults}
-use Rattle.model.specs.Names.{key_named, prim_named}
-use Rattle.model.specs.Programs.{end_label}
-use Rattle.model.specs.Statements.{end_word}
-use Rattle.model.specs.Trees.{Bytes, Expr, Name, Integer, Literal, Keyword, Call, Reference, Apply, Combine, Absent, Given, Args, Nil, More, Place, Label, Computed, Goto, Next, Always, OnSuccess, OnFailure, Both, Body, Nothing, Evaluate, Match, Assign, Replace, Stmt, Plain, End}
-use Rattle.model.specs.Weights.{of_expr, of_args, of_place, of_goto, of_object, of_body, weight}
-use Rattle.model.specs.WellFormed.{is_label_name}
-use Rattle.model.proofs.DeckEnds.{end_last}
-use Rattle.model.proofs.DeckSizes.{accepted_fit}
-use Rattle.model.proofs.DeckVerdicts.{Have, accepts, none_left, none_right}
+use Rattle.model.specs.Language.Calls.{return_of}
+use Rattle.model.specs.Deck.Cards.{deck}
+use Rattle.model.specs.Laws.Decks.{IsPlain}
+use Rattle.model.specs.Deck.Faults.{everywhere, in_args, in_place, in_goto, in_object, in_body, throughout, count, at_most, call_fits, keyword_known, operand_fits, subject_fits, targets_fit, label_given, is_among, returns, is_taken, rule_broken, cause_of, told, faults, faults_after, labels, labels_of_read, trees, Accepted, verdict, verdict_of_cards, verdict_of_faults}
+use Rattle.model.specs.Language.Names.{key_named, prim_named}
+use Rattle.model.specs.Language.Programs.{end_label}
+use Rattle.model.specs.Deck.Statements.{end_word}
+use Rattle.model.specs.Deck.Trees.{Bytes, Expr, Name, Integer, Literal, Keyword, Call, Reference, Apply, Combine, Absent, Given, Args, Nil, More, Place, Label, Computed, Goto, Next, Always, OnSuccess, OnFailure, Both, Body, Nothing, Evaluate, Match, Assign, Replace, Stmt, Plain, End}
+use Rattle.model.specs.Deck.Weights.{of_expr, of_args, of_place, of_goto, of_object, of_body, weight}
+use Rattle.model.specs.Module.WellFormed.{is_label_name}
+use Rattle.model.proofs.Decks.Ends.{end_last}
+use Rattle.model.proofs.Decks.Sizes.{accepted_fit}
+use Rattle.model.proofs.Decks.Verdicts.{Have, accepts, none_left, none_right}
 use Rattle.codegen.specs.Layout.{label_texts}
 use Rattle.codegen_laws.specs.Fit.{Named, Fit, FitArgs, FitObject, FitBody, FitPlace, FitGoto, FitStmt, EndsInEnd, NewLabels, IsFit}
 use Rattle.codegen_laws.proofs.SpeltTrees.{Spelt, SpeltArgs, SpeltObject, SpeltBody, SpeltPlace, SpeltGoto, SpeltStmt, read_spelt, no_cause, or_false}

@@ -3,9 +3,9 @@ use Rattle.std.proofs.Common.{◌≡◌, ℕ, ◌<◌, ◌≤◌, ◌^◌, true,
 use Rattle.std.specs.List.{AllByRecursion}
 use Rattle.std.proofs.lemmas.Bool.Decides.{nat_tests}
 use Rattle.model.specs.declared.primitives.PrimId.{PrimId}
-use Rattle.model.specs.Faults.{count, at_most}
-use Rattle.model.specs.Names.{prim_named, most_args}
-use Rattle.model.specs.Trees.{Expr, Name, Integer, Literal, Keyword, Call, Reference, Apply, Combine, Args, Nil, More, Absent, Given, Place, Label, Computed, Goto, Next, Always, OnSuccess, OnFailure, Both, Body, Nothing, Evaluate, Match, Assign, Replace, Stmt, Plain, End}
+use Rattle.model.specs.Deck.Faults.{count, at_most}
+use Rattle.model.specs.Language.Names.{prim_named, most_args}
+use Rattle.model.specs.Deck.Trees.{Expr, Name, Integer, Literal, Keyword, Call, Reference, Apply, Combine, Args, Nil, More, Absent, Given, Place, Label, Computed, Goto, Next, Always, OnSuccess, OnFailure, Both, Body, Nothing, Evaluate, Match, Assign, Replace, Stmt, Plain, End}
 use Rattle.expr_codegen.specs.Emitting.{Countable, AllCountable, most_counted}
 use Rattle.codegen.specs.Countable.{CountableObject, CountableBody, CountablePlace, CountableGoto, CountableStmt}
 use Rattle.codegen_laws.specs.Fit.{Fit, FitArgs, FitObject, FitBody, FitPlace, FitGoto, FitStmt}

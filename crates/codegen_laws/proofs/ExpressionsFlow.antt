@@ -11,11 +11,11 @@ use Rattle.model.specs.declared.keys.KeyId.{KeyId}
 use Rattle.model.specs.declared.primitives.PrimId.{PrimId}
 use Rattle.model.specs.declared.trees.Unary.TheVariants as u
 use Rattle.model.specs.declared.trees.Binary.TheVariants as b
-use Rattle.model.specs.Faults.{count, is_target, at_most}
-use Rattle.model.specs.Flow.{Kind, V, N, Shape, shape, Asks, Above, floor_of}
-use Rattle.model.specs.Names.{key_named, prim_named, most_args}
-use Rattle.model.specs.Trees.{Bytes, Expr, Name, Integer, Literal, Keyword, Call, Reference, Apply, Combine, Args, Nil, More, Absent, Given}
-use Rattle.model.specs.WellFormed.{is_nonnull, indices_fit}
+use Rattle.model.specs.Deck.Faults.{count, is_target, at_most}
+use Rattle.model.specs.Module.Flow.{Kind, V, N, Shape, shape, Asks, Above, floor_of}
+use Rattle.model.specs.Language.Names.{key_named, prim_named, most_args}
+use Rattle.model.specs.Deck.Trees.{Bytes, Expr, Name, Integer, Literal, Keyword, Call, Reference, Apply, Combine, Args, Nil, More, Absent, Given}
+use Rattle.model.specs.Module.WellFormed.{is_nonnull, indices_fit}
 use Rattle.expr_codegen.specs.Code.{Part, one, with_string, ◌>>◌, call, with_key, value, name, arguments}
 use Rattle.codegen_laws.specs.Fit.{Named, Fit, FitArgs}
 use Rattle.codegen_laws.proofs.Flows.{Fits, Small, push, tried, Flows, flows_nothing, flows_one, flows_string, flows_later, flows_join, flows_as, flows_try}

@@ -8,12 +8,12 @@ use Rattle.model.specs.declared.keys.KeyId.{KeyId}
 use Rattle.model.specs.declared.primitives.PrimId.{PrimId}
 use Rattle.model.specs.declared.trees.Unary.TheVariants as u
 use Rattle.model.specs.declared.trees.Binary.TheVariants as b
-use Rattle.model.specs.Faults.{count, is_target}
-use Rattle.model.specs.Machine.{Module}
-use Rattle.model.specs.Names.{key_named, prim_named}
-use Rattle.model.specs.Placed.{CodeV, CodeN, CodeA, CallAt, KeyAt, Is}
-use Rattle.model.specs.Programs.{Program}
-use Rattle.model.specs.Trees.{Bytes, Expr, Name, Integer, Literal, Keyword, Call, Reference, Apply, Combine, Args, Nil, More, Absent, Given}
+use Rattle.model.specs.Deck.Faults.{count, is_target}
+use Rattle.model.specs.Machine.Steps.{Module}
+use Rattle.model.specs.Language.Names.{key_named, prim_named}
+use Rattle.model.specs.Module.Placed.{CodeV, CodeN, CodeA, CallAt, KeyAt, Is}
+use Rattle.model.specs.Language.Programs.{Program}
+use Rattle.model.specs.Deck.Trees.{Bytes, Expr, Name, Integer, Literal, Keyword, Call, Reference, Apply, Combine, Args, Nil, More, Absent, Given}
 use Rattle.expr_codegen.specs.Code.{Part, one, call, with_key, value, name, arguments}
 use Rattle.codegen_laws.specs.Fit.{Fit, FitArgs}
 use Rattle.codegen_laws.proofs.Standing.{Means, means_nothing, means_one, means_string, means_later, means_join, means_join3, means_handled, means_as}

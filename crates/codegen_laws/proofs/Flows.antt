@@ -6,11 +6,11 @@ use Rattle.std.specs.Int.RustNames.{FitsSigned}
 use Rattle.model.specs.declared.image.Image.{Image}
 use Rattle.model.specs.declared.instr.Instr.{Instr}
 use Rattle.model.specs.declared.instr.Instr.TheVariants as op
-use Rattle.model.specs.Flow.{Kind, V, Shape, shape, Asks, floor_of}
-use Rattle.model.specs.Machine.{OnTry}
-use Rattle.model.specs.Modules.{bytes, total}
-use Rattle.model.specs.Trees.{Bytes, Expr}
-use Rattle.model.specs.WellFormed.{indices_fit}
+use Rattle.model.specs.Module.Flow.{Kind, V, Shape, shape, Asks, floor_of}
+use Rattle.model.specs.Machine.Steps.{OnTry}
+use Rattle.model.specs.Module.Images.{bytes, total}
+use Rattle.model.specs.Deck.Trees.{Bytes, Expr}
+use Rattle.model.specs.Module.WellFormed.{indices_fit}
 use Rattle.expr_codegen.specs.Texts.{place_of}
 use Rattle.expr_codegen.specs.Code.{Part, nothing, one, with_string, unevaluated, ◌>>◌, handled}
 use Rattle.codegen_laws.proofs.Shapes.{next_shape, after, shape_from, Targets, Sound, after_join, sound_join, some_bytes}

@@ -1,7 +1,7 @@
 -- The image of each accepted deck.
 use Rattle.std.proofs.Common.{slice_get}
-use Rattle.model.proofs.AgreementLaw.{agrees_where_placed}
-use Rattle.model.proofs.RunSteps.{run_steps_law}
+use Rattle.model.proofs.Machine.Agreement.{agrees_where_placed}
+use Rattle.model.proofs.Machine.RunsBounded.{run_steps_law}
 use Rattle.codegen.specs.Layout.{image_of}
 use Rattle.codegen_laws.specs.CodegenLaws.{AreFit, AreCountable, IsPlaced, IsSpelt, IsSound, IsSmall, DoesAsMeant, IsInTime}
 use Rattle.codegen_laws.proofs.Accepted.{accepted_is_fit}

@@ -11,15 +11,15 @@ use Rattle.model.specs.declared.instr.Instr.{Instr}
 use Rattle.model.specs.declared.instr.Instr.TheVariants as op
 use Rattle.model.specs.declared.primitives.PrimId.{PrimId}
 use Rattle.model.specs.declared.primitives.PrimId.TheVariants as prim
-use Rattle.model.specs.Flow.{Shape, bare}
-use Rattle.model.specs.Modules.{bytes, total}
-use Rattle.model.specs.Names.{most_args}
-use Rattle.model.specs.Programs.{labelled_from, entry_in, entry_label}
-use Rattle.model.specs.Spelling.{u16, u32, u64, instr, code_bytes, InstrFits, most, most_code, Follow, is_new, newest, rises, statement_of, StringFits, LabelFits, StatementFits, OffsetFits, IsImage}
-use Rattle.model.specs.Trees.{Bytes, Expr, Stmt, Plain, End}
-use Rattle.model.specs.WellFormed.{is_nonnull, is_statement, is_name}
-use Rattle.model.specs.Weights as weights
-use Rattle.model.specs.Weights.{of_name, weight}
+use Rattle.model.specs.Module.Flow.{Shape, bare}
+use Rattle.model.specs.Module.Images.{bytes, total}
+use Rattle.model.specs.Language.Names.{most_args}
+use Rattle.model.specs.Language.Programs.{labelled_from, entry_in, entry_label}
+use Rattle.model.specs.Module.Spelling.{u16, u32, u64, instr, code_bytes, InstrFits, most, most_code, Follow, is_new, newest, rises, statement_of, StringFits, LabelFits, StatementFits, OffsetFits, IsImage}
+use Rattle.model.specs.Deck.Trees.{Bytes, Expr, Stmt, Plain, End}
+use Rattle.model.specs.Module.WellFormed.{is_nonnull, is_statement, is_name}
+use Rattle.model.specs.Deck.Weights as weights
+use Rattle.model.specs.Deck.Weights.{of_name, weight}
 use Rattle.expr_codegen.specs.Texts.{place_of, with_text, with_texts}
 use Rattle.expr_codegen.specs.Code.{Part, ◌>>◌}
 use Rattle.codegen.specs.Layout.{statements_of, expressions_of, joined, offsets, labels, label_texts, code_of, image_of}

@@ -3,8 +3,8 @@ use Rattle.std.proofs.Common.{◌≡◌, ℕ, zero, suc, ◌+◌, ◌<◌, ◌�
 use Rattle.std.specs.List.{AllByRecursion}
 use Rattle.model.specs.declared.instr.Instr.{Instr}
 use Rattle.model.specs.declared.instr.Instr.TheVariants as op
-use Rattle.model.specs.Modules.{total, number_at}
-use Rattle.model.specs.Trees.{Bytes, Expr, Stmt, Plain, End}
+use Rattle.model.specs.Module.Images.{total, number_at}
+use Rattle.model.specs.Deck.Trees.{Bytes, Expr, Stmt, Plain, End}
 use Rattle.expr_codegen.specs.Code.{Part, one, ◌>>◌, handled, value}
 use Rattle.codegen.specs.Layout.{statement, statements, expression, expressions, offsets}
 use Rattle.codegen_laws.proofs.Shapes.{some_bytes}

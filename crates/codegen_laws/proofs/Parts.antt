@@ -8,14 +8,14 @@ use Rattle.model.specs.declared.image.Image.{Image}
 use Rattle.model.specs.declared.image.Label.{Label}
 use Rattle.model.specs.declared.instr.Instr.{Instr}
 use Rattle.model.specs.declared.instr.Instr.TheVariants as op
-use Rattle.model.specs.Flow.{Shape, bare, asked, begins_at, is_fetched, is_target}
-use Rattle.model.specs.Machine.{Fetched, Nowhere, At}
-use Rattle.model.specs.Modules.{bytes, total, fetch_from, module_of}
-use Rattle.model.specs.Placed.{CodeS}
-use Rattle.model.specs.Programs.{entry_label, program}
-use Rattle.model.specs.Spelling.{newest}
-use Rattle.model.specs.Trees.{Bytes, Stmt, Plain, End}
-use Rattle.model.specs.WellFormed.{first, rule, told, scan, entry_at, entry_rule, labels_at, label_rule, is_label_name, is_statement, statements_at, statement_rule, expressions_at, expression_rule, code_at, instr_fault, indices_fit, place_fits, begins_last, is_last_instr, is_end, is_begin, part_fault}
+use Rattle.model.specs.Module.Flow.{Shape, bare, asked, begins_at, is_fetched, is_target}
+use Rattle.model.specs.Machine.Steps.{Fetched, Nowhere, At}
+use Rattle.model.specs.Module.Images.{bytes, total, fetch_from, module_of}
+use Rattle.model.specs.Module.Placed.{CodeS}
+use Rattle.model.specs.Language.Programs.{entry_label, program}
+use Rattle.model.specs.Module.Spelling.{newest}
+use Rattle.model.specs.Deck.Trees.{Bytes, Stmt, Plain, End}
+use Rattle.model.specs.Module.WellFormed.{first, rule, told, scan, entry_at, entry_rule, labels_at, label_rule, is_label_name, is_statement, statements_at, statement_rule, expressions_at, expression_rule, code_at, instr_fault, indices_fit, place_fits, begins_last, is_last_instr, is_end, is_begin, part_fault}
 use Rattle.expr_codegen.specs.Texts.{place_of, with_texts}
 use Rattle.codegen.specs.Layout.{labels, label_texts, code_of, image_of}
 use Rattle.codegen_laws.specs.Fit.{NewLabels, EndsInEnd, IsFit}

@@ -3,13 +3,13 @@ use Rattle.std.proofs.Common.{◌≡◌, ℕ, zero, suc, ◌+◌, ◌<◌, ◌�
 use Rattle.std.specs.Prelude.{map}
 use Rattle.std.specs.List.{AllByRecursion}
 use Rattle.model.specs.declared.instr.Instr.TheVariants as op
-use Rattle.model.specs.Machine.{Module}
-use Rattle.model.specs.Modules.{total, module_of, statement_at, statement_of, end_of}
-use Rattle.model.specs.Placed.{CodeV, CodeS, Placed, Is}
-use Rattle.model.specs.Programs.{Program, program, statement_in, labelled_from, entry_in, entry_label, number_or, end_label}
-use Rattle.model.specs.Trees.{Bytes, Expr, Body, Goto, Stmt, Plain, End}
-use Rattle.model.specs.Weights as weights
-use Rattle.model.specs.Weights.{weight}
+use Rattle.model.specs.Machine.Steps.{Module}
+use Rattle.model.specs.Module.Images.{total, module_of, statement_at, statement_of, end_of}
+use Rattle.model.specs.Module.Placed.{CodeV, CodeS, Placed, Is}
+use Rattle.model.specs.Language.Programs.{Program, program, statement_in, labelled_from, entry_in, entry_label, number_or, end_label}
+use Rattle.model.specs.Deck.Trees.{Bytes, Expr, Body, Goto, Stmt, Plain, End}
+use Rattle.model.specs.Deck.Weights as weights
+use Rattle.model.specs.Deck.Weights.{weight}
 use Rattle.expr_codegen.specs.Texts.{with_texts}
 use Rattle.expr_codegen.specs.Code.{Part, ◌>>◌}
 use Rattle.codegen.specs.Layout.{statement, statements, statements_of, expression, expressions_of, joined, offsets, labels, label_texts, code_of, texts_of, image_of}

@@ -5,10 +5,10 @@ use Rattle.std.specs.List.{Contains, list_any}
 use Rattle.model.specs.declared.image.Image.{Image}
 use Rattle.model.specs.declared.instr.Instr.{Instr}
 use Rattle.model.specs.declared.instr.Instr.TheVariants as op
-use Rattle.model.specs.Machine.{At, Nowhere, Fetched, OnBegin, OnTry}
-use Rattle.model.specs.Modules.{bytes, total, fetch_from}
-use Rattle.model.specs.Flow.{InBody, Shape, shape, bare, asked, takes, leaves, Asks, leads, is_target, to_target, Begins, Reach, BreaksFlow, IsLeast}
-use Rattle.model.specs.WellFormed.{is_last_instr}
+use Rattle.model.specs.Machine.Steps.{At, Nowhere, Fetched, OnBegin, OnTry}
+use Rattle.model.specs.Module.Images.{bytes, total, fetch_from}
+use Rattle.model.specs.Module.Flow.{InBody, Shape, shape, bare, asked, takes, leaves, Asks, leads, is_target, to_target, Begins, Reach, BreaksFlow, IsLeast}
+use Rattle.model.specs.Module.WellFormed.{is_last_instr}
 
 -- ---- what the code leaves
 

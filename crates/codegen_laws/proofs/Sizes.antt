@@ -11,14 +11,14 @@ use Rattle.model.specs.declared.keys.KeyId.{KeyId}
 use Rattle.model.specs.declared.primitives.PrimId.{PrimId}
 use Rattle.model.specs.declared.trees.Unary.TheVariants as u
 use Rattle.model.specs.declared.trees.Binary.TheVariants as b
-use Rattle.model.specs.Calls.{return_of}
-use Rattle.model.specs.Faults.{count}
-use Rattle.model.specs.Meaning.{key_target}
-use Rattle.model.specs.Modules.{bytes, total}
-use Rattle.model.specs.Names.{key_named, prim_named}
-use Rattle.model.specs.Trees.{Bytes, Expr, Name, Integer, Literal, Keyword, Call, Reference, Apply, Combine, Args, Nil, More, Absent, Given, Place, Label, Computed, Goto, Next, Always, OnSuccess, OnFailure, Both, Body, Nothing, Evaluate, Match, Assign, Replace, Stmt, Plain, End}
-use Rattle.model.specs.Weights as weights
-use Rattle.model.specs.Weights.{of_name, of_expr, of_args, of_place, of_goto, of_object, of_body, weight}
+use Rattle.model.specs.Language.Calls.{return_of}
+use Rattle.model.specs.Deck.Faults.{count}
+use Rattle.model.specs.Language.Meaning.{key_target}
+use Rattle.model.specs.Module.Images.{bytes, total}
+use Rattle.model.specs.Language.Names.{key_named, prim_named}
+use Rattle.model.specs.Deck.Trees.{Bytes, Expr, Name, Integer, Literal, Keyword, Call, Reference, Apply, Combine, Args, Nil, More, Absent, Given, Place, Label, Computed, Goto, Next, Always, OnSuccess, OnFailure, Both, Body, Nothing, Evaluate, Match, Assign, Replace, Stmt, Plain, End}
+use Rattle.model.specs.Deck.Weights as weights
+use Rattle.model.specs.Deck.Weights.{of_name, of_expr, of_args, of_place, of_goto, of_object, of_body, weight}
 use Rattle.expr_codegen.specs.Texts.{place_of}
 use Rattle.expr_codegen.specs.Code.{Part, nothing, one, with_string, unevaluated, ◌>>◌, handled, call, with_key, value, name, arguments}
 use Rattle.codegen.specs.Layout.{object, assignment, body, to_known, to_label, place, after_success, after_failure, statement, statements, expression, expressions, joined, label_texts}

@@ -6,11 +6,11 @@ use Rattle.std.proofs.lemmas.List.{length-map}
 use Rattle.model.specs.declared.image.Image.{Image}
 use Rattle.model.specs.declared.instr.Instr.{Instr}
 use Rattle.model.specs.declared.instr.Instr.TheVariants as op
-use Rattle.model.specs.Flow.{Shape, bare, asked, BreaksFlow, IsLeast}
-use Rattle.model.specs.Modules.{total}
-use Rattle.model.specs.Programs.{labelled_from}
-use Rattle.model.specs.Trees.{Bytes, Expr, Body, Goto, Stmt, Plain, End}
-use Rattle.model.specs.WellFormed.{is_statement}
+use Rattle.model.specs.Module.Flow.{Shape, bare, asked, BreaksFlow, IsLeast}
+use Rattle.model.specs.Module.Images.{total}
+use Rattle.model.specs.Language.Programs.{labelled_from}
+use Rattle.model.specs.Deck.Trees.{Bytes, Expr, Body, Goto, Stmt, Plain, End}
+use Rattle.model.specs.Module.WellFormed.{is_statement}
 use Rattle.expr_codegen.specs.Code.{Part, nothing, one, ◌>>◌, handled, value}
 use Rattle.codegen.specs.Layout.{body, after_success, after_failure, statement, statements, statements_of, expression, expressions_of, joined, offsets, image_of}
 use Rattle.codegen_laws.specs.Fit.{Fit, FitStmt, EndsInEnd}

@@ -7,18 +7,18 @@ use Rattle.std.proofs.lemmas.Bool.Decides.{nat_tests}
 use Rattle.model.specs.declared.tokens.TokenKind.{TokenKind}
 use Rattle.model.specs.declared.tokens.TokenKind.TheVariants as kind
 use Rattle.model.specs.declared.causes.Cause.{Cause}
-use Rattle.model.specs.Cut.{IsToken, Piece, Token, Stray, Unclosed, Cut, toks_of, has, is_stray, is_unclosed, is_too_large, least_lexical}
-use Rattle.model.specs.Faults.{read}
-use Rattle.model.specs.Grammar.{gap, link, shown, Phrase, Element, Grade, One, Several, Spells, name, integer, literal, keyword, applied, brackets, call, reference, plain, looser, combined, absent, present, single, comma}
-use Rattle.model.specs.Pieces.{pieces}
-use Rattle.model.specs.Statements as st
-use Rattle.model.specs.Statements.{end_word, IsPlace, InBrackets, IsExits, IsGoto, IsObject, IsBody, IsLabel, IsEntry, Tree}
-use Rattle.model.specs.Tokens.{Tok, Blank, Word, Digits, Sign, tok_by}
-use Rattle.model.specs.Trees.{Bytes, Expr, Name, Integer, Literal, Keyword, Call, Reference, Apply, Combine, Arg, Absent, Given, Args, Nil, More, Place, Label, Computed, Goto, Next, Always, OnSuccess, OnFailure, Both, Body, Nothing, Evaluate, Match, Assign, Replace, Stmt, Plain, End}
-use Rattle.model.proofs.Cutting.{cut_is}
-use Rattle.model.proofs.DeckEnds.{piece_is}
-use Rattle.model.proofs.DeckVerdicts.{read_is}
-use Rattle.model.proofs.StatementSound.{stmt_sound}
+use Rattle.model.specs.Deck.Cut.{IsToken, Piece, Token, Stray, Unclosed, Cut, toks_of, has, is_stray, is_unclosed, is_too_large, least_lexical}
+use Rattle.model.specs.Deck.Faults.{read}
+use Rattle.model.specs.Deck.Grammar.{gap, link, shown, Phrase, Element, Grade, One, Several, Spells, name, integer, literal, keyword, applied, brackets, call, reference, plain, looser, combined, absent, present, single, comma}
+use Rattle.model.specs.Deck.Pieces.{pieces}
+use Rattle.model.specs.Deck.Statements as st
+use Rattle.model.specs.Deck.Statements.{end_word, IsPlace, InBrackets, IsExits, IsGoto, IsObject, IsBody, IsLabel, IsEntry, Tree}
+use Rattle.model.specs.Deck.Tokens.{Tok, Blank, Word, Digits, Sign, tok_by}
+use Rattle.model.specs.Deck.Trees.{Bytes, Expr, Name, Integer, Literal, Keyword, Call, Reference, Apply, Combine, Arg, Absent, Given, Args, Nil, More, Place, Label, Computed, Goto, Next, Always, OnSuccess, OnFailure, Both, Body, Nothing, Evaluate, Match, Assign, Replace, Stmt, Plain, End}
+use Rattle.model.proofs.Decks.Cutting.{cut_is}
+use Rattle.model.proofs.Decks.Ends.{piece_is}
+use Rattle.model.proofs.Decks.Verdicts.{read_is}
+use Rattle.model.proofs.Decks.StatementSound.{stmt_sound}
 use Rattle.codegen_laws.specs.Fit.{Named}
 use Rattle.codegen_laws.proofs.Standing.{all_left, all_right}
 

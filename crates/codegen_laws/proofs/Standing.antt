@@ -3,9 +3,9 @@ use Rattle.std.proofs.Common.{◌≡◌, ℕ, suc, ◌+◌, ◌<◌, ◌≤◌, 
 use Rattle.std.specs.List.{AllByRecursion}
 use Rattle.model.specs.declared.instr.Instr.{Instr}
 use Rattle.model.specs.declared.instr.Instr.TheVariants as op
-use Rattle.model.specs.Machine.{At, Module}
-use Rattle.model.specs.Modules.{bytes, total, fetch_from}
-use Rattle.model.specs.Trees.{Bytes, Expr}
+use Rattle.model.specs.Machine.Steps.{At, Module}
+use Rattle.model.specs.Module.Images.{bytes, total, fetch_from}
+use Rattle.model.specs.Deck.Trees.{Bytes, Expr}
 use Rattle.expr_codegen.specs.Texts.{place_of}
 use Rattle.expr_codegen.specs.Code.{Part, nothing, one, with_string, unevaluated, ◌>>◌, handled}
 use Rattle.codegen_laws.proofs.Shapes.{total_join, some_bytes}

@@ -5,14 +5,14 @@ use Rattle.model.specs.declared.instr.Instr.TheVariants as op
 use Rattle.model.specs.declared.instr.ReturnKind.{ReturnKind}
 use Rattle.model.specs.declared.keys.KeyId.{KeyId}
 use Rattle.model.specs.declared.trees.Unary.TheVariants as u
-use Rattle.model.specs.Calls.{return_of}
-use Rattle.model.specs.Faults.{is_target, may_be_assigned, subject_fits}
-use Rattle.model.specs.Flow.{InBody, V, N, R, Shape, shape, bare, floor_of}
-use Rattle.model.specs.Machine.{OnBegin}
-use Rattle.model.specs.Meaning.{key_target}
-use Rattle.model.specs.Names.{key_named}
-use Rattle.model.specs.Trees.{Bytes, Expr, Name, Integer, Literal, Keyword, Call, Reference, Apply, Combine, Place, Label, Computed, Goto, Next, Always, OnSuccess, OnFailure, Both, Body, Nothing, Evaluate, Match, Assign, Replace}
-use Rattle.model.specs.WellFormed.{is_statement}
+use Rattle.model.specs.Language.Calls.{return_of}
+use Rattle.model.specs.Deck.Faults.{is_target, may_be_assigned, subject_fits}
+use Rattle.model.specs.Module.Flow.{InBody, V, N, R, Shape, shape, bare, floor_of}
+use Rattle.model.specs.Machine.Steps.{OnBegin}
+use Rattle.model.specs.Language.Meaning.{key_target}
+use Rattle.model.specs.Language.Names.{key_named}
+use Rattle.model.specs.Deck.Trees.{Bytes, Expr, Name, Integer, Literal, Keyword, Call, Reference, Apply, Combine, Place, Label, Computed, Goto, Next, Always, OnSuccess, OnFailure, Both, Body, Nothing, Evaluate, Match, Assign, Replace}
+use Rattle.model.specs.Module.WellFormed.{is_statement}
 use Rattle.expr_codegen.specs.Code.{one, ◌>>◌, with_key}
 use Rattle.codegen.specs.Layout.{object, assignment, body, to_known, to_label, place, after_success, after_failure}
 use Rattle.codegen_laws.specs.Fit.{Fit, FitObject, FitBody, FitPlace, FitGoto}

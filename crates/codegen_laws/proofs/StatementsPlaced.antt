@@ -5,14 +5,14 @@ use Rattle.model.specs.declared.instr.Instr.TheVariants as op
 use Rattle.model.specs.declared.instr.ReturnKind.{ReturnKind}
 use Rattle.model.specs.declared.keys.KeyId.{KeyId}
 use Rattle.model.specs.declared.trees.Unary.TheVariants as u
-use Rattle.model.specs.Calls.{return_of}
-use Rattle.model.specs.Faults.{is_target, may_be_assigned, subject_fits}
-use Rattle.model.specs.Machine.{Module}
-use Rattle.model.specs.Meaning.{key_target, onward_of, other_of}
-use Rattle.model.specs.Names.{key_named, is_protected}
-use Rattle.model.specs.Placed.{CodeV, CodeN, CodeO, CodeAssign, CodeB, CodeKnown, CodeLabel, CodeG, CodeS, Is}
-use Rattle.model.specs.Programs.{Program}
-use Rattle.model.specs.Trees.{Bytes, Expr, Name, Integer, Literal, Keyword, Call, Reference, Apply, Combine, Place, Label, Computed, Goto, Next, Always, OnSuccess, OnFailure, Both, Body, Nothing, Evaluate, Match, Assign, Replace, Plain, End}
+use Rattle.model.specs.Language.Calls.{return_of}
+use Rattle.model.specs.Deck.Faults.{is_target, may_be_assigned, subject_fits}
+use Rattle.model.specs.Machine.Steps.{Module}
+use Rattle.model.specs.Language.Meaning.{key_target, onward_of, other_of}
+use Rattle.model.specs.Language.Names.{key_named, is_protected}
+use Rattle.model.specs.Module.Placed.{CodeV, CodeN, CodeO, CodeAssign, CodeB, CodeKnown, CodeLabel, CodeG, CodeS, Is}
+use Rattle.model.specs.Language.Programs.{Program}
+use Rattle.model.specs.Deck.Trees.{Bytes, Expr, Name, Integer, Literal, Keyword, Call, Reference, Apply, Combine, Place, Label, Computed, Goto, Next, Always, OnSuccess, OnFailure, Both, Body, Nothing, Evaluate, Match, Assign, Replace, Plain, End}
 use Rattle.expr_codegen.specs.Code.{Part, one, ◌>>◌, value, name}
 use Rattle.codegen.specs.Layout.{object, assignment, body, to_known, to_label, place, after_success, after_failure, statement}
 use Rattle.codegen_laws.specs.Fit.{Fit, FitObject, FitBody, FitPlace, FitGoto, FitStmt}

@@ -1,6 +1,6 @@
 -- Each text that is put into a table stands where it is looked for.
 use Rattle.std.proofs.Common.{◌≡◌, suc, List, [], ◌∷◌, refl, sym, ap, true, false, Some, if◌then◌else◌, rules, slice_get, bytes_eq}
-use Rattle.model.specs.Trees.{Bytes}
+use Rattle.model.specs.Deck.Trees.{Bytes}
 use Rattle.expr_codegen.specs.Texts.{place_of, with_text, with_texts}
 use Rattle.codegen_laws.proofs.Standing.{Held, AllHeld}
 

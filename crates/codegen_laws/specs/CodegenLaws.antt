@@ -1,15 +1,15 @@
 -- What is so of the image of each accepted deck.
 use Rattle.std.specs.Prelude.{◌≡◌, ◌≤◌, ℕ, List, Option}
 use Rattle.std.specs.List.{AllByRecursion}
-use Rattle.model.specs.Agreement.{Agrees}
-use Rattle.model.specs.Faults.{Accepted, verdict}
-use Rattle.model.specs.Modules.{module_of, total}
-use Rattle.model.specs.Placed.{Placed}
-use Rattle.model.specs.Programs.{program}
-use Rattle.model.specs.Spelling.{IsImage}
-use Rattle.model.specs.StepBound.{EndsInTime}
-use Rattle.model.specs.Trees.{Expr, Stmt}
-use Rattle.model.specs.WellFormed.{IsWellFormed}
+use Rattle.model.specs.Laws.Agreement.{Agrees}
+use Rattle.model.specs.Deck.Faults.{Accepted, verdict}
+use Rattle.model.specs.Module.Images.{module_of, total}
+use Rattle.model.specs.Module.Placed.{Placed}
+use Rattle.model.specs.Language.Programs.{program}
+use Rattle.model.specs.Module.Spelling.{IsImage}
+use Rattle.model.specs.Laws.StepBound.{EndsInTime}
+use Rattle.model.specs.Deck.Trees.{Expr, Stmt}
+use Rattle.model.specs.Module.WellFormed.{IsWellFormed}
 use Rattle.codegen.specs.Countable.{CountableStmt}
 use Rattle.codegen.specs.Layout.{image_of}
 use Rattle.codegen_laws.specs.Fit.{IsFit}

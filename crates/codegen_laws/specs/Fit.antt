@@ -4,11 +4,11 @@ use Rattle.std.specs.List.{AllByRecursion, list_any}
 use Rattle.std.specs.Int.{w64}
 use Rattle.std.specs.Int.RustNames.{FitsSigned}
 use Rattle.model.specs.declared.keys.KeyId.{KeyId}
-use Rattle.model.specs.Faults.{count, at_most, operand_fits, subject_fits, is_target}
-use Rattle.model.specs.Names.{key_named, prim_named}
-use Rattle.model.specs.Trees.{Bytes, Expr, Name, Integer, Literal, Keyword, Call, Reference, Apply, Combine, Args, Nil, More, Absent, Given, Place, Label, Computed, Goto, Next, Always, OnSuccess, OnFailure, Both, Body, Nothing, Evaluate, Match, Assign, Replace, Stmt, Plain, End}
-use Rattle.model.specs.Weights.{weight, total}
-use Rattle.model.specs.WellFormed.{is_nonnull, is_label_name}
+use Rattle.model.specs.Deck.Faults.{count, at_most, operand_fits, subject_fits, is_target}
+use Rattle.model.specs.Language.Names.{key_named, prim_named}
+use Rattle.model.specs.Deck.Trees.{Bytes, Expr, Name, Integer, Literal, Keyword, Call, Reference, Apply, Combine, Args, Nil, More, Absent, Given, Place, Label, Computed, Goto, Next, Always, OnSuccess, OnFailure, Both, Body, Nothing, Evaluate, Match, Assign, Replace, Stmt, Plain, End}
+use Rattle.model.specs.Deck.Weights.{weight, total}
+use Rattle.model.specs.Module.WellFormed.{is_nonnull, is_label_name}
 use Rattle.codegen.specs.Layout.{label_texts}
 
 abbrev pub Named : Bytes → Type 0

@@ -8,11 +8,11 @@ use Rattle.model.specs.declared.causes.DeckFault.TheVariants as fault
 use Rattle.model.specs.declared.causes.StmtFault.{StmtFault}
 use Rattle.model.specs.declared.image.Image.{Image}
 use Rattle.model.specs.declared.trees.Stmt as code
-use Rattle.model.specs.Cards as cards
-use Rattle.model.specs.Faults.{verdict, verdict_of_cards, verdict_of_faults, CardRefused, Refused, Accepted, faults, trees}
-use Rattle.model.specs.Spelling.{spelling}
-use Rattle.model.specs.Trees.{Stmt}
-use Rattle.model.specs.TreeViews.{stmt_of}
+use Rattle.model.specs.Deck.Cards as cards
+use Rattle.model.specs.Deck.Faults.{verdict, verdict_of_cards, verdict_of_faults, CardRefused, Refused, Accepted, faults, trees}
+use Rattle.model.specs.Module.Spelling.{spelling}
+use Rattle.model.specs.Deck.Trees.{Stmt}
+use Rattle.model.specs.Deck.TreeViews.{stmt_of}
 use Rattle.parser.specs.Refusals.{IsRefusal}
 use Rattle.codegen.specs.Countable.{Fits}
 use Rattle.codegen.specs.Layout.{image_of}

@@ -4,14 +4,14 @@ use Rattle.model.specs.declared.format.LoadFault.{LoadFault}
 use Rattle.model.specs.declared.image.Image.{Image}
 use Rattle.model.specs.declared.run.Status.{Status}
 use Rattle.model.specs.declared.run.Ending.{Ending}
-use Rattle.model.specs.Agreement.{Agrees, Inputs, Seen, mach, mean}
-use Rattle.model.specs.PrintedBefore.{seen_after}
-use Rattle.model.specs.Io.{Io}
-use Rattle.model.specs.Reading as reading
-use Rattle.model.specs.Faults.{verdict, Verdict, Accepted}
-use Rattle.model.specs.Told.{IfTold}
-use Rattle.model.specs.Trees.{Stmt}
-use Rattle.model.proofs.SpeltImages.{spelt_is_read}
+use Rattle.model.specs.Laws.Agreement.{Agrees, Inputs, Seen, mach, mean}
+use Rattle.model.specs.Laws.PrintedBefore.{seen_after}
+use Rattle.model.specs.Language.Io.{Io}
+use Rattle.model.specs.Module.Reading as reading
+use Rattle.model.specs.Deck.Faults.{verdict, Verdict, Accepted}
+use Rattle.model.specs.Language.Told.{IfTold}
+use Rattle.model.specs.Deck.Trees.{Stmt}
+use Rattle.model.proofs.Module.SpeltImages.{spelt_is_read}
 use Rattle.loader.specs.Answers.{IsAnswer, no_memory}
 use Rattle.loader.proofs.Judging.{accepted}
 use Rattle.statement_machine.specs.Stopped.{IfRan, ending_of}

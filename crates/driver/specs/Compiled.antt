@@ -6,12 +6,12 @@ use Rattle.model.specs.declared.causes.DeckFault.{DeckFault}
 use Rattle.model.specs.declared.causes.DeckFault.TheVariants as fault
 use Rattle.model.specs.declared.causes.StmtFault.{StmtFault}
 use Rattle.model.specs.declared.image.Image.{Image}
-use Rattle.model.specs.Agreement.{Agrees}
-use Rattle.model.specs.Faults.{verdict, CardRefused, Refused, Accepted}
-use Rattle.model.specs.Spelling.{IsImage, spelling}
-use Rattle.model.specs.StepBound.{EndsInTime}
-use Rattle.model.specs.Trees.{Stmt}
-use Rattle.model.specs.WellFormed.{IsWellFormed}
+use Rattle.model.specs.Laws.Agreement.{Agrees}
+use Rattle.model.specs.Deck.Faults.{verdict, CardRefused, Refused, Accepted}
+use Rattle.model.specs.Module.Spelling.{IsImage, spelling}
+use Rattle.model.specs.Laws.StepBound.{EndsInTime}
+use Rattle.model.specs.Deck.Trees.{Stmt}
+use Rattle.model.specs.Module.WellFormed.{IsWellFormed}
 use Rattle.codegen.specs.Layout.{image_of}
 use Rattle.loader.specs.Loaded.{IsLoaded}
 use Rattle.fragment.specs.Fragment.{not_yet}

@@ -3,14 +3,14 @@ use Rattle.std.specs.Prelude.{◌≡◌, ℕ, ◌+◌, ◌*◌, ◌≤◌, List,
 use Rattle.model.specs.declared.run.Ending.{Ending}
 use Rattle.model.specs.declared.image.Image.{Image}
 use Rattle.model.specs.declared.run.Status.{Status}
-use Rattle.model.specs.Agreement.{Agrees, Inputs, IsBeginning, Records, Seen, mach, mean}
-use Rattle.model.specs.PrintedBefore.{seen_after}
-use Rattle.model.specs.Faults.{verdict, Accepted}
-use Rattle.model.specs.Io.{Io}
-use Rattle.model.specs.RulesUsed.{rules_used}
-use Rattle.model.specs.StepBound.{EndsInTime}
-use Rattle.model.specs.Told.{IfTold}
-use Rattle.model.specs.Trees.{Stmt}
+use Rattle.model.specs.Laws.Agreement.{Agrees, Inputs, IsBeginning, Records, Seen, mach, mean}
+use Rattle.model.specs.Laws.PrintedBefore.{seen_after}
+use Rattle.model.specs.Deck.Faults.{verdict, Accepted}
+use Rattle.model.specs.Language.Io.{Io}
+use Rattle.model.specs.Language.RulesUsed.{rules_used}
+use Rattle.model.specs.Laws.StepBound.{EndsInTime}
+use Rattle.model.specs.Language.Told.{IfTold}
+use Rattle.model.specs.Deck.Trees.{Stmt}
 use Rattle.codegen.specs.Layout.{image_of}
 use Rattle.statement_machine.specs.declared.TheConstants.{STEPS_PER_RULE}
 use Rattle.statement_machine.specs.Stopped.{IfRan, ending_of}

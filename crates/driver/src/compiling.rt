@@ -1,9 +1,9 @@
 //! From a deck to a module.
 
 ghost use Rattle.std.specs.Prelude.{◌≡◌, List, IfOk, IfErr, OnOk};
-ghost use Rattle.model.specs.Faults.{verdict, Accepted};
-ghost use Rattle.model.specs.Trees as tree;
-ghost use Rattle.model.specs.TreeViews.{program_of};
+ghost use Rattle.model.specs.Deck.Faults.{verdict, Accepted};
+ghost use Rattle.model.specs.Deck.Trees as tree;
+ghost use Rattle.model.specs.Deck.TreeViews.{program_of};
 ghost use Rattle.driver.specs.Compiled.{IsAccepted, IsModuleOf, IsRefusalOf, OfCards, OfStatements};
 
 use crate::refusal::Refusal;

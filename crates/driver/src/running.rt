@@ -2,10 +2,10 @@
 
 ghost use Rattle.std.specs.Prelude.{◌≡◌, ℕ, List, Err, Ok, IfErr, IfOk, OnErr, OnOk};
 ghost use Rattle.model.specs.declared.image.Image.{Image};
-ghost use Rattle.model.specs.Agreement.{mach};
-ghost use Rattle.model.specs.PrintedBefore.{seen_after};
-ghost use Rattle.model.specs.Reading.{image_of};
-ghost use Rattle.model.specs.Told.{IfTold};
+ghost use Rattle.model.specs.Laws.Agreement.{mach};
+ghost use Rattle.model.specs.Laws.PrintedBefore.{seen_after};
+ghost use Rattle.model.specs.Module.Reading.{image_of};
+ghost use Rattle.model.specs.Language.Told.{IfTold};
 ghost use Rattle.loader.specs.Answers.{IsAnswer};
 ghost use Rattle.loader.specs.Loaded.{IsLoaded};
 ghost use Rattle.statement_machine.specs.Answers.{IsStop};

@@ -6,12 +6,12 @@ use Rattle.std.specs.declared.alloc.Global.{Global}
 use Rattle.model.specs.declared.instr.Instr.TheVariants as op
 use Rattle.model.specs.declared.trees.Argument.{Argument}
 use Rattle.model.specs.declared.trees.Expr.TheVariants as e
-use Rattle.model.specs.Trees as m
-use Rattle.model.specs.Trees.{Bytes, Arg, Args, More, Absent, Given}
-use Rattle.model.specs.TreeViews.{expr_of, arg_of, args_of}
-use Rattle.model.specs.Faults.{count}
-use Rattle.model.specs.Weights.{of_name, of_arg, of_args}
-use Rattle.model.proofs.ArgumentLists.{call_is, reference_is, count_is}
+use Rattle.model.specs.Deck.Trees as m
+use Rattle.model.specs.Deck.Trees.{Bytes, Arg, Args, More, Absent, Given}
+use Rattle.model.specs.Deck.TreeViews.{expr_of, arg_of, args_of}
+use Rattle.model.specs.Deck.Faults.{count}
+use Rattle.model.specs.Deck.Weights.{of_name, of_arg, of_args}
+use Rattle.model.proofs.Decks.ArgumentLists.{call_is, reference_is, count_is}
 use Rattle.expr_codegen.specs.Code.{Part, nothing, one, ◌>>◌, value, arguments}
 use Rattle.expr_codegen.specs.Emitting.{Gen, Emits, Extends, Countable, AllCountable, size}
 use Rattle.expr_codegen.proofs.Joins.{both, nothing_put}

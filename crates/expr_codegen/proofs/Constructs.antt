@@ -6,14 +6,14 @@ use Rattle.model.specs.declared.keys.KeyId.{KeyId}
 use Rattle.model.specs.declared.primitives.PrimId.{PrimId}
 use Rattle.model.specs.declared.trees.Binary.{Binary}
 use Rattle.model.specs.declared.trees.Binary.TheVariants as b
-use Rattle.model.specs.Names.{prim_named}
-use Rattle.model.specs.Modules.{total}
+use Rattle.model.specs.Language.Names.{prim_named}
+use Rattle.model.specs.Module.Images.{total}
 use Rattle.model.specs.declared.trees.Expr.{Expr as Tree}
 use Rattle.model.specs.declared.trees.Expr.TheVariants as e
 use Rattle.model.specs.declared.trees.Unary.{Unary}
 use Rattle.model.specs.declared.trees.Unary.TheVariants as u
-use Rattle.model.specs.Trees.{Bytes, Expr, Args, Apply, Combine}
-use Rattle.model.specs.TreeViews.{expr_of}
+use Rattle.model.specs.Deck.Trees.{Bytes, Expr, Args, Apply, Combine}
+use Rattle.model.specs.Deck.TreeViews.{expr_of}
 use Rattle.expr_codegen.specs.Code.{Part, nothing, one, with_string, with_key, call, ◌>>◌, handled, value, name, arguments}
 use Rattle.expr_codegen.specs.Texts.{with_texts}
 use Rattle.expr_codegen.specs.Emitting.{Gen, Emits, Numbered, with_instr}

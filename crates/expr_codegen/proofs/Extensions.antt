@@ -2,7 +2,7 @@
 use Rattle.std.proofs.Common.{◌≡◌, ℕ, List, [], ◌∷◌, ◌++◌, length, refl, sym, ap, ◌∙◌, subst, slice_set}
 use Rattle.std.specs.Prelude.{Result, Ok, Err, OnOk, OnErr}
 use Rattle.model.specs.declared.instr.Instr.{Instr}
-use Rattle.model.specs.Trees.{Bytes}
+use Rattle.model.specs.Deck.Trees.{Bytes}
 use Rattle.expr_codegen.specs.Texts.{with_text}
 use Rattle.expr_codegen.specs.Emitting.{Gen, Extends, Longer, with_changed}
 use Rattle.expr_codegen.proofs.Joins.{nil_right, longer_text, longer_trans}

@@ -4,9 +4,9 @@ use Rattle.std.specs.Prelude.{Result, Ok, Err, OnOk}
 use Rattle.std.proofs.lemmas.List.{drop-map, drop_more}
 use Rattle.model.specs.declared.instr.Instr.{Instr}
 use Rattle.model.specs.declared.instr.Instr.TheVariants as op
-use Rattle.model.specs.Trees.{Bytes, Expr}
-use Rattle.model.specs.Modules.{bytes, total}
-use Rattle.model.specs.Weights.{of_expr}
+use Rattle.model.specs.Deck.Trees.{Bytes, Expr}
+use Rattle.model.specs.Module.Images.{bytes, total}
+use Rattle.model.specs.Deck.Weights.{of_expr}
 use Rattle.expr_codegen.specs.Texts.{place_of, with_text, with_texts}
 use Rattle.expr_codegen.specs.Code.{Part, nothing, one, with_string, unevaluated, ◌>>◌, handled}
 use Rattle.expr_codegen.specs.Emitting.{Gen, Emits, Longer, Numbered, SameBytes, due, size, with_instr, with_changed, with_waiting}

@@ -8,10 +8,10 @@ use Rattle.model.specs.declared.keys.KeyId.{KeyId}
 use Rattle.model.specs.declared.primitives.PrimId.{PrimId}
 use Rattle.model.specs.declared.trees.Unary.TheVariants as u
 use Rattle.model.specs.declared.trees.Binary.TheVariants as b
-use Rattle.model.specs.Trees.{Bytes, Expr, Name, Integer, Literal, Keyword, Call, Reference, Apply, Combine, Args, Nil, More, Absent, Given}
-use Rattle.model.specs.Names.{key_named, prim_named}
-use Rattle.model.specs.Faults.{count}
-use Rattle.model.specs.Modules.{total}
+use Rattle.model.specs.Deck.Trees.{Bytes, Expr, Name, Integer, Literal, Keyword, Call, Reference, Apply, Combine, Args, Nil, More, Absent, Given}
+use Rattle.model.specs.Language.Names.{key_named, prim_named}
+use Rattle.model.specs.Deck.Faults.{count}
+use Rattle.model.specs.Module.Images.{total}
 use Rattle.expr_codegen.specs.Texts.{place_of}
 
 -- a part of the code

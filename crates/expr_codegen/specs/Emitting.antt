@@ -2,11 +2,11 @@
 use Rattle.std.specs.Prelude.{◌≡◌, ◌≤◌, ⊤, ℕ, ◌+◌, List, [], ◌∷◌, ◌++◌, length, Option, Some, None, slice_get, slice_set, ◌*◌, drop}
 use Rattle.model.specs.declared.instr.Instr.{Instr}
 use Rattle.model.specs.declared.primitives.PrimId.{PrimId}
-use Rattle.model.specs.Trees.{Bytes, Expr, Call, Reference, Apply, Combine, Args, Nil, More, Absent, Given}
-use Rattle.model.specs.Faults.{count}
-use Rattle.model.specs.Modules.{bytes, total}
-use Rattle.model.specs.Names.{prim_named}
-use Rattle.model.specs.Weights.{of_expr}
+use Rattle.model.specs.Deck.Trees.{Bytes, Expr, Call, Reference, Apply, Combine, Args, Nil, More, Absent, Given}
+use Rattle.model.specs.Deck.Faults.{count}
+use Rattle.model.specs.Module.Images.{bytes, total}
+use Rattle.model.specs.Language.Names.{prim_named}
+use Rattle.model.specs.Deck.Weights.{of_expr}
 use Rattle.expr_codegen.specs.Texts.{place_of, with_text, with_texts}
 use Rattle.expr_codegen.specs.Code.{Part}
 

@@ -1,6 +1,6 @@
 -- A table of strings, numbered by first use.
 use Rattle.std.specs.Prelude.{ℕ, suc, List, [], ◌∷◌, bytes_eq, if◌then◌else◌}
-use Rattle.model.specs.Trees.{Bytes}
+use Rattle.model.specs.Deck.Trees.{Bytes}
 
 -- where a string stands among others, or how many they are
 abbrev pub place_of : Bytes → List Bytes → ℕ

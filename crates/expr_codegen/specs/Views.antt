@@ -5,9 +5,9 @@ use Rattle.model.specs.declared.instr.Instr.TheVariants as op
 use Rattle.model.specs.declared.instr.ArithOp.TheVariants as arith
 use Rattle.model.specs.declared.trees.Binary.{Binary}
 use Rattle.model.specs.declared.trees.Binary.TheVariants as b
-use Rattle.model.specs.Names.{prim_named}
-use Rattle.model.specs.Trees.{Bytes, Expr, Args}
-use Rattle.model.specs.TreeViews.{expr_of}
+use Rattle.model.specs.Language.Names.{prim_named}
+use Rattle.model.specs.Deck.Trees.{Bytes, Expr, Args}
+use Rattle.model.specs.Deck.TreeViews.{expr_of}
 use Rattle.expr_codegen.specs.Code.{Part, one, with_string, ◌>>◌, call, value, name, arguments}
 use Rattle.expr_codegen.specs.Emitting.{Gen}
 use Rattle.expr_codegen.specs.declared.generator.Generator.{Generator}

@@ -1,11 +1,11 @@
 //! Code of expressions.
 
 ghost use Rattle.std.specs.Prelude.{◌≡◌, ◌<◌, ◌≤◌, ◌+◌, ◌*◌, ◌^◌, length, OnOk};
-ghost use Rattle.model.specs.Names.{prim_named};
+ghost use Rattle.model.specs.Language.Names.{prim_named};
 ghost use Rattle.model.specs.declared.trees.Unary.TheVariants as u;
-ghost use Rattle.model.specs.Trees.{Apply, Combine};
-ghost use Rattle.model.specs.TreeViews.{expr_of, args_of};
-ghost use Rattle.model.specs.Weights.{of_expr, of_args};
+ghost use Rattle.model.specs.Deck.Trees.{Apply, Combine};
+ghost use Rattle.model.specs.Deck.TreeViews.{expr_of, args_of};
+ghost use Rattle.model.specs.Deck.Weights.{of_expr, of_args};
 ghost use Rattle.expr_codegen.specs.Code as code;
 ghost use Rattle.expr_codegen.specs.Emitting.{Emits, Extends, Countable, AllCountable, size, most_counted};
 ghost use Rattle.expr_codegen.specs.Views as views;

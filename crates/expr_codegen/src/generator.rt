@@ -1,9 +1,9 @@
 //! The state of a generator.
 
 ghost use Rattle.std.specs.Prelude.{◌≡◌, ◌<◌, ◌≤◌, ◌+◌, ◌*◌, ◌^◌, [], length, map, option_map, IfOk, OnOk, OnErr};
-ghost use Rattle.model.specs.Modules.{bytes, total};
-ghost use Rattle.model.specs.TreeViews.{expr_of};
-ghost use Rattle.model.specs.Weights.{of_expr};
+ghost use Rattle.model.specs.Module.Images.{bytes, total};
+ghost use Rattle.model.specs.Deck.TreeViews.{expr_of};
+ghost use Rattle.model.specs.Deck.Weights.{of_expr};
 ghost use Rattle.expr_codegen.specs.Emitting.{size};
 ghost use Rattle.model.specs.declared.instr.Instr.{Instr};
 

@@ -1,7 +1,7 @@
 //! Code without operands of its own: variables, literals, keywords and calls behind their arguments.
 
 ghost use Rattle.std.specs.Prelude.{◌≡◌, ◌<◌, ◌≤◌, ◌+◌, ◌^◌, if◌then◌else◌, OnOk};
-ghost use Rattle.model.specs.Names.{key_named, prim_named};
+ghost use Rattle.model.specs.Language.Names.{key_named, prim_named};
 ghost use Rattle.expr_codegen.specs.Code.{with_string, with_key};
 ghost use Rattle.expr_codegen.specs.Emitting.{Emits, Extends, size, most_counted};
 ghost use Rattle.expr_codegen.specs.Views.{gen_of, call_of};

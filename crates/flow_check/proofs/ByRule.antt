@@ -6,9 +6,9 @@ use Rattle.std.proofs.lemmas.Bool.Decides.{nat_tests}
 use Rattle.model.specs.declared.instr.Instr.{Instr}
 use Rattle.model.specs.declared.instr.Instr.TheVariants as op
 use Rattle.model.specs.declared.image.Image.{Image}
-use Rattle.model.specs.Machine.{At}
-use Rattle.model.specs.Modules.{bytes, fetch_from, total}
-use Rattle.model.specs.Flow.{Shape, Asks, leads, is_target}
+use Rattle.model.specs.Machine.Steps.{At}
+use Rattle.model.specs.Module.Images.{bytes, fetch_from, total}
+use Rattle.model.specs.Module.Flow.{Shape, Asks, leads, is_target}
 use Rattle.flow_check.specs.declared.rules.Rule.{Rule}
 use Rattle.flow_check.specs.Rules.{rule_of, Asked, next_of, target_of, go_on, go_to}
 

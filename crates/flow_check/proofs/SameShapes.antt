@@ -2,8 +2,8 @@
 use Rattle.std.proofs.Common.{◌≡◌, ℕ, List, [], ◌∷◌, map, refl, sym, ap, ◌∙◌, subst, arith, Option, Some, None, Bool, true, false, ◌&&◌}
 use Rattle.std.specs.Bool.{Decides}
 use Rattle.std.proofs.lemmas.Bool.Decides.{nat_tests}
-use Rattle.model.specs.Machine.{Handler, OnBegin, OnTry}
-use Rattle.model.specs.Flow as flow
+use Rattle.model.specs.Machine.Steps.{Handler, OnBegin, OnTry}
+use Rattle.model.specs.Module.Flow as flow
 use Rattle.flow_check.specs.declared.pool.Node.{Node}
 use Rattle.flow_check.specs.declared.shapes.Mode.{Mode}
 use Rattle.flow_check.specs.declared.shapes.Mode.TheVariants.{Body, Goto, Evaluation}

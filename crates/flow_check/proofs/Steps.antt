@@ -1,7 +1,7 @@
 -- What the steps of one instruction tell of the shape.
 use Rattle.std.proofs.Common.{◌≡◌, ℕ, List, [], ◌∷◌, ◌++◌, ◌+◌, ◌-◌, ◌≤◌, ◌<◌, length, drop, map, refl, sym, ap, ◌∙◌, subst, arith, Option, Some, None}
-use Rattle.model.specs.Machine.{Handler, OnBegin}
-use Rattle.model.specs.Flow as flow
+use Rattle.model.specs.Machine.Steps.{Handler, OnBegin}
+use Rattle.model.specs.Module.Flow as flow
 use Rattle.flow_check.specs.declared.pool.Node.{Node}
 use Rattle.flow_check.specs.declared.pool.Top.TheVariants.{Begin}
 use Rattle.flow_check.specs.declared.rules.Takes.{Takes}

@@ -3,10 +3,10 @@ use Rattle.std.proofs.Common.{◌≡◌, ℕ, ◌<◌, ◌≤◌, List, refl, sy
 use Rattle.std.proofs.lemmas.Bool.{cases_eq, cases_lt}
 use Rattle.model.specs.declared.instr.Instr.{Instr}
 use Rattle.model.specs.declared.image.Image.{Image}
-use Rattle.model.specs.Machine.{At}
-use Rattle.model.specs.Modules.{fetch_from}
-use Rattle.model.specs.Flow as flow
-use Rattle.model.specs.Flow.{Asks, Begins, Reaches, BreaksFlow, IsLeast, begins_at, is_target}
+use Rattle.model.specs.Machine.Steps.{At}
+use Rattle.model.specs.Module.Images.{fetch_from}
+use Rattle.model.specs.Module.Flow as flow
+use Rattle.model.specs.Module.Flow.{Asks, Begins, Reaches, BreaksFlow, IsLeast, begins_at, is_target}
 use Rattle.flow_check.specs.declared.pool.Node.{Node}
 use Rattle.flow_check.specs.declared.shapes.Shape.{Shape}
 use Rattle.flow_check.specs.declared.marks.Mark.{Mark}

@@ -4,11 +4,11 @@ use Rattle.std.specs.Prelude.{◌==◌}
 use Rattle.model.specs.declared.instr.Instr.{Instr}
 use Rattle.model.specs.declared.instr.Instr.TheVariants as op
 use Rattle.model.specs.declared.image.Image.{Image}
-use Rattle.model.specs.Machine.{At}
-use Rattle.model.specs.Modules.{bytes, fetch_from, total}
-use Rattle.model.specs.Spelling.{instr, code_bytes, u16, u32, u64}
-use Rattle.model.specs.Flow as flow
-use Rattle.model.specs.Flow.{Reaches, BreaksFlow, IsLeast, begins_at}
+use Rattle.model.specs.Machine.Steps.{At}
+use Rattle.model.specs.Module.Images.{bytes, fetch_from, total}
+use Rattle.model.specs.Module.Spelling.{instr, code_bytes, u16, u32, u64}
+use Rattle.model.specs.Module.Flow as flow
+use Rattle.model.specs.Module.Flow.{Reaches, BreaksFlow, IsLeast, begins_at}
 use Rattle.flow_check.specs.declared.pool.Node.{Node}
 use Rattle.flow_check.specs.declared.shapes.Shape.{Shape}
 use Rattle.flow_check.specs.declared.shapes.Mode.TheVariants.{Goto, Evaluation}

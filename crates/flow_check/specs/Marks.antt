@@ -5,7 +5,7 @@ use Rattle.indexmap.specs.IndexMap.{get}
 use Rattle.flow_check.specs.declared.marks.Marks.{Marks}
 use Rattle.flow_check.specs.declared.marks.Mark.{Mark}
 use Rattle.flow_check.specs.declared.marks.Mark.TheVariants.{One, Torn}
-use Rattle.model.specs.Flow as flow
+use Rattle.model.specs.Module.Flow as flow
 use Rattle.flow_check.specs.declared.pool.Node.{Node}
 use Rattle.flow_check.specs.declared.rules.Rule.{Rule}
 use Rattle.flow_check.specs.declared.shapes.Led.{Led}

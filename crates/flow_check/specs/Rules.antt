@@ -3,9 +3,9 @@ use Rattle.std.specs.Prelude.{◌≡◌, ℕ, suc, List, [], ◌∷◌, ◌++◌
 use Rattle.model.specs.declared.instr.Instr.{Instr}
 use Rattle.model.specs.declared.instr.Instr.TheVariants as op
 use Rattle.model.specs.declared.image.Image.{Image}
-use Rattle.model.specs.Machine.{OnBegin, OnTry}
-use Rattle.model.specs.Flow as flow
-use Rattle.model.specs.Flow.{Shape, shape, bare, V, N, R, InBody, InGoto, InEvaluation, Above, IsInTry, to_target}
+use Rattle.model.specs.Machine.Steps.{OnBegin, OnTry}
+use Rattle.model.specs.Module.Flow as flow
+use Rattle.model.specs.Module.Flow.{Shape, shape, bare, V, N, R, InBody, InGoto, InEvaluation, Above, IsInTry, to_target}
 use Rattle.flow_check.specs.declared.pool.Kind.{Kind}
 use Rattle.flow_check.specs.declared.pool.Kind.TheVariants.{Value, Name, Span}
 use Rattle.flow_check.specs.declared.rules.Run.{Run}

@@ -1,7 +1,7 @@
 -- Shapes by the numbers of their stacks.
 use Rattle.std.specs.Prelude.{◌≡◌, ℕ, List, [], ◌∷◌, ◌++◌, length, map, Option, Some, None, Bool, true, false, ◌&&◌, ◌==◌, ◌<◌, ◌≤◌}
-use Rattle.model.specs.Machine.{Handler, OnBegin, OnTry}
-use Rattle.model.specs.Flow as flow
+use Rattle.model.specs.Machine.Steps.{Handler, OnBegin, OnTry}
+use Rattle.model.specs.Module.Flow as flow
 use Rattle.flow_check.specs.declared.pool.Kind.{Kind}
 use Rattle.flow_check.specs.declared.pool.Kind.TheVariants.{Value, Name, Span}
 use Rattle.flow_check.specs.declared.pool.Top.{Top}

@@ -1,13 +1,13 @@
 //! One walk over the code.
 
 ghost use Rattle.std.specs.Prelude.{◌≡◌, ◌<◌, ◌^◌, ℕ, length, None, Some, IfOk, OnOk};
-ghost use Rattle.model.specs.Spelling.{IsImage};
-ghost use Rattle.model.specs.Flow.{BreaksFlow, IsLeast};
+ghost use Rattle.model.specs.Module.Spelling.{IsImage};
+ghost use Rattle.model.specs.Module.Flow.{BreaksFlow, IsLeast};
 ghost use Rattle.flow_check.specs.Marks.{marked, met, seeded, Followed, Stepped};
 ghost use Rattle.flow_check.specs.declared.marks.Mark.TheVariants.{One};
 ghost use Rattle.flow_check.specs.declared.shapes.Shape as shapes;
 ghost use Rattle.flow_check.specs.Rules.{rule_of};
-ghost use Rattle.model.specs.Flow as flow;
+ghost use Rattle.model.specs.Module.Flow as flow;
 ghost use Rattle.flow_check.specs.Shapes.{empty_shape, IsShape};
 ghost use Rattle.flow_check.specs.declared.shapes.Mode.TheVariants.{Goto, Evaluation};
 

@@ -2,8 +2,8 @@
 
 ghost use Rattle.std.specs.Prelude.{◌≡◌, ◌<◌, ◌≤◌, ◌^◌, ℕ, length, map, List, [], ◌∷◌, IfOk, OnOk};
 ghost use Rattle.std.specs.Bool.{Decides};
-ghost use Rattle.model.specs.Machine.{Handler, OnBegin};
-ghost use Rattle.model.specs.Flow as flow;
+ghost use Rattle.model.specs.Machine.Steps.{Handler, OnBegin};
+ghost use Rattle.model.specs.Module.Flow as flow;
 ghost use Rattle.flow_check.specs.declared.pool.Node.{Node};
 ghost use Rattle.flow_check.specs.declared.rules.Rule.TheVariants as rules;
 ghost use Rattle.flow_check.specs.Numbers.{Is, Grows};

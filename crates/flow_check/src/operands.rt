@@ -2,9 +2,9 @@
 
 ghost use Rattle.std.specs.Prelude.{◌≡◌, ◌<◌, ◌^◌, List, [], ◌∷◌, ◌++◌, map, length, IfOk, OnOk};
 ghost use Rattle.std.specs.Bool.{Decides};
-ghost use Rattle.model.specs.Machine.{Handler};
-ghost use Rattle.model.specs.Flow.{floor_of, V};
-ghost use Rattle.model.specs.Flow as flow;
+ghost use Rattle.model.specs.Machine.Steps.{Handler};
+ghost use Rattle.model.specs.Module.Flow.{floor_of, V};
+ghost use Rattle.model.specs.Module.Flow as flow;
 ghost use Rattle.flow_check.specs.Numbers.{Is, Grows};
 ghost use Rattle.flow_check.specs.Rules.{taken, left, run_kinds};
 ghost use Rattle.flow_check.specs.Shapes.{runs, top_of, kind_of, IsTaken};

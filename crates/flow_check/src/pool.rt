@@ -4,7 +4,7 @@ ghost use Rattle.std.specs.Prelude.{◌≡◌, ◌<◌, ◌-◌, ◌^◌, List, 
 ghost use Rattle.flow_check.specs.declared.pool.Top.{Top};
 ghost use Rattle.flow_check.specs.Numbers.{Is, Grows, AreBoth, node_at, run_length, below_run, popped};
 ghost use Rattle.flow_check.specs.Shapes.{kind_of, runs};
-ghost use Rattle.model.specs.Flow as flow;
+ghost use Rattle.model.specs.Module.Flow as flow;
 
 use indexmap::IndexSet;
 use std::alloc::{AllocError, Global};

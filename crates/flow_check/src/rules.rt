@@ -2,8 +2,8 @@
 
 ghost use Rattle.std.specs.Prelude.{◌≡◌, [], ◌∷◌, ◌++◌, length, replicate};
 ghost use Rattle.flow_check.specs.Rules.{rule_of, taken, left, run_kinds};
-ghost use Rattle.model.specs.Flow.{V, N, R};
-ghost use Rattle.model.specs.Modules.{bytes};
+ghost use Rattle.model.specs.Module.Flow.{V, N, R};
+ghost use Rattle.model.specs.Module.Images.{bytes};
 
 use crate::pool::Kind;
 use model::Instr;

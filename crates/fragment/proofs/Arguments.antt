@@ -1,9 +1,9 @@
 -- A test of arguments, one after the other, up to the first that doesn't pass.
 use Rattle.std.proofs.Common.{◌≡◌, sym, ◌∙◌, ap, ℕ, ◌+◌, ◌<◌, ◌&&◌, Bool, true, false, List, [], length, drop, get_or}
 use Rattle.model.specs.declared.trees.Argument.{Argument}
-use Rattle.model.specs.Faults.{in_arg, in_args}
-use Rattle.model.specs.Trees.{Expr}
-use Rattle.model.specs.TreeViews.{arg_of, args_of}
+use Rattle.model.specs.Deck.Faults.{in_arg, in_args}
+use Rattle.model.specs.Deck.Trees.{Expr}
+use Rattle.model.specs.Deck.TreeViews.{arg_of, args_of}
 use Rattle.expr_codegen.proofs.Arguments.{next_argument}
 
 module _ (test : Expr → Bool) where

@@ -8,14 +8,14 @@ use Rattle.model.specs.declared.keys.KeyId.{KeyId}
 use Rattle.model.specs.declared.primitives.PrimId.{PrimId}
 use Rattle.model.specs.declared.trees.Unary.TheVariants as unary
 use Rattle.model.specs.declared.trees.Binary.TheVariants as binary
-use Rattle.model.specs.Calls.{return_of}
-use Rattle.model.specs.Faults.{count, everywhere, in_args, in_body, in_goto, in_object, in_place}
-use Rattle.model.specs.Meaning.{key_target}
-use Rattle.model.specs.Modules.{total}
-use Rattle.model.specs.Names.{key_named, prim_named}
-use Rattle.model.specs.Programs.{labelled_from}
-use Rattle.model.specs.Trees.{Bytes, Expr, Name, Integer, Literal, Keyword, Call, Reference, Apply, Combine, Args, Nil, More, Absent, Given, Place, Label, Computed, Goto, Next, Always, OnSuccess, OnFailure, Both, Body, Nothing, Evaluate, Match, Assign, Replace, Stmt, Plain, End}
-use Rattle.model.specs.Weights as weights
+use Rattle.model.specs.Language.Calls.{return_of}
+use Rattle.model.specs.Deck.Faults.{count, everywhere, in_args, in_body, in_goto, in_object, in_place}
+use Rattle.model.specs.Language.Meaning.{key_target}
+use Rattle.model.specs.Module.Images.{total}
+use Rattle.model.specs.Language.Names.{key_named, prim_named}
+use Rattle.model.specs.Language.Programs.{labelled_from}
+use Rattle.model.specs.Deck.Trees.{Bytes, Expr, Name, Integer, Literal, Keyword, Call, Reference, Apply, Combine, Args, Nil, More, Absent, Given, Place, Label, Computed, Goto, Next, Always, OnSuccess, OnFailure, Both, Body, Nothing, Evaluate, Match, Assign, Replace, Stmt, Plain, End}
+use Rattle.model.specs.Deck.Weights as weights
 use Rattle.expr_codegen.specs.Code.{Part, nothing, one, with_string, ◌>>◌, handled, with_key, call, value, name, arguments}
 use Rattle.codegen.specs.Layout.{object, assignment, body, to_label, place, after_success, after_failure, statement, statements, statements_of, expressions, expressions_of, joined, offsets, texts_of, image_of}
 use Rattle.codegen_laws.proofs.Standing.{all_join}

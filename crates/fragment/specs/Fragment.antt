@@ -7,9 +7,9 @@ use Rattle.model.specs.declared.trees.Unary.{Unary}
 use Rattle.model.specs.declared.trees.Unary.TheVariants as u
 use Rattle.model.specs.declared.trees.Binary.{Binary}
 use Rattle.model.specs.declared.trees.Binary.TheVariants as b
-use Rattle.model.specs.Faults.{throughout}
-use Rattle.model.specs.Names.{prim_named}
-use Rattle.model.specs.Trees.{Expr, Name, Integer, Literal, Keyword, Call, Reference, Apply, Combine, Stmt}
+use Rattle.model.specs.Deck.Faults.{throughout}
+use Rattle.model.specs.Language.Names.{prim_named}
+use Rattle.model.specs.Deck.Trees.{Expr, Name, Integer, Literal, Keyword, Call, Reference, Apply, Combine, Stmt}
 use Rattle.loader.specs.Running.{has_primitive}
 
 -- of calls, those of primitives that the machine has; none of a function of the program's own

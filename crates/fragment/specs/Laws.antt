@@ -1,6 +1,6 @@
 -- What is so of the image of statements that run today.
 use Rattle.std.specs.Prelude.{◌≡◌, List, []}
-use Rattle.model.specs.Trees.{Stmt}
+use Rattle.model.specs.Deck.Trees.{Stmt}
 use Rattle.codegen.specs.Layout.{image_of}
 use Rattle.loader.specs.Running.{AreRunYet}
 use Rattle.fragment.specs.Fragment.{not_yet}

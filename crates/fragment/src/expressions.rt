@@ -1,9 +1,9 @@
 //! Expressions that run today.
 
 ghost use Rattle.std.specs.Prelude.{◌≡◌};
-ghost use Rattle.model.specs.Faults.{everywhere, in_arg, in_args};
-ghost use Rattle.model.specs.Names.{prim_named};
-ghost use Rattle.model.specs.TreeViews.{arg_of, args_of, expr_of};
+ghost use Rattle.model.specs.Deck.Faults.{everywhere, in_arg, in_args};
+ghost use Rattle.model.specs.Language.Names.{prim_named};
+ghost use Rattle.model.specs.Deck.TreeViews.{arg_of, args_of, expr_of};
 ghost use Rattle.fragment.specs.Fragment as fragment;
 
 use loader::has_primitive;

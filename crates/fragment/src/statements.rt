@@ -1,8 +1,8 @@
 //! Statements that run today.
 
 ghost use Rattle.std.specs.Prelude.{◌≡◌, ◌<◌, ◌^◌, length, map, IfOk};
-ghost use Rattle.model.specs.Faults.{in_body, in_goto, in_object, in_place};
-ghost use Rattle.model.specs.TreeViews.{body_of, goto_of, object_of, place_of, stmt_of};
+ghost use Rattle.model.specs.Deck.Faults.{in_body, in_goto, in_object, in_place};
+ghost use Rattle.model.specs.Deck.TreeViews.{body_of, goto_of, object_of, place_of, stmt_of};
 ghost use Rattle.fragment.specs.Fragment as fragment;
 
 use crate::expressions::runs;

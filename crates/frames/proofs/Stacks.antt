@@ -3,9 +3,9 @@ use Rattle.std.proofs.Common.{◌≡◌, ℕ, zero, suc, ◌<◌, ◌-◌, List,
 use Rattle.std.proofs.lemmas.List.{append-nil, take-append-drop, reverse-append, length-reverse, length-drop, length-map, drop-map}
 use Rattle.std.proofs.Math.Seq.{drop-append_seam}
 use Rattle.std.proofs.lemmas.Grind.{reverse_onto}
-use Rattle.model.specs.Machine as m
-use Rattle.model.specs.Machine.{MVal, MW, State, Frame, Run, cut, fail_to, pop_many}
-use Rattle.model.specs.Flow.{Kind, V}
+use Rattle.model.specs.Machine.Steps as m
+use Rattle.model.specs.Machine.Steps.{MVal, MW, State, Frame, Run, cut, fail_to, pop_many}
+use Rattle.model.specs.Module.Flow.{Kind, V}
 use Rattle.world.specs.Values.{value_of}
 use Rattle.world.specs.declared.value.Value.{Value as WorldValue}
 use Rattle.frames.specs.View.{operand_of, operands_of, handlers_of}

@@ -3,9 +3,9 @@
 ghost use Rattle.std.specs.Prelude.{◌≡◌, ◌∷◌, List, drop};
 ghost use Rattle.frames.specs.View.{operands_of, handlers_of};
 ghost use Rattle.frames.specs.Failing.{IsInBegin, caught_by, kept_by, caught_at};
-ghost use Rattle.model.specs.Flow.{IsInTry};
-ghost use Rattle.model.specs.Machine as m;
-ghost use Rattle.model.specs.Machine.{Frame, MW, State, fail_to, unbegin, untry};
+ghost use Rattle.model.specs.Module.Flow.{IsInTry};
+ghost use Rattle.model.specs.Machine.Steps as m;
+ghost use Rattle.model.specs.Machine.Steps.{Frame, MW, State, fail_to, unbegin, untry};
 
 use crate::operand::Operand;
 use crate::stack::Stack;

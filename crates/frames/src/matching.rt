@@ -5,10 +5,10 @@ ghost use Rattle.frames.specs.View.{operands_of};
 ghost use Rattle.frames.specs.Matches.{in_match, matching_of};
 ghost use Rattle.match_machine.specs.Held.{IsQuestion};
 ghost use Rattle.match_machine.specs.View.{event_is, answer_of};
-ghost use Rattle.model.specs.Pattern.{Running};
-ghost use Rattle.model.specs.Steps.{Starting, Over, Lost, event_of, with_more};
-ghost use Rattle.model.specs.Machine as m;
-ghost use Rattle.model.specs.Machine.{Module, Frame, MW, found_as, on_event, steps};
+ghost use Rattle.model.specs.Pattern.Patterns.{Running};
+ghost use Rattle.model.specs.Pattern.Steps.{Starting, Over, Lost, event_of, with_more};
+ghost use Rattle.model.specs.Machine.Steps as m;
+ghost use Rattle.model.specs.Machine.Steps.{Module, Frame, MW, found_as, on_event, steps};
 
 use crate::operand::Operand;
 use crate::stack::Stack;

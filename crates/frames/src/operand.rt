@@ -4,9 +4,9 @@ ghost use Rattle.std.specs.Prelude.{◌≡◌, [], ◌∷◌, ◌++◌, List, ma
 ghost use Rattle.frames.specs.View.{operands_of};
 ghost use Rattle.frames.specs.Kinds.{TopIs, AreOnTop};
 ghost use Rattle.frames.specs.declared.operand.Operand.TheVariants as operand;
-ghost use Rattle.model.specs.Flow.{V, N, R};
-ghost use Rattle.model.specs.Machine as m;
-ghost use Rattle.model.specs.Machine.{MVal, MW, State, pop_many};
+ghost use Rattle.model.specs.Module.Flow.{V, N, R};
+ghost use Rattle.model.specs.Machine.Steps as m;
+ghost use Rattle.model.specs.Machine.Steps.{MVal, MW, State, pop_many};
 ghost use Rattle.world.specs.Values.{value_of};
 
 use crate::stack::Stack;

@@ -1,8 +1,8 @@
 -- What calls of keywords answer.
 use Rattle.std.specs.Prelude.{ℤ, Bool, true, false, Result, Ok, Err, if◌then◌else◌}
-use Rattle.model.specs.Keywords.{Keys, allows, return_name, IsInteger, IsText}
-use Rattle.model.specs.Keywords as model
-use Rattle.model.specs.Names.{is_protected}
+use Rattle.model.specs.Language.Keywords.{Keys, allows, return_name, IsInteger, IsText}
+use Rattle.model.specs.Language.Keywords as model
+use Rattle.model.specs.Language.Names.{is_protected}
 use Rattle.model.specs.declared.keys.KeyId.{KeyId}
 use Rattle.model.specs.declared.keys.KeyId.TheVariants as k
 use Rattle.model.specs.declared.instr.ReturnKind.{ReturnKind}

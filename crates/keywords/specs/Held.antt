@@ -1,6 +1,6 @@
 -- The keywords as the fields hold them.
 use Rattle.std.specs.Prelude.{◌≡◌, ◌≤ℤ◌, pos, List, [], ℕ, Option, Some, None}
-use Rattle.model.specs.Keywords.{Keys, alphabet, return_name}
+use Rattle.model.specs.Language.Keywords.{Keys, alphabet, return_name}
 use Rattle.model.specs.declared.instr.ReturnKind.{ReturnKind}
 use Rattle.model.specs.declared.instr.ReturnKind.TheVariants.{Return, FReturn, NReturn}
 use Rattle.keywords.specs.declared.Keywords.TheInside.{Inside}

@@ -8,7 +8,7 @@
 #![tactic(auto)]
 
 ghost use Rattle.std.specs.Prelude.{◌≡◌, pos, IfOk, OnOk, OnErr, IfErr, IsTrue};
-ghost use Rattle.model.specs.Keywords.{alphabet, first_keys, key_value, put_key, IsInteger};
+ghost use Rattle.model.specs.Language.Keywords.{alphabet, first_keys, key_value, put_key, IsInteger};
 ghost use Rattle.keywords.specs.Answers.{is_counter, set_answer, shown, with_return};
 
 use model::{KeyId, ReturnKind};
@@ -80,7 +80,7 @@ impl Drop for Keywords {
 }
 
 impl Model for Keywords {
-    ghost use Rattle.model.specs.Keywords.{Keys};
+    ghost use Rattle.model.specs.Language.Keywords.{Keys};
     ghost use Rattle.keywords.specs.Held.{keys_of, IsHeld};
 
     ghost Value = { Keys };

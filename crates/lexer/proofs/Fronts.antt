@@ -1,6 +1,6 @@
 -- The bytes at the front of a text that pass a test.
 use Rattle.std.proofs.Common.{◌≡◌, refl, ap, ℕ, zero, suc, ◌<◌, ◌≤◌, Bool, true, false, List, [], ◌∷◌, length, get_or, take, drop, arith}
-use Rattle.model.specs.Pieces.{front, back}
+use Rattle.model.specs.Deck.Pieces.{front, back}
 use Rattle.std.proofs.lemmas.Bool.{cases_Bool}
 use Rattle.std.proofs.Common.{inl, inr}
 

@@ -9,10 +9,10 @@ use Rattle.model.specs.declared.tokens.Mark.TheVariants as mark
 use Rattle.model.specs.declared.tokens.Token.{Token}
 use Rattle.model.specs.declared.tokens.TokenKind.{TokenKind}
 use Rattle.model.specs.declared.tokens.TokenKind.TheVariants as kind
-use Rattle.model.specs.Cut as cut
-use Rattle.model.specs.Cut.{Piece, has, is_stray, is_unclosed, is_too_large, opens_too_many, rows_too_many, least_lexical}
-use Rattle.model.specs.Pieces.{pieces, pieces_from}
-use Rattle.model.proofs.Cutting.{pieces_step}
+use Rattle.model.specs.Deck.Cut as cut
+use Rattle.model.specs.Deck.Cut.{Piece, has, is_stray, is_unclosed, is_too_large, opens_too_many, rows_too_many, least_lexical}
+use Rattle.model.specs.Deck.Pieces.{pieces, pieces_from}
+use Rattle.model.proofs.Decks.Cutting.{pieces_step}
 use Rattle.lexer.specs.declared.limits.Limits.{Limits}
 use Rattle.lexer.specs.declared.scan.Scanned.TheVariants as s
 use Rattle.lexer.specs.Lexed.{piece_of, pieces_of, Spans}

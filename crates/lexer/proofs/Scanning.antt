@@ -6,8 +6,8 @@ use Rattle.std.proofs.lemmas.Bool.{cases_Bool}
 use Rattle.std.proofs.lemmas.List.{drop_all, take_all}
 use Rattle.model.specs.declared.tokens.TokenKind.{TokenKind}
 use Rattle.model.specs.declared.tokens.TokenKind.TheVariants as kind
-use Rattle.model.specs.Cut.{Class, class, differs, Token}
-use Rattle.model.specs.Pieces.{front, back, found, quoted, by_class, first}
+use Rattle.model.specs.Deck.Cut.{Class, class, differs, Token}
+use Rattle.model.specs.Deck.Pieces.{front, back, found, quoted, by_class, first}
 use Rattle.lexer.specs.declared.scan.Scanned.{Scanned}
 use Rattle.lexer.specs.declared.scan.Scanned.TheVariants as s
 use Rattle.lexer.specs.Scans.{IsFound, IsScanned}

@@ -2,7 +2,7 @@
 use Rattle.std.proofs.Common.{◌≡◌, refl, ℕ, suc, ◌+◌, ◌-◌, ◌*◌, ◌<◌, ◌≤◌, List, [], ◌∷◌, length, get_or, drop, arith}
 use Rattle.std.proofs.Math.Seq.{drop-cons}
 use Rattle.std.proofs.lemmas.List.{drop_all}
-use Rattle.model.specs.Digits.{value_from}
+use Rattle.model.specs.Deck.Digits.{value_from}
 
 -- more digits make no less
 grows : (n : ℕ) (ds : List ℕ) → n ≤ value_from n ds

@@ -1,9 +1,9 @@
 -- The tokens of a text, with their places in it.
 use Rattle.std.specs.Prelude.{◌≡◌, ◌<◌, ℕ, List, [], ◌∷◌, length, map, slice_range}
 use Rattle.model.specs.declared.tokens.Token.{Token}
-use Rattle.model.specs.Cut as cut
-use Rattle.model.specs.Cut.{Piece, least_lexical}
-use Rattle.model.specs.Pieces.{pieces}
+use Rattle.model.specs.Deck.Cut as cut
+use Rattle.model.specs.Deck.Cut.{Piece, least_lexical}
+use Rattle.model.specs.Deck.Pieces.{pieces}
 use Rattle.lexer.specs.declared.limits.Limits.{Limits}
 use Rattle.lexer.specs.Limits.{told}
 

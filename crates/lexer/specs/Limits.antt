@@ -2,7 +2,7 @@
 use Rattle.std.specs.Prelude.{◌||◌, nat_lt, false, List, Option, Some, None, if◌then◌else◌}
 use Rattle.model.specs.declared.causes.Cause.{Cause}
 use Rattle.model.specs.declared.causes.Cause.TheVariants as cause
-use Rattle.model.specs.Cut.{Piece, has, is_too_large, open_after, opens_too_many, row_after, rows_too_many}
+use Rattle.model.specs.Deck.Cut.{Piece, has, is_too_large, open_after, opens_too_many, row_after, rows_too_many}
 use Rattle.lexer.specs.declared.limits.Limits.{Limits}
 
 abbrev pub none : Limits

@@ -1,8 +1,8 @@
 -- What the scan of one piece answers.
 use Rattle.std.specs.Prelude.{◌≡◌, ◌<◌, ◌≤◌, ℕ, List, [], ◌∷◌, length, take, drop, Option, Some, None}
-use Rattle.model.specs.Cut.{Class, Piece, Token, Stray, Unclosed}
-use Rattle.model.specs.Cut as cut
-use Rattle.model.specs.Pieces.{Found, found, first}
+use Rattle.model.specs.Deck.Cut.{Class, Piece, Token, Stray, Unclosed}
+use Rattle.model.specs.Deck.Cut as cut
+use Rattle.model.specs.Deck.Pieces.{Found, found, first}
 use Rattle.lexer.specs.declared.class.Class as declared
 use Rattle.lexer.specs.declared.class.Class.TheVariants as c
 use Rattle.lexer.specs.declared.scan.Scanned.{Scanned}

@@ -1,7 +1,7 @@
 //! What a byte is to the scan.
 
 ghost use Rattle.std.specs.Prelude.{◌≡◌};
-ghost use Rattle.model.specs.Cut as cut;
+ghost use Rattle.model.specs.Deck.Cut as cut;
 ghost use Rattle.lexer.specs.Scans.{class_of};
 
 use model::Mark;
@@ -21,7 +21,7 @@ pub(crate) enum Class {
     Other,
 }
 
-#[tactic(auto, unfolding(model::specs::Cut::class))]
+#[tactic(auto, unfolding(model::specs::Deck::Cut::class))]
 pub(crate) fn byte_class(byte: u8) -> Class
     ensures { class_of result ≡ cut.class byte }
 {

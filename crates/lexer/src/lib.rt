@@ -9,9 +9,9 @@
 
 ghost use Rattle.std.specs.Prelude.{◌≡◌, ◌≢◌, length, IfOk, IfErr, OnOk, None, Some};
 ghost use Rattle.model.specs.declared.causes.Cause.TheVariants as cause;
-ghost use Rattle.model.specs.Cut.{Cut, least_lexical};
-ghost use Rattle.model.specs.Lexed.{Lexed};
-ghost use Rattle.model.specs.Pieces.{pieces};
+ghost use Rattle.model.specs.Deck.Cut.{Cut, least_lexical};
+ghost use Rattle.model.specs.Deck.Lexed.{Lexed};
+ghost use Rattle.model.specs.Deck.Pieces.{pieces};
 ghost use Rattle.lexer.specs.Lexed.{AreTokens, pieces_of, Spans};
 
 mod class;

@@ -1,8 +1,8 @@
 //! What tokens may break beside their spelling: an integer's size, brackets open at once, marks in a row.
 
 ghost use Rattle.std.specs.Prelude.{◌≡◌, ◌+◌, ◌<◌, [], nat_lt};
-ghost use Rattle.model.specs.Cut as cut;
-ghost use Rattle.model.specs.Digits.{value};
+ghost use Rattle.model.specs.Deck.Cut as cut;
+ghost use Rattle.model.specs.Deck.Digits.{value};
 ghost use Rattle.lexer.specs.Limits.{none, after, told};
 
 use model::{Cause, Mark, TokenKind};

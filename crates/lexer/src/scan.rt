@@ -1,8 +1,8 @@
 //! The first piece of a text.
 
 ghost use Rattle.std.specs.Prelude.{◌≡◌, ◌≤◌, ℕ, ◌∷◌, length};
-ghost use Rattle.model.specs.Cut as cut;
-ghost use Rattle.model.specs.Pieces.{front, back, quoted, starred};
+ghost use Rattle.model.specs.Deck.Cut as cut;
+ghost use Rattle.model.specs.Deck.Pieces.{front, back, quoted, starred};
 ghost use Rattle.lexer.specs.Scans.{IsFound, IsScanned};
 
 use crate::class::{Class, byte_class, is_digit, is_space, is_word};

@@ -6,12 +6,12 @@ use Rattle.model.specs.declared.format.Miss.{Miss}
 use Rattle.model.specs.declared.format.ModuleFault.{ModuleFault}
 use Rattle.model.specs.declared.image.Image.{Image}
 use Rattle.model.specs.declared.instr.Instr.{Instr}
-use Rattle.model.specs.Flow.{BreaksFlow, IsLeast}
-use Rattle.model.specs.Loading.{Loads}
-use Rattle.model.specs.Modules.{bytes}
-use Rattle.model.specs.Reading.{image_of}
-use Rattle.model.specs.Spelling.{IsImage}
-use Rattle.model.specs.WellFormed.{IsTold, IsWellFormed, comes_first, flow_fault, lesser, part_fault}
+use Rattle.model.specs.Module.Flow.{BreaksFlow, IsLeast}
+use Rattle.model.specs.Module.Loading.{Loads}
+use Rattle.model.specs.Module.Images.{bytes}
+use Rattle.model.specs.Module.Reading.{image_of}
+use Rattle.model.specs.Module.Spelling.{IsImage}
+use Rattle.model.specs.Module.WellFormed.{IsTold, IsWellFormed, comes_first, flow_fault, lesser, part_fault}
 use Rattle.loader.specs.Answers.{IsAnswer, IsJudged, IsKnown, IsReadAs, no_memory, verdict}
 use Rattle.loader.specs.Loaded.{IsLoaded}
 use Rattle.loader.specs.Running.{AreRunYet, first_told, first_unknown, not_yet, runs_yet}

@@ -3,7 +3,7 @@ use Rattle.std.proofs.Common.{◌≡◌, ℕ, suc, ◌+◌, ◌<◌, ◌≤◌, 
 use Rattle.std.proofs.Math.Seq.{take-suc}
 use Rattle.std.proofs.lemmas.List.{drop_all}
 use Rattle.model.specs.declared.format.ModuleFault.{ModuleFault}
-use Rattle.model.specs.WellFormed.{scan, first}
+use Rattle.model.specs.Module.WellFormed.{scan, first}
 
 module _ {A : Type 0} (fault : List A → ℕ → A → Option ModuleFault) (width : A → ℕ) where
   abbrev pub rest : List A → ℕ → ℕ → Option ModuleFault

@@ -5,8 +5,8 @@ use Rattle.std.proofs.lemmas.List.Sums.{sum_by-cons}
 use Rattle.model.specs.declared.image.Image.{Image}
 use Rattle.model.specs.declared.image.PatInstr.{PatInstr}
 use Rattle.model.specs.declared.image.PatInstr.TheVariants as pats
-use Rattle.model.specs.Spelling.{Follow, IsTable, IsImage, StringFits, PatternFits, most, most_code}
-use Rattle.model.specs.WellFormed.{string_bytes, pat_bytes, pattern_bytes, labels_at, statements_at, expressions_at, patterns_at, code_at}
+use Rattle.model.specs.Module.Spelling.{Follow, IsTable, IsImage, StringFits, PatternFits, most, most_code}
+use Rattle.model.specs.Module.WellFormed.{string_bytes, pat_bytes, pattern_bytes, labels_at, statements_at, expressions_at, patterns_at, code_at}
 
 sum_cons : (n : ℕ) (ns : List ℕ) → sum (n ∷ ns) ≡ n + sum ns
 sum_cons n ns = sum_by-cons (λ x. x) n ns

@@ -4,10 +4,10 @@ use Rattle.std.proofs.lemmas.List.{length-append}
 use Rattle.model.specs.declared.image.Image.{Image}
 use Rattle.model.specs.declared.instr.Instr.{Instr}
 use Rattle.model.specs.declared.instr.Instr.TheVariants as op
-use Rattle.model.specs.Modules.{bytes, total}
-use Rattle.model.specs.Spelling.{IsImage, instr, code_bytes, most_code, u16, u32}
+use Rattle.model.specs.Module.Images.{bytes, total}
+use Rattle.model.specs.Module.Spelling.{IsImage, instr, code_bytes, most_code, u16, u32}
 use Rattle.std.specs.Int.{w64, cast_unsigned}
-use Rattle.model.proofs.SpeltNumbers.{wide16, wide32, wide64}
+use Rattle.model.proofs.Module.SpeltNumbers.{wide16, wide32, wide64}
 
 spelt_bytes : (i : Instr) → length (instr i) ≡ bytes i
 spelt_bytes op.End = refl

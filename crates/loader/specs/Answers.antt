@@ -7,9 +7,9 @@ use Rattle.model.specs.declared.format.LoadFault.TheVariants.{Format, Module}
 use Rattle.model.specs.declared.format.Miss.{Miss}
 use Rattle.model.specs.declared.format.ModuleFault.{ModuleFault}
 use Rattle.model.specs.declared.image.Image.{Image}
-use Rattle.model.specs.Loading.{offset_of}
-use Rattle.model.specs.Reading.{image_of}
-use Rattle.model.specs.WellFormed.{IsTold, code_at}
+use Rattle.model.specs.Module.Loading.{offset_of}
+use Rattle.model.specs.Module.Reading.{image_of}
+use Rattle.model.specs.Module.WellFormed.{IsTold, code_at}
 use Rattle.loader.specs.Running.{AreRunYet, not_yet}
 
 -- want of memory, which may be told in place of any other answer

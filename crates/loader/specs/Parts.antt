@@ -2,8 +2,8 @@
 use Rattle.std.specs.Prelude.{[], Option}
 use Rattle.model.specs.declared.format.ModuleFault.{ModuleFault}
 use Rattle.model.specs.declared.image.Image.{Image}
-use Rattle.model.specs.Modules.{bytes}
-use Rattle.model.specs.WellFormed.{code_at, entry_at, entry_rule, expression_rule, expressions_at, instr_fault, label_rule, labels_at, pattern_bytes, pattern_fault, patterns_at, scan, statement_rule, statements_at, told}
+use Rattle.model.specs.Module.Images.{bytes}
+use Rattle.model.specs.Module.WellFormed.{code_at, entry_at, entry_rule, expression_rule, expressions_at, instr_fault, label_rule, labels_at, pattern_bytes, pattern_fault, patterns_at, scan, statement_rule, statements_at, told}
 
 abbrev pub entry_fault : Image → Option ModuleFault
 entry_fault im = told entry_at (entry_rule im)

@@ -2,10 +2,10 @@
 
 ghost use Rattle.std.specs.Prelude.{◌≡◌, ◌==◌, ◌&&◌, nat_lt};
 ghost use Rattle.std.specs.List.{list_any};
-ghost use Rattle.model.specs.Flow.{is_fetched};
-ghost use Rattle.model.specs.Modules.{fetch_from, total};
-ghost use Rattle.model.specs.Spelling.{IsImage, IsTable, StatementFits};
-ghost use Rattle.model.specs.WellFormed.{begins_last, code_at, indices_fit, instr_rule, is_end, is_last_instr, place_fits};
+ghost use Rattle.model.specs.Module.Flow.{is_fetched};
+ghost use Rattle.model.specs.Module.Images.{fetch_from, total};
+ghost use Rattle.model.specs.Module.Spelling.{IsImage, IsTable, StatementFits};
+ghost use Rattle.model.specs.Module.WellFormed.{begins_last, code_at, indices_fit, instr_rule, is_end, is_last_instr, place_fits};
 ghost use Rattle.loader.specs.Parts.{code_fault};
 
 use crate::code::{PlacedCode, bytes};

@@ -1,9 +1,9 @@
 //! All conditions of well-formed modules.
 
 ghost use Rattle.std.specs.Prelude.{◌≡◌, IfOk};
-ghost use Rattle.model.specs.Flow.{BreaksFlow, IsLeast};
-ghost use Rattle.model.specs.Spelling.{IsImage};
-ghost use Rattle.model.specs.WellFormed.{IsTold, flow_fault, lesser, number_of, part_fault};
+ghost use Rattle.model.specs.Module.Flow.{BreaksFlow, IsLeast};
+ghost use Rattle.model.specs.Module.Spelling.{IsImage};
+ghost use Rattle.model.specs.Module.WellFormed.{IsTold, flow_fault, lesser, number_of, part_fault};
 
 use crate::code::PlacedCode;
 use crate::instrs::code_fault;

@@ -3,9 +3,9 @@
 ghost use Rattle.std.specs.Prelude.{◌≡◌, ◌&&◌, List, ℕ, None, IfOk, option_copied, slice_get};
 ghost use Rattle.std.specs.Str.{bytes_eq};
 ghost use Rattle.std.specs.HashMap.{get_by};
-ghost use Rattle.model.specs.Modules.{statement_of};
-ghost use Rattle.model.specs.Spelling.{IsImage};
-ghost use Rattle.model.specs.WellFormed.{is_label_name, is_statement, labels_at};
+ghost use Rattle.model.specs.Module.Images.{statement_of};
+ghost use Rattle.model.specs.Module.Spelling.{IsImage};
+ghost use Rattle.model.specs.Module.WellFormed.{is_label_name, is_statement, labels_at};
 ghost use Rattle.loader.specs.Parts.{label_fault};
 
 use crate::names::{is_label_name, is_statement};

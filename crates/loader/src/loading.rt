@@ -2,9 +2,9 @@
 
 ghost use Rattle.std.specs.Prelude.{◌≡◌, ◌⊎◌, Err, Ok, IfOk};
 ghost use Rattle.model.specs.declared.image.Image.{Image};
-ghost use Rattle.model.specs.Loading.{Loads};
-ghost use Rattle.model.specs.Reading.{image_of};
-ghost use Rattle.model.specs.Spelling.{IsImage};
+ghost use Rattle.model.specs.Module.Loading.{Loads};
+ghost use Rattle.model.specs.Module.Reading.{image_of};
+ghost use Rattle.model.specs.Module.Spelling.{IsImage};
 ghost use Rattle.loader.specs.Answers.{IsAnswer, IsJudged, IsKnown, no_memory};
 ghost use Rattle.loader.specs.Loaded.{IsLoaded};
 ghost use Rattle.loader.specs.Running.{not_yet};

@@ -1,9 +1,9 @@
 //! What an index, a name and a number may be.
 
 ghost use Rattle.std.specs.Prelude.{◌≡◌, bytes_eq, option_copied};
-ghost use Rattle.model.specs.Calls.{return_of};
-ghost use Rattle.model.specs.Programs.{end_label};
-ghost use Rattle.model.specs.WellFormed.{is_label_name, is_name, is_nonnull, is_statement, is_string, rule};
+ghost use Rattle.model.specs.Language.Calls.{return_of};
+ghost use Rattle.model.specs.Language.Programs.{end_label};
+ghost use Rattle.model.specs.Module.WellFormed.{is_label_name, is_name, is_nonnull, is_statement, is_string, rule};
 
 use model::{Bytes, Image, ModuleRule, ReturnKind};
 

@@ -1,8 +1,8 @@
 //! The table of patterns.
 
 ghost use Rattle.std.specs.Prelude.{◌≡◌, ◌<◌, ◌≤◌, ◌^◌, [], length, take, slice_index_or};
-ghost use Rattle.model.specs.Spelling.{IsImage, most};
-ghost use Rattle.model.specs.WellFormed.{is_jump, pat_rule, pattern_fault, patterns_at};
+ghost use Rattle.model.specs.Module.Spelling.{IsImage, most};
+ghost use Rattle.model.specs.Module.WellFormed.{is_jump, pat_rule, pattern_fault, patterns_at};
 ghost use Rattle.model.specs.declared.image.PatInstr.TheVariants.{Lit};
 ghost use Rattle.loader.specs.Parts.{patterns_fault};
 

@@ -2,8 +2,8 @@
 
 ghost use Rattle.std.specs.Prelude.{◌≡◌, ◌+◌, ◌≤◌, length, map};
 ghost use Rattle.std.specs.List.{sum};
-ghost use Rattle.model.specs.Spelling.{IsImage, IsTable, PatternFits, StringFits, most};
-ghost use Rattle.model.specs.WellFormed.{code_at, expressions_at, labels_at, pat_bytes, pattern_bytes, patterns_at, statements_at, string_bytes};
+ghost use Rattle.model.specs.Module.Spelling.{IsImage, IsTable, PatternFits, StringFits, most};
+ghost use Rattle.model.specs.Module.WellFormed.{code_at, expressions_at, labels_at, pat_bytes, pattern_bytes, patterns_at, statements_at, string_bytes};
 
 use model::{Bytes, Image, PatInstr, Seq};
 

@@ -2,10 +2,10 @@
 
 ghost use Rattle.std.specs.Prelude.{◌≡◌, if◌then◌else◌};
 ghost use Rattle.model.specs.declared.format.ModuleRule.TheVariants.{BadTarget, NoEnd};
-ghost use Rattle.model.specs.Flow.{is_fetched};
-ghost use Rattle.model.specs.Modules.{fetch_from};
-ghost use Rattle.model.specs.Spelling.{IsImage};
-ghost use Rattle.model.specs.WellFormed.{expressions_at, is_begin, rule, statements_at};
+ghost use Rattle.model.specs.Module.Flow.{is_fetched};
+ghost use Rattle.model.specs.Module.Images.{fetch_from};
+ghost use Rattle.model.specs.Module.Spelling.{IsImage};
+ghost use Rattle.model.specs.Module.WellFormed.{expressions_at, is_begin, rule, statements_at};
 ghost use Rattle.loader.specs.Parts.{entry_fault, expression_fault, statement_fault};
 
 use crate::code::PlacedCode;

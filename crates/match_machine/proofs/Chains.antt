@@ -7,7 +7,7 @@ use Rattle.std.proofs.lemmas.Bool.{ne_eqb, ltb-true, ltb-false}
 use Rattle.std.proofs.lemmas.Bool.Decides.{eqb_tells}
 use Rattle.std.proofs.lemmas.List.{reverse-append, reverse-reverse, length-reverse, length-append, length-drop, take-append-le, take-append-drop, take_all}
 use Rattle.std.proofs.lemmas.Option.{none-some, same_Some, slice_get_cases}
-use Rattle.model.specs.Steps.{Code}
+use Rattle.model.specs.Pattern.Steps.{Code}
 use Rattle.match_machine.specs.declared.event.Assignment.{Assignment}
 use Rattle.match_machine.specs.declared.trail.Entry.{Entry}
 use Rattle.match_machine.specs.declared.trail.Choice.{Choice}

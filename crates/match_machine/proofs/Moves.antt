@@ -3,10 +3,10 @@ use Rattle.std.proofs.Common.{◌≡◌, ℕ, zero, suc, ◌+◌, ◌-◌, ◌<�
 use Rattle.std.specs.Prelude.{slice_get, get_or, drop}
 use Rattle.std.proofs.lemmas.List.{drop-map, length-map}
 use Rattle.std.proofs.lemmas.Option.{none-some, same_Some, slice_get_cases, slice_get_past}
-use Rattle.model.specs.Pattern.{Instr, Pending, Event, Running, Failed, Asks, Matched}
-use Rattle.model.specs.Basic.{from_up}
-use Rattle.model.specs.Steps as s
-use Rattle.model.specs.Steps.{Code, settled}
+use Rattle.model.specs.Pattern.Patterns.{Instr, Pending, Event, Running, Failed, Asks, Matched}
+use Rattle.model.specs.Pattern.BasicEnds.{from_up}
+use Rattle.model.specs.Pattern.Steps as s
+use Rattle.model.specs.Pattern.Steps.{Code, settled}
 use Rattle.match_machine.specs.Standing.{Back, inside, fenced, unfenced, oldest}
 use Rattle.match_machine.specs.View.{choice_of, choices_of, is_running}
 

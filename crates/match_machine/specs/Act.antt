@@ -1,8 +1,8 @@
 -- What an instruction does, in the definitions.
 use Rattle.std.specs.Prelude.{ℕ, ◌+◌, List, Option, Some}
-use Rattle.model.specs.Pattern as p
-use Rattle.model.specs.Steps as s
-use Rattle.model.specs.Steps.{onward, Moves}
+use Rattle.model.specs.Pattern.Patterns as p
+use Rattle.model.specs.Pattern.Steps as s
+use Rattle.model.specs.Pattern.Steps.{onward, Moves}
 use Rattle.pattern_compiler.specs.View.{name_of}
 use Rattle.match_machine.specs.declared.act.Act.{Act}
 use Rattle.match_machine.specs.declared.act.Act.TheVariants as act

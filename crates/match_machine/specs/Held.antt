@@ -1,7 +1,7 @@
 -- What a matcher is in the definitions.
 use Rattle.std.specs.Prelude.{ℕ, List, Bool}
-use Rattle.model.specs.Pattern.{Event, Asks}
-use Rattle.model.specs.Steps.{Code, State}
+use Rattle.model.specs.Pattern.Patterns.{Event, Asks}
+use Rattle.model.specs.Pattern.Steps.{Code, State}
 
 pub record Held : Type 0 where
   pub subject : List ℕ

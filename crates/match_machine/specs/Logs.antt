@@ -1,8 +1,8 @@
 -- The logs of a match, and what is left of them at a choice.
 use Rattle.std.specs.Prelude.{zero, suc, ltb, eqb, ◌≡◌, ◌≤◌, ◌-◌, ℕ, List, [], ◌∷◌, map, reverse, length, take, slice_get, Option, Some, None, true, cond}
-use Rattle.model.specs.Pattern as p
-use Rattle.model.specs.Steps as s
-use Rattle.model.specs.Steps.{Code}
+use Rattle.model.specs.Pattern.Patterns as p
+use Rattle.model.specs.Pattern.Steps as s
+use Rattle.model.specs.Pattern.Steps.{Code}
 use Rattle.pattern_compiler.specs.View.{name_of}
 use Rattle.match_machine.specs.declared.event.Assignment.{Assignment}
 use Rattle.match_machine.specs.declared.trail.Note.{Note}

@@ -1,7 +1,7 @@
 -- Where an attempt stands, and what is gone back to.
 use Rattle.std.specs.Prelude.{ℕ, ◌-◌, List, [], ◌∷◌, length, drop, Option, Some, None, Bool, true, false}
-use Rattle.model.specs.Pattern.{Pending}
-use Rattle.model.specs.Steps as s
+use Rattle.model.specs.Pattern.Patterns.{Pending}
+use Rattle.model.specs.Pattern.Steps as s
 use Rattle.match_machine.specs.declared.state.Kept.{Kept}
 
 -- what is gone back to, with its copy of the attempt

@@ -1,9 +1,9 @@
 -- What a match is in the definitions.
 use Rattle.std.specs.Prelude.{◌≡◌, ℕ, ◌+◌, ◌-◌, List, [], ◌∷◌, map, length, drop, ◌<◌, ◌≤◌, Option, Some, None, Bool, true, false}
-use Rattle.model.specs.Pattern as p
-use Rattle.model.specs.Basic.{from_up, balanced}
-use Rattle.model.specs.Steps as s
-use Rattle.model.specs.Steps.{Code, State, onward, go, back, act, after_act, forked}
+use Rattle.model.specs.Pattern.Patterns as p
+use Rattle.model.specs.Pattern.BasicEnds.{from_up, balanced}
+use Rattle.model.specs.Pattern.Steps as s
+use Rattle.model.specs.Pattern.Steps.{Code, State, onward, go, back, act, after_act, forked}
 use Rattle.pattern_compiler.specs.View.{name_of, kind_of}
 use Rattle.match_machine.specs.declared.event.Want.{Want}
 use Rattle.match_machine.specs.declared.event.Want.TheVariants as want

@@ -1,8 +1,8 @@
 //! The moves of a match.
 
 ghost use Rattle.std.specs.Prelude.{◌≡◌, ◌+◌, ◌<◌, ◌≤◌, ◌^◌, ℕ, List, ◌∷◌, length, map, IfOk, OnOk};
-ghost use Rattle.model.specs.Steps.{settled, onward as onward_of};
-ghost use Rattle.model.specs.Ends.{between as between_of};
+ghost use Rattle.model.specs.Pattern.Steps.{settled, onward as onward_of};
+ghost use Rattle.model.specs.Pattern.Ends.{between as between_of};
 ghost use Rattle.match_machine.specs.View.{thread_of, state_of, SamePlaces, gone, failed};
 
 use crate::state::{Kept, Mode, Run, Thread};

@@ -1,9 +1,9 @@
 //! Where the attempt under way stands, and the choices that are gone back to.
 
 ghost use Rattle.std.specs.Prelude.{◌≡◌, ◌∷◌, ◌++◌, List, [], true, false, Bool, IfOk, OnOk, OnErr, MatchOption, length, reverse, take, Some, None, option_copied, if◌then◌else◌};
-ghost use Rattle.model.specs.Steps as s;
-ghost use Rattle.model.specs.Steps.{Code};
-ghost use Rattle.model.specs.Pattern.{Pending};
+ghost use Rattle.model.specs.Pattern.Steps as s;
+ghost use Rattle.model.specs.Pattern.Steps.{Code};
+ghost use Rattle.model.specs.Pattern.Patterns.{Pending};
 ghost use Rattle.match_machine.specs.Standing.{Standing, Back, inside, opened, unopened, fenced, unfenced, no_backs, oldest};
 ghost use Rattle.match_machine.specs.Logs.{assigned, pending_of, note_of, chain, entry_at, below_of, last_code};
 

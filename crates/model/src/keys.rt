@@ -1,7 +1,7 @@
 //! Keywords.
 
 ghost use Rattle.std.specs.Prelude.{◌≡◌};
-ghost use Rattle.model.specs.Names.{is_protected, key_name, key_named};
+ghost use Rattle.model.specs.Language.Names.{is_protected, key_name, key_named};
 
 /// A keyword, in the order of the codes that modules have for them.
 #[derive(Clone, Copy)]
@@ -64,7 +64,7 @@ impl KeyId {
     }
 
     /// The keyword of this name, if there is one.
-    #[tactic(auto, unfolding(crate::specs::Names::key_named, crate::specs::Names::named))]
+    #[tactic(auto, unfolding(crate::specs::Language::Names::key_named, crate::specs::Language::Names::named))]
     pub fn named(name: &[u8]) -> Option<KeyId>
         ensures { result ≡ key_named name.now }
     {

@@ -1,10 +1,10 @@
 //! The laws of the meaning and of the machine. Each function does nothing; its contract states a law, and who calls it may use the law.
 
-ghost use Rattle.model.specs.Agreement.{AgreesWherePlaced, EndingStays, PrintedGrows};
-ghost use Rattle.model.specs.PrintedBefore.{RunsAfter};
-ghost use Rattle.model.specs.StepBound.{RunStepsBounded};
-ghost use Rattle.model.specs.MeaningLaws.{AnswersStay, MatchesStay, CountsStay, RulesStay};
-ghost use Rattle.model.specs.MatchLaws.{MatchRuns, MatchComes};
+ghost use Rattle.model.specs.Laws.Agreement.{AgreesWherePlaced, EndingStays, PrintedGrows};
+ghost use Rattle.model.specs.Laws.PrintedBefore.{RunsAfter};
+ghost use Rattle.model.specs.Laws.StepBound.{RunStepsBounded};
+ghost use Rattle.model.specs.Laws.Meaning.{AnswersStay, MatchesStay, CountsStay, RulesStay};
+ghost use Rattle.model.specs.Laws.Matches.{MatchRuns, MatchComes};
 
 /// A module does what its program does, wherever the code of each statement stands.
 pub fn agreement()

@@ -1,7 +1,7 @@
 //! Laws of the module format: an image has one spelling, and bytes spell at most one image.
 
-ghost use Rattle.model.specs.OneSpelling.{ReadIsSpelt, SpeltIsRead};
-ghost use Rattle.model.specs.SpellingRows.{SpellingRows};
+ghost use Rattle.model.specs.Laws.OneSpelling.{ReadIsSpelt, SpeltIsRead};
+ghost use Rattle.model.specs.Rows.Spelling.{SpellingRows};
 
 /// Bytes that are read as an image are its spelling, and the image has one.
 pub fn read_is_spelt()

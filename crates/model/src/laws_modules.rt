@@ -1,8 +1,8 @@
 //! Laws of well-formed modules: functions that do nothing, each with a contract that says the law.
 
-ghost use Rattle.model.specs.FlowRows.{FlowRows};
-ghost use Rattle.model.specs.LeastFaults.{LeastIsTold, NoneIsWellFormed, OneIsTold, WellFormedHasNone};
-ghost use Rattle.model.specs.WellFormedRows.{PartsMeetCases};
+ghost use Rattle.model.specs.Rows.Flow.{FlowRows};
+ghost use Rattle.model.specs.Laws.LeastFaults.{LeastIsTold, NoneIsWellFormed, OneIsTold, WellFormedHasNone};
+ghost use Rattle.model.specs.Rows.WellFormed.{PartsMeetCases};
 
 /// Of all faults that an image has, the one of least offset is told, and of these the one of least number; none is told
 /// where it has none.

@@ -1,6 +1,6 @@
 //! The laws of names. Each function does nothing; its contract states a law.
 
-ghost use Rattle.model.specs.NameLaws.{KeyNames, PrimNames};
+ghost use Rattle.model.specs.Laws.Names.{KeyNames, PrimNames};
 
 /// A keyword's name is that keyword's alone.
 pub fn key_names()

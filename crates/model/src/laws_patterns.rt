@@ -1,9 +1,9 @@
 //! The laws of patterns. Each function does nothing; its contract states a law, and who calls it may use the law.
 
-ghost use Rattle.model.specs.PatternLaws.{EndsGrow, SearchStays, ScanStays, EndsPermitted, StepsOfScan, ScanOfSteps, ScanOfFirst, FirstOfScan, AnswersComeLater, StepsAreSound, LiteralsScanned, LiteralScansRight, LiteralsRun, LiteralRunsRight};
-ghost use Rattle.model.specs.MatchStates.{StatesAnswerAsScan, StatesAnswerFirstEnd, StatesAnswerLiterals, StatesCome, StepsLeadOn, AnswersLeadOn};
-ghost use Rattle.model.specs.StepBound.{PatternStepsBounded, PatternStepsOnBounded};
-ghost use Rattle.model.specs.PatternCases.{ScansMeetCases, StepsMeetCases, ScansMeetQuestions, StepsMeetQuestions, NestedEnds};
+ghost use Rattle.model.specs.Laws.Patterns.{EndsGrow, SearchStays, ScanStays, EndsPermitted, StepsOfScan, ScanOfSteps, ScanOfFirst, FirstOfScan, AnswersComeLater, StepsAreSound, LiteralsScanned, LiteralScansRight, LiteralsRun, LiteralRunsRight};
+ghost use Rattle.model.specs.Laws.MatchStates.{StatesAnswerAsScan, StatesAnswerFirstEnd, StatesAnswerLiterals, StatesCome, StepsLeadOn, AnswersLeadOn};
+ghost use Rattle.model.specs.Laws.StepBound.{PatternStepsBounded, PatternStepsOnBounded};
+ghost use Rattle.model.specs.Rows.Patterns.{ScansMeetCases, StepsMeetCases, ScansMeetQuestions, StepsMeetQuestions, NestedEnds};
 
 /// What is answered at a bound stays at each greater one.
 pub fn answers_stay()

@@ -1,7 +1,7 @@
 //! Laws of tokens: functions that do nothing, each with a contract that says the law.
 
-ghost use Rattle.model.specs.CutRows.{CutRows};
-ghost use Rattle.model.specs.Pieces.{EachTextHasOneCut};
+ghost use Rattle.model.specs.Rows.Cut.{CutRows};
+ghost use Rattle.model.specs.Deck.Pieces.{EachTextHasOneCut};
 
 /// Each text is cut into pieces in exactly one way.
 pub fn each_text_has_one_cut()

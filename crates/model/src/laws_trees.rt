@@ -1,8 +1,8 @@
 //! What is proved of the trees of token lists.
 
-ghost use Rattle.model.specs.FaultRows.{FaultRows};
-ghost use Rattle.model.specs.TreeLaws.{OneExpr, OneTree};
-ghost use Rattle.model.specs.TreeRows.{TreeRows};
+ghost use Rattle.model.specs.Rows.Faults.{FaultRows};
+ghost use Rattle.model.specs.Laws.Trees.{OneExpr, OneTree};
+ghost use Rattle.model.specs.Rows.Trees.{TreeRows};
 
 /// A token list has at most one expression, and the parser function finds it.
 pub fn each_expression_is_one()

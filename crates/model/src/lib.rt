@@ -18,6 +18,7 @@ mod laws_agreement;
 mod laws_bytes;
 mod laws_cards;
 mod laws_decks;
+mod laws_machine;
 mod laws_modules;
 mod laws_names;
 mod laws_patterns;
@@ -42,6 +43,9 @@ pub use laws_agreement::{
 pub use laws_bytes::{read_is_spelt, spelling_rows, spelt_is_read};
 pub use laws_cards::worked_decks;
 pub use laws_decks::{accepted_decks_fit, decks_fit, end_is_last, trees_fit};
+pub use laws_machine::{
+    asked_expressions_are_there, expressions_stay_in_range, never_stuck, searches_stay_in_range,
+};
 pub use laws_modules::{faultless_is_well_formed, least_fault_is_told, worked_images};
 pub use laws_names::{key_names, prim_names};
 pub use laws_patterns::{

@@ -1,7 +1,7 @@
 //! Primitive functions.
 
 ghost use Rattle.std.specs.Prelude.{◌≡◌};
-ghost use Rattle.model.specs.Names.{most_args, prim_name, prim_named};
+ghost use Rattle.model.specs.Language.Names.{most_args, prim_name, prim_named};
 
 /// A primitive function, in the order of the codes that modules have for them.
 #[derive(Clone, Copy)]
@@ -136,7 +136,7 @@ impl PrimId {
     }
 
     /// The primitive of this name, if there is one.
-    #[tactic(auto, unfolding(crate::specs::Names::prim_named, crate::specs::Names::named))]
+    #[tactic(auto, unfolding(crate::specs::Language::Names::prim_named, crate::specs::Language::Names::named))]
     pub fn named(name: &[u8]) -> Option<PrimId>
         ensures { result ≡ prim_named name.now }
     {

@@ -4,10 +4,10 @@ use Rattle.std.specs.Prelude.{IfOk}
 use Rattle.model.specs.declared.format.FormatFault.{FormatFault}
 use Rattle.model.specs.declared.format.Miss.{Miss}
 use Rattle.model.specs.declared.image.Image.{Image}
-use Rattle.model.specs.Spelling.{spelling, IsImage}
-use Rattle.model.specs.Reading.{image_of}
-use Rattle.model.specs.OneSpelling.{IsBytes}
-use Rattle.model.proofs.SpeltImages.{read_is_spelt, spelt_is_read}
+use Rattle.model.specs.Module.Spelling.{spelling, IsImage}
+use Rattle.model.specs.Module.Reading.{image_of}
+use Rattle.model.specs.Laws.OneSpelling.{IsBytes}
+use Rattle.model.proofs.Module.SpeltImages.{read_is_spelt, spelt_is_read}
 use Rattle.module_format.specs.Faults.{IsAnswer}
 
 pub found : (bytes : List ℕ) (r : Result Image FormatFault) → IsBytes bytes → IsAnswer r (image_of bytes) (length bytes) → IfOk r (λ m. IsImage m × (bytes ≡ spelling m))

@@ -3,7 +3,7 @@ use Rattle.std.proofs.Common.{◌≡◌, ℕ, suc, ◌-◌, ◌+◌, ◌≤◌, 
 use Rattle.model.specs.declared.format.Miss.{Miss}
 use Rattle.model.specs.declared.format.ReadError.{ReadError}
 use Rattle.model.specs.declared.format.ReadError.TheVariants as errors
-use Rattle.model.specs.Reading.{Fails, entries_from, instr_of, code_from}
+use Rattle.model.specs.Module.Reading.{Fails, entries_from, instr_of, code_from}
 use Rattle.model.specs.declared.instr.Instr.{Instr}
 use Rattle.model.specs.declared.format.FormatRule.TheVariants.{UnknownInstruction}
 use Rattle.std.proofs.lemmas.List.{length-append}

@@ -6,8 +6,8 @@ use Rattle.std.specs.Cmp.Lexicographic.{pointwise}
 use Rattle.std.proofs.lemmas.List.{map-append}
 use Rattle.model.specs.declared.format.Miss.{Miss}
 use Rattle.model.specs.declared.format.FormatRule.TheVariants.{BadTable}
-use Rattle.model.specs.Spelling.{is_new}
-use Rattle.model.specs.Reading.{text_at, string_at}
+use Rattle.model.specs.Module.Spelling.{is_new}
+use Rattle.model.specs.Module.Reading.{text_at, string_at}
 
 abbrev pub texts : List (Bor (List ℕ)) → List (List ℕ)
 texts keys = map (λ k. k.now) keys

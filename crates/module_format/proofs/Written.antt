@@ -1,7 +1,7 @@
 -- What an image's tables have of themselves, and the bytes that were put one after the other.
 use Rattle.std.proofs.Common.{◌≡◌, ℕ, ◌<◌, ◌≤◌, ◌^◌, List, [], ◌∷◌, ◌++◌, length, ap, ◌∙◌, append_assoc}
 use Rattle.std.specs.Prelude.{All}
-use Rattle.model.specs.Spelling.{Follow, StringFits, PatternFits, most}
+use Rattle.model.specs.Module.Spelling.{Follow, StringFits, PatternFits, most}
 use Rattle.model.specs.declared.image.PatInstr.{PatInstr}
 use Rattle.std.proofs.lemmas.List.Elements.{All-nil, All-cons}
 

@@ -2,7 +2,7 @@
 
 ghost use Rattle.std.specs.Prelude.{◌≡◌, ◌+◌, [], length};
 ghost use Rattle.model.specs.declared.format.FormatRule.TheVariants.{UnknownInstruction};
-ghost use Rattle.model.specs.Reading.{Gives, code_from, code_at};
+ghost use Rattle.model.specs.Module.Reading.{Gives, code_from, code_at};
 
 use crate::fields::{MOST_CODE, read_bytes, read_count};
 use code_format::first_instr;
@@ -44,7 +44,7 @@ fn read_instrs(alloc: Global, n: u32, bytes: &[u8], behind: &[u8]) -> Result<Seq
 }
 
 /// The code, and the bytes behind it.
-#[tactic(auto, unfolding(model::specs::Reading::code_at))]
+#[tactic(auto, unfolding(model::specs::Module::Reading::code_at))]
 pub(crate) fn read_code(alloc: Global, bytes: &[u8]) -> Result<(Seq<Instr>, &[u8]), ReadError>
     ensures { Gives (λ x. (x.0, x.1.now)) result (code_at bytes.now) }
 {

@@ -3,8 +3,8 @@
 ghost use Rattle.std.specs.Prelude.{◌≡◌, length};
 ghost use Rattle.std.specs.Int.{w16, w32};
 ghost use Rattle.model.specs.declared.format.FormatRule.TheVariants.{BadMagic, BadVersion};
-ghost use Rattle.model.specs.Reading.{Reads, fixed_at, count_at, bytes_at};
-ghost use Rattle.model.specs.Spelling.{magic as magic_number};
+ghost use Rattle.model.specs.Module.Reading.{Reads, fixed_at, count_at, bytes_at};
+ghost use Rattle.model.specs.Module.Spelling.{magic as magic_number};
 
 use code_format::{CUT, read_u16, read_u32};
 use model::{FormatRule, Miss};
@@ -29,7 +29,7 @@ pub(crate) fn miss(rule: FormatRule, bytes: &[u8]) -> Miss
 }
 
 /// What is behind the magic.
-#[tactic(auto, unfolding(model::specs::Reading::fixed_at))]
+#[tactic(auto, unfolding(model::specs::Module::Reading::fixed_at))]
 pub(crate) fn past_magic(bytes: &[u8]) -> Result<&[u8], Miss>
     ensures { Reads (λ x. x.now) result (fixed_at w32 magic_number BadMagic bytes.now) }
 {
@@ -41,7 +41,7 @@ pub(crate) fn past_magic(bytes: &[u8]) -> Result<&[u8], Miss>
 }
 
 /// What is behind the version.
-#[tactic(auto, unfolding(model::specs::Reading::fixed_at))]
+#[tactic(auto, unfolding(model::specs::Module::Reading::fixed_at))]
 pub(crate) fn past_version(bytes: &[u8]) -> Result<&[u8], Miss>
     ensures { Reads (λ x. x.now) result (fixed_at w16 1 BadVersion bytes.now) }
 {
@@ -53,7 +53,7 @@ pub(crate) fn past_version(bytes: &[u8]) -> Result<&[u8], Miss>
 }
 
 /// A count that is at most the limit.
-#[tactic(auto, unfolding(model::specs::Reading::count_at))]
+#[tactic(auto, unfolding(model::specs::Module::Reading::count_at))]
 pub(crate) fn read_count(limit: u32, bytes: &[u8]) -> Result<(u32, &[u8]), Miss>
     ensures { Reads (λ x. (x.0, x.1.now)) result (count_at limit bytes.now) }
 {

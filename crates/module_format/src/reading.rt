@@ -2,8 +2,8 @@
 
 ghost use Rattle.std.specs.Prelude.{◌≡◌, length, IfOk, Ok};
 ghost use Rattle.model.specs.declared.image.Image.{Image};
-ghost use Rattle.model.specs.Reading.{Gives, image_at, image_of};
-ghost use Rattle.model.specs.Spelling.{spelling, IsImage};
+ghost use Rattle.model.specs.Module.Reading.{Gives, image_at, image_of};
+ghost use Rattle.model.specs.Module.Spelling.{spelling, IsImage};
 ghost use Rattle.module_format.specs.Faults.{IsAnswer};
 
 use crate::code::read_code;
@@ -14,7 +14,7 @@ use code_format::read_u32;
 use model::{FormatFault, FormatRule, Image, ReadError};
 use std::alloc::Global;
 
-#[tactic(auto, unfolding(model::specs::Reading::image_at))]
+#[tactic(auto, unfolding(model::specs::Module::Reading::image_at))]
 fn image_in_front(alloc: Global, bytes: &[u8]) -> Result<(Image, &[u8]), ReadError>
     ensures { Gives (λ x. (x.0, x.1.now)) result (image_at bytes.now) }
 {
@@ -39,7 +39,7 @@ fn image_in_front(alloc: Global, bytes: &[u8]) -> Result<(Image, &[u8]), ReadErr
     Ok((image, rest))
 }
 
-#[tactic(auto, unfolding(model::specs::Reading::image_of))]
+#[tactic(auto, unfolding(model::specs::Module::Reading::image_of))]
 fn whole_image(alloc: Global, bytes: &[u8]) -> Result<Image, ReadError>
     ensures { Gives (λ x. x) result (image_of bytes.now) }
 {

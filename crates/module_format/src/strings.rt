@@ -1,7 +1,7 @@
 //! The table of strings, no two equal.
 
 ghost use Rattle.std.specs.Prelude.{◌≡◌};
-ghost use Rattle.model.specs.Reading.{Gives, Reads, table_at, string_at, text_at};
+ghost use Rattle.model.specs.Module.Reading.{Gives, Reads, table_at, string_at, text_at};
 
 use crate::fields::{MOST, miss, read_bytes, read_count};
 use code_format::read_u32;
@@ -21,7 +21,7 @@ impl<'a> Drop for Seen<'a> {
 }
 
 /// A length, and that many bytes.
-#[tactic(auto, unfolding(model::specs::Reading::text_at))]
+#[tactic(auto, unfolding(model::specs::Module::Reading::text_at))]
 fn read_text(bytes: &[u8]) -> Result<(&[u8], &[u8]), Miss>
     ensures { Reads (λ x. (x.0.now, x.1.now)) result (text_at bytes.now) }
 {
@@ -30,7 +30,7 @@ fn read_text(bytes: &[u8]) -> Result<(&[u8], &[u8]), Miss>
 }
 
 /// The table of strings, and the bytes behind it.
-#[tactic(auto, unfolding(model::specs::Reading::table_at))]
+#[tactic(auto, unfolding(model::specs::Module::Reading::table_at))]
 pub(crate) fn read_strings(alloc: Global, bytes: &[u8]) -> Result<(Seq<Bytes>, &[u8]), ReadError>
     ensures { Gives (λ x. (x.0, x.1.now)) result (table_at string_at bytes.now) }
 {

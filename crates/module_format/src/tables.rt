@@ -2,7 +2,7 @@
 
 ghost use Rattle.std.specs.Prelude.{ℕ, List, Result};
 ghost use Rattle.model.specs.declared.format.Miss.{Miss};
-ghost use Rattle.model.specs.Reading.{Gives, Reads, table_at, label_at, statement_at, offset_at, pat_instr_at, pattern_at};
+ghost use Rattle.model.specs.Module.Reading.{Gives, Reads, table_at, label_at, statement_at, offset_at, pat_instr_at, pattern_at};
 
 use crate::fields::{MOST, miss, read_count};
 use code_format::{first_pat_instr, read_u32};
@@ -26,7 +26,7 @@ pub(crate) trait Table {
 }
 
 /// A table of one kind, and the bytes behind it. Nothing is reserved for the count.
-#[tactic(auto, unfolding(model::specs::Reading::table_at))]
+#[tactic(auto, unfolding(model::specs::Module::Reading::table_at))]
 pub(crate) fn read_table<T: Table>(
     alloc: Global,
     bytes: &[u8],
@@ -52,7 +52,7 @@ impl Table for Labels {
 
     ghost entry = { label_at };
 
-    #[tactic(auto, unfolding(model::specs::Reading::label_at))]
+    #[tactic(auto, unfolding(model::specs::Module::Reading::label_at))]
     fn read_entry<'a>(
         _alloc: Global,
         earlier: &[Label],
@@ -77,7 +77,7 @@ impl Table for Statements {
 
     ghost entry = { statement_at };
 
-    #[tactic(auto, unfolding(model::specs::Reading::statement_at))]
+    #[tactic(auto, unfolding(model::specs::Module::Reading::statement_at))]
     fn read_entry<'a>(
         _alloc: Global,
         earlier: &[u32],
@@ -102,7 +102,7 @@ impl Table for Expressions {
 
     ghost entry = { offset_at };
 
-    #[tactic(auto, unfolding(model::specs::Reading::offset_at))]
+    #[tactic(auto, unfolding(model::specs::Module::Reading::offset_at))]
     fn read_entry<'a>(
         _alloc: Global,
         _earlier: &[u32],
@@ -120,7 +120,7 @@ impl Table for Pattern {
 
     ghost entry = { pat_instr_at };
 
-    #[tactic(auto, unfolding(model::specs::Reading::pat_instr_at))]
+    #[tactic(auto, unfolding(model::specs::Module::Reading::pat_instr_at))]
     fn read_entry<'a>(
         _alloc: Global,
         _earlier: &[PatInstr],
@@ -138,7 +138,7 @@ impl Table for Patterns {
 
     ghost entry = { pattern_at };
 
-    #[tactic(auto, unfolding(model::specs::Reading::pattern_at))]
+    #[tactic(auto, unfolding(model::specs::Module::Reading::pattern_at))]
     fn read_entry<'a>(
         alloc: Global,
         _earlier: &[Seq<PatInstr>],

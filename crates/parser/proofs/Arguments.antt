@@ -1,9 +1,9 @@
 -- A test of arguments, one after the other.
 use Rattle.std.proofs.Common.{◌≡◌, refl, sym, ◌∙◌, ap, ℕ, zero, suc, ◌+◌, ◌<◌, ◌&&◌, Bool, true, false, List, [], ◌∷◌, length, drop, get_or, arith}
 use Rattle.model.specs.declared.trees.Argument.{Argument}
-use Rattle.model.specs.Faults.{in_arg, in_args}
-use Rattle.model.specs.Trees.{Expr}
-use Rattle.model.specs.TreeViews.{arg_of, args_of}
+use Rattle.model.specs.Deck.Faults.{in_arg, in_args}
+use Rattle.model.specs.Deck.Trees.{Expr}
+use Rattle.model.specs.Deck.TreeViews.{arg_of, args_of}
 
 and_assoc : (a b c : Bool) → (a && (b && c)) ≡ ((a && b) && c)
 and_assoc true b c = refl

@@ -8,9 +8,9 @@ use Rattle.std.specs.declared.alloc.AllocError.{AllocError}
 use Rattle.std.proofs.lemmas.List.{map-append}
 use Rattle.std.proofs.lemmas.Slice.Eq.{bytes_eq-Decides}
 use Rattle.model.specs.declared.causes.Cause.{Cause}
-use Rattle.model.specs.Faults.{is_among, is_taken, entry_given, rule_broken, cause_of, returns, label_given, throughout, call_fits, keyword_known, targets_fit}
+use Rattle.model.specs.Deck.Faults.{is_among, is_taken, entry_given, rule_broken, cause_of, returns, label_given, throughout, call_fits, keyword_known, targets_fit}
 use Rattle.model.specs.declared.causes.Cause.TheVariants as cause
-use Rattle.model.specs.Trees.{Bytes, Stmt, Plain, End}
+use Rattle.model.specs.Deck.Trees.{Bytes, Stmt, Plain, End}
 use Rattle.parser.specs.Labels.{AreSame, with_label}
 
 abbrev pub texts : List (Bor Bytes) → List Bytes

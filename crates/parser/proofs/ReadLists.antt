@@ -10,17 +10,17 @@ use Rattle.model.specs.declared.causes.StmtFault.{StmtFault}
 use Rattle.model.specs.declared.causes.Cause.TheVariants as cause
 use Rattle.model.specs.declared.tokens.Token.{Token}
 use Rattle.model.specs.declared.trees.Stmt as trees
-use Rattle.model.specs.Cut.{Cut, least_lexical, toks_of}
-use Rattle.model.specs.Pieces.{pieces}
-use Rattle.model.specs.ParseStatements.{stmt}
-use Rattle.model.specs.Statements.{HasNoTree, Tree}
-use Rattle.model.specs.Tokens.{Tok, toks}
-use Rattle.model.specs.TreeViews.{stmt_of}
-use Rattle.model.proofs.Lexing.{piece_of, toks_are}
-use Rattle.model.proofs.StatementComplete.{stmt_full}
-use Rattle.model.proofs.StatementSound.{stmt_sound}
-use Rattle.model.specs.Faults.{tree_or_none, tree_unless, read, faults, faults_after, labels, labels_of_read, tree_of_read, trees, cause_of, told}
-use Rattle.model.specs.Trees.{Bytes, Stmt}
+use Rattle.model.specs.Deck.Cut.{Cut, least_lexical, toks_of}
+use Rattle.model.specs.Deck.Pieces.{pieces}
+use Rattle.model.specs.Deck.ParseStatements.{stmt}
+use Rattle.model.specs.Deck.Statements.{HasNoTree, Tree}
+use Rattle.model.specs.Deck.Tokens.{Tok, toks}
+use Rattle.model.specs.Deck.TreeViews.{stmt_of}
+use Rattle.model.proofs.Decks.Lexing.{piece_of, toks_are}
+use Rattle.model.proofs.Decks.StatementComplete.{stmt_full}
+use Rattle.model.proofs.Decks.StatementSound.{stmt_sound}
+use Rattle.model.specs.Deck.Faults.{tree_or_none, tree_unless, read, faults, faults_after, labels, labels_of_read, tree_of_read, trees, cause_of, told}
+use Rattle.model.specs.Deck.Trees.{Bytes, Stmt}
 use Rattle.parser.specs.Reads.{IsRead, Numbered, faults_of, labels_of, numbered, result_of, shown, trees_of}
 use Rattle.parser.specs.declared.reading.Read.{Read}
 

@@ -1,7 +1,7 @@
 -- Sets of labels, as lists.
 use Rattle.std.specs.Prelude.{◌≡◌, ◌++◌, ◌∷◌, [], List, if◌then◌else◌}
-use Rattle.model.specs.Faults.{is_among}
-use Rattle.model.specs.Trees.{Bytes}
+use Rattle.model.specs.Deck.Faults.{is_among}
+use Rattle.model.specs.Deck.Trees.{Bytes}
 
 -- the same labels are among these and those
 abbrev pub AreSame : List Bytes → List Bytes → Type 0

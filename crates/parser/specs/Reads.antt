@@ -5,9 +5,9 @@ use Rattle.model.specs.declared.causes.Cause.{Cause}
 use Rattle.model.specs.declared.causes.Cause.TheVariants as cause
 use Rattle.model.specs.declared.causes.StmtFault.{StmtFault}
 use Rattle.model.specs.declared.trees.Stmt as declared
-use Rattle.model.specs.Faults.{read, labels_of_read, tree_of_read, cause_of, told}
-use Rattle.model.specs.Trees.{Bytes, Stmt}
-use Rattle.model.specs.TreeViews.{stmt_of}
+use Rattle.model.specs.Deck.Faults.{read, labels_of_read, tree_of_read, cause_of, told}
+use Rattle.model.specs.Deck.Trees.{Bytes, Stmt}
+use Rattle.model.specs.Deck.TreeViews.{stmt_of}
 use Rattle.parser.specs.declared.reading.Read.{Read}
 
 abbrev pub result_of : Result declared.Stmt Cause → Result Stmt Cause

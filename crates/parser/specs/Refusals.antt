@@ -5,8 +5,8 @@ use Rattle.model.specs.declared.causes.DeckFault.{DeckFault}
 use Rattle.model.specs.declared.causes.DeckFault.TheVariants as fault
 use Rattle.model.specs.declared.causes.StmtFault.{StmtFault}
 use Rattle.model.specs.declared.trees.Program.{Program}
-use Rattle.model.specs.Faults.{faults, trees}
-use Rattle.model.specs.TreeViews.{program_of}
+use Rattle.model.specs.Deck.Faults.{faults, trees}
+use Rattle.model.specs.Deck.TreeViews.{program_of}
 
 -- these faulty statements, of which there is at least one, are told
 abbrev pub AreTold : List StmtFault → List StmtFault → Type 0

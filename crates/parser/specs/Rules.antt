@@ -1,7 +1,7 @@
 -- The rules that expressions keep.
 use Rattle.std.specs.Prelude.{◌≡◌, Bool}
-use Rattle.model.specs.Faults.{everywhere, in_args, call_fits, keyword_known, operand_fits}
-use Rattle.model.specs.Trees.{Expr, Args}
+use Rattle.model.specs.Deck.Faults.{everywhere, in_args, call_fits, keyword_known, operand_fits}
+use Rattle.model.specs.Deck.Trees.{Expr, Args}
 use Rattle.parser.specs.declared.rules.Kept.{Kept}
 
 -- what is kept is what each part of an expression keeps

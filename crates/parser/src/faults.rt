@@ -1,7 +1,7 @@
 //! The faulty statements of a deck.
 
 ghost use Rattle.std.specs.Prelude.{◌≡◌, ◌++◌, [], map, IfOk, OnOk};
-ghost use Rattle.model.specs.Faults as spec;
+ghost use Rattle.model.specs.Deck.Faults as spec;
 ghost use Rattle.parser.specs.Labels.{AreSame};
 ghost use Rattle.parser.specs.Reads.{faults_of, labels_of, result_of, shown};
 

@@ -1,9 +1,9 @@
 //! The labels that statements give.
 
 ghost use Rattle.std.specs.Prelude.{◌≡◌, ◌++◌, [], ◌∷◌, List, ℕ, map, OnOk, option_map, option_to_list};
-ghost use Rattle.model.specs.Faults as faults;
-ghost use Rattle.model.specs.Trees.{Bytes};
-ghost use Rattle.model.specs.TreeViews.{stmt_of};
+ghost use Rattle.model.specs.Deck.Faults as faults;
+ghost use Rattle.model.specs.Deck.Trees.{Bytes};
+ghost use Rattle.model.specs.Deck.TreeViews.{stmt_of};
 ghost use Rattle.parser.specs.Labels.{AreSame, with_label};
 ghost use Rattle.parser.specs.Reads.{result_of};
 

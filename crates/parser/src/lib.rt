@@ -8,8 +8,8 @@
 #![tactic(auto)]
 
 ghost use Rattle.std.specs.Prelude.{◌≡◌, ◌≢◌, [], IfErr, IfOk};
-ghost use Rattle.model.specs.Faults as spec;
-ghost use Rattle.model.specs.TreeViews.{program_of};
+ghost use Rattle.model.specs.Deck.Faults as spec;
+ghost use Rattle.model.specs.Deck.TreeViews.{program_of};
 ghost use Rattle.model.specs.declared.causes.DeckFault.TheVariants.{Memory};
 ghost use Rattle.parser.specs.Refusals.{IsParsed, IsRefusal};
 

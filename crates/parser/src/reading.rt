@@ -1,8 +1,8 @@
 //! Statements as they are read, one by one.
 
 ghost use Rattle.std.specs.Prelude.{◌≡◌, map, IfOk};
-ghost use Rattle.model.specs.Faults as faults;
-ghost use Rattle.model.specs.TreeViews.{stmt_of};
+ghost use Rattle.model.specs.Deck.Faults as faults;
+ghost use Rattle.model.specs.Deck.TreeViews.{stmt_of};
 ghost use Rattle.parser.specs.Reads.{IsRead, numbered, shown, trees_of};
 
 use lexer::lex;

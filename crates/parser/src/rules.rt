@@ -1,9 +1,9 @@
 //! The rules that expressions keep.
 
 ghost use Rattle.std.specs.Prelude.{◌≡◌, ◌&&◌, true};
-ghost use Rattle.model.specs.Faults as faults;
-ghost use Rattle.model.specs.Names.{prim_named};
-ghost use Rattle.model.specs.TreeViews.{arg_of, args_of, expr_of};
+ghost use Rattle.model.specs.Deck.Faults as faults;
+ghost use Rattle.model.specs.Language.Names.{prim_named};
+ghost use Rattle.model.specs.Deck.TreeViews.{arg_of, args_of, expr_of};
 ghost use Rattle.parser.specs.Rules.{AllKeep, Keeps};
 
 use model::{Argument, Binary, Expr, KeyId, PrimId, Unary};
@@ -41,7 +41,7 @@ impl Kept {
 }
 
 /// Whether a function of this name takes so many arguments.
-#[tactic(auto, using(model::proofs::ArgumentLists::count_is))]
+#[tactic(auto, using(model::proofs::Decks::ArgumentLists::count_is))]
 fn takes(name: &[u8], arguments: &[Argument]) -> bool
     ensures { result ≡ faults.at_most (prim_named name.now) (faults.count (args_of arguments.now)) }
 {

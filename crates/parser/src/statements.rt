@@ -1,9 +1,9 @@
 //! The rules that statements keep.
 
 ghost use Rattle.std.specs.Prelude.{◌≡◌, option_map, option_to_list};
-ghost use Rattle.model.specs.Faults as faults;
-ghost use Rattle.model.specs.Names.{key_named};
-ghost use Rattle.model.specs.TreeViews.{body_of, goto_of, object_of, place_of, stmt_of};
+ghost use Rattle.model.specs.Deck.Faults as faults;
+ghost use Rattle.model.specs.Language.Names.{key_named};
+ghost use Rattle.model.specs.Deck.TreeViews.{body_of, goto_of, object_of, place_of, stmt_of};
 ghost use Rattle.parser.specs.Rules.{AreKept};
 
 use crate::labels::{Labels, label_given};

@@ -7,8 +7,8 @@ use Rattle.std.specs.Option.{IfSome}
 use Rattle.std.proofs.lemmas.List.FromFn.{get_or-map-range_with_len}
 use Rattle.std.proofs.lemmas.List.Sums.{prefix_len_is, prefix_len-le-length}
 use Rattle.memchr.specs.Find.{IsFirstByte, is_byte}
-use Rattle.model.specs.Basic.{is_among}
-use Rattle.model.specs.Strings.{has, flags_of, break_to}
+use Rattle.model.specs.Pattern.BasicEnds.{is_among}
+use Rattle.model.specs.Language.Strings.{has, flags_of, break_to}
 
 pub has-flags_of : (w : List ℕ) (b : ℕ) → b < 256 → has (flags_of w) b ≡ is_among w b
 has-flags_of w b lt = get_or-map-range_with_len (λ k. list_any (λ x. x == k) w) 0 256 b b false lt (omega arith)

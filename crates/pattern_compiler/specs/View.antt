@@ -3,9 +3,9 @@ use Rattle.std.specs.Prelude.{List, [], map, Option, Some, None}
 use Rattle.std.specs.Rc.{rc_slice_items}
 use Rattle.std.specs.declared.rc.RcSlice.{RcSlice}
 use Rattle.std.specs.declared.alloc.Global.{Global}
-use Rattle.model.specs.Target as target
-use Rattle.model.specs.Pattern as p
-use Rattle.model.specs.Steps.{Code}
+use Rattle.model.specs.Deck.Target as target
+use Rattle.model.specs.Pattern.Patterns as p
+use Rattle.model.specs.Pattern.Steps.{Code}
 use Rattle.pattern_compiler.specs.declared.instr.Name.{Name}
 use Rattle.pattern_compiler.specs.declared.instr.Name.TheVariants as name
 use Rattle.pattern_compiler.specs.declared.instr.Basic.{Basic}

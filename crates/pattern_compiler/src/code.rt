@@ -20,7 +20,7 @@ impl Drop for PatCode {
 }
 
 impl Model for PatCode {
-    ghost use Rattle.model.specs.Steps.{Code};
+    ghost use Rattle.model.specs.Pattern.Steps.{Code};
     ghost use Rattle.pattern_compiler.specs.View.{shared_code};
 
     ghost Value = { Code };

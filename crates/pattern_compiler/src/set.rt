@@ -2,8 +2,8 @@
 
 ghost use Rattle.std.specs.Prelude.{◌≡◌, ◌≤◌, ℕ, List, [], ◌∷◌, length, not, IfOk};
 ghost use Rattle.std.specs.List.{prefix_len};
-ghost use Rattle.model.specs.Basic.{is_among};
-ghost use Rattle.model.specs.Strings.{flags_of};
+ghost use Rattle.model.specs.Pattern.BasicEnds.{is_among};
+ghost use Rattle.model.specs.Language.Strings.{flags_of};
 
 use memchr::memchr;
 use std::alloc::{AllocError, Global};
@@ -25,7 +25,7 @@ impl Drop for Set {
 
 impl Model for Set {
     ghost use Rattle.std.specs.Prelude.{List, ℕ, ◌≡◌, IfSome};
-    ghost use Rattle.model.specs.Strings.{flags_of};
+    ghost use Rattle.model.specs.Language.Strings.{flags_of};
 
     ghost Value = { List ℕ };
 

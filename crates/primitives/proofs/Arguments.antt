@@ -2,10 +2,10 @@
 use Rattle.std.proofs.Common.{◌≡◌, ℕ, zero, suc, List, [], ◌∷◌, length, map, true, false, nat_lt, slice_index_or, IsTrue, refl, sym, true≢false, arith}
 use Rattle.model.specs.declared.primitives.PrimId.{PrimId}
 use Rattle.model.specs.declared.primitives.PrimId.TheVariants as p
-use Rattle.model.specs.Values.{Str}
-use Rattle.model.specs.Machine.{MVal, MW, codes_of}
-use Rattle.model.specs.Primitives.{prim_op}
-use Rattle.model.specs.Calls.{arg_at}
+use Rattle.model.specs.Language.Values.{Str}
+use Rattle.model.specs.Machine.Steps.{MVal, MW, codes_of}
+use Rattle.model.specs.Language.Primitives.{prim_op}
+use Rattle.model.specs.Language.Calls.{arg_at}
 use Rattle.world.specs.declared.value.Value.{Value}
 use Rattle.world.specs.Values.{value_of}
 use Rattle.primitives.specs.Answers.{is_there}

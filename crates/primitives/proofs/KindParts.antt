@@ -1,11 +1,11 @@
 -- A kind with an argument that isn't an expression.
 use Rattle.std.proofs.Common.{◌≡◌, ℕ, refl}
-use Rattle.model.specs.Conversions.{Conv, Got, Bad, Op, Gives, conv, then_conv, answer_of}
-use Rattle.model.specs.Machine.{PCode, MVal, MW, codes_of}
-use Rattle.model.specs.Operators.{kind_op}
-use Rattle.model.specs.Pattern.{Kind, Answer, want_of, with_answer}
-use Rattle.model.specs.PatternCode.{basic_code}
-use Rattle.model.specs.Values.{Pat}
+use Rattle.model.specs.Language.Conversions.{Conv, Got, Bad, Op, Gives, conv, then_conv, answer_of}
+use Rattle.model.specs.Machine.Steps.{PCode, MVal, MW, codes_of}
+use Rattle.model.specs.Language.Operators.{kind_op}
+use Rattle.model.specs.Pattern.Patterns.{Kind, Answer, want_of, with_answer}
+use Rattle.model.specs.Pattern.Code.{basic_code}
+use Rattle.model.specs.Language.Values.{Pat}
 use Rattle.world.specs.declared.value.Value.{Value}
 use Rattle.world.specs.declared.value.Value.TheVariants as v
 use Rattle.world.specs.Values.{value_of}

@@ -4,8 +4,8 @@ use Rattle.std.specs.Prelude.{◌==◌, if◌then◌else◌}
 use Rattle.std.specs.Ordering.{partial_gt, nat_cmp, partial_ordering_then, is_some_and, is_gt}
 use Rattle.std.specs.Cmp.Lexicographic.{slice_partial_cmp}
 use Rattle.std.specs.declared.cmp.Ordering.TheVariants.{Less, Equal, Greater}
-use Rattle.model.specs.Trees.{Bytes}
-use Rattle.model.specs.Primitives.{comes_after}
+use Rattle.model.specs.Deck.Trees.{Bytes}
+use Rattle.model.specs.Language.Primitives.{comes_after}
 
 pub after_is : (s t : Bytes) → partial_gt (slice_partial_cmp (λ a b. Some (nat_cmp a b))) s t ≡ comes_after s t
 after_is [] [] = refl

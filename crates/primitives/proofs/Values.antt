@@ -2,12 +2,12 @@
 use Rattle.std.proofs.Common.{◌≡◌, List, IsTrue, refl, sym, true≢false}
 use Rattle.model.specs.declared.primitives.PrimId.{PrimId}
 use Rattle.model.specs.declared.primitives.PrimId.TheVariants as p
-use Rattle.model.specs.Aggregates.{type_of}
-use Rattle.model.specs.Calls.{arg_at}
-use Rattle.model.specs.Conversions.{Op, Gives}
-use Rattle.model.specs.Machine.{MVal, MW, codes_of}
-use Rattle.model.specs.Primitives.{prim_op, returned}
-use Rattle.model.specs.Values.{Str}
+use Rattle.model.specs.Language.Aggregates.{type_of}
+use Rattle.model.specs.Language.Calls.{arg_at}
+use Rattle.model.specs.Language.Conversions.{Op, Gives}
+use Rattle.model.specs.Machine.Steps.{MVal, MW, codes_of}
+use Rattle.model.specs.Language.Primitives.{prim_op, returned}
+use Rattle.model.specs.Language.Values.{Str}
 use Rattle.primitives.specs.Answers.{is_there}
 
 pub gives_value : (id : PrimId) (vs : List MVal) (w : MW) → IsTrue (is_there id) → (o : Op MW MVal) × (prim_op codes_of id vs w ≡ returned o)

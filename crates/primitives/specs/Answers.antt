@@ -2,11 +2,11 @@
 use Rattle.std.specs.Prelude.{◌≡◌, ℕ, ℤ, map, Bool, true, false, not, int_le, int_lt, Result, Ok, Err}
 use Rattle.model.specs.declared.primitives.PrimId.{PrimId}
 use Rattle.model.specs.declared.primitives.PrimId.TheVariants as p
-use Rattle.model.specs.Calls.{AValue, AName}
-use Rattle.model.specs.Conversions.{Op, Gives, Refuses, Faults}
-use Rattle.model.specs.Machine.{PCode, MVal, MW}
-use Rattle.model.specs.Primitives.{Returns, Calls, int_same, returned}
-use Rattle.model.specs.Primitives as model
+use Rattle.model.specs.Language.Calls.{AValue, AName}
+use Rattle.model.specs.Language.Conversions.{Op, Gives, Refuses, Faults}
+use Rattle.model.specs.Machine.Steps.{PCode, MVal, MW}
+use Rattle.model.specs.Language.Primitives.{Returns, Calls, int_same, returned}
+use Rattle.model.specs.Language.Primitives as model
 use Rattle.pattern_compiler.specs.View.{name_of}
 use Rattle.world.specs.declared.fault.Fault.{Fault}
 use Rattle.world.specs.declared.fault.Fault.TheVariants as fault

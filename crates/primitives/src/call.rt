@@ -1,11 +1,11 @@
 //! Calls of primitives.
 
 ghost use Rattle.std.specs.Prelude.{◌≡◌, [], ◌∷◌, map, IsTrue, OnErr};
-ghost use Rattle.model.specs.Io.{Io};
-ghost use Rattle.model.specs.Values.{Str};
-ghost use Rattle.model.specs.Calls.{arg_at};
-ghost use Rattle.model.specs.Machine.{codes_of};
-ghost use Rattle.model.specs.Primitives.{prim_op};
+ghost use Rattle.model.specs.Language.Io.{Io};
+ghost use Rattle.model.specs.Language.Values.{Str};
+ghost use Rattle.model.specs.Language.Calls.{arg_at};
+ghost use Rattle.model.specs.Machine.Steps.{codes_of};
+ghost use Rattle.model.specs.Language.Primitives.{prim_op};
 ghost use Rattle.model.specs.declared.run.Stop.TheVariants.{NoMemory};
 ghost use Rattle.world.specs.Values.{value_of};
 ghost use Rattle.world.specs.Held.{world_of};

@@ -1,8 +1,8 @@
 //! What primitives come to.
 
 ghost use Rattle.std.specs.Prelude.{◌≡◌};
-ghost use Rattle.model.specs.Machine.{MW};
-ghost use Rattle.model.specs.Primitives.{holds_if, returned};
+ghost use Rattle.model.specs.Machine.Steps.{MW};
+ghost use Rattle.model.specs.Language.Primitives.{holds_if, returned};
 ghost use Rattle.primitives.specs.Answers.{op_of};
 
 use pattern_compiler::Name;

@@ -1,8 +1,8 @@
 //! The primitives that hold or fail.
 
 ghost use Rattle.std.specs.Prelude.{◌≡◌, not};
-ghost use Rattle.model.specs.Machine.{MW};
-ghost use Rattle.model.specs.Primitives.{returned, compare_op, lgt_op, same_op, same_value, same_name, is_integer, holds_if, comes_after};
+ghost use Rattle.model.specs.Machine.Steps.{MW};
+ghost use Rattle.model.specs.Language.Primitives.{returned, compare_op, lgt_op, same_op, same_value, same_name, is_integer, holds_if, comes_after};
 ghost use Rattle.model.specs.declared.run.Stop.TheVariants.{NoMemory};
 ghost use Rattle.pattern_compiler.specs.View.{name_of};
 ghost use Rattle.world.specs.Values.{value_of};

@@ -3,12 +3,12 @@ use Rattle.std.proofs.Common.{◌≡◌, ℕ, List, [], ◌∷◌, Option, Resul
 use Rattle.std.specs.Prelude.{OnOk}
 use Rattle.model.specs.declared.image.Image.{Image}
 use Rattle.model.specs.declared.instr.Instr.TheVariants as op
-use Rattle.model.specs.Io.{Io}
-use Rattle.model.specs.Told.{IfTold}
-use Rattle.model.specs.Conversions.{Op}
-use Rattle.model.specs.Operators.{assign_op, fetch_op, splice_op}
-use Rattle.model.specs.Machine as m
-use Rattle.model.specs.Machine.{MVal, MW, OV, Run, after_op, pop, pop_name, pop_span}
+use Rattle.model.specs.Language.Io.{Io}
+use Rattle.model.specs.Language.Told.{IfTold}
+use Rattle.model.specs.Language.Conversions.{Op}
+use Rattle.model.specs.Language.Operators.{assign_op, fetch_op, splice_op}
+use Rattle.model.specs.Machine.Steps as m
+use Rattle.model.specs.Machine.Steps.{MVal, MW, OV, Run, after_op, pop, pop_name, pop_span}
 use Rattle.pattern_compiler.specs.View.{name_of}
 use Rattle.pattern_compiler.specs.declared.instr.Name.{Name}
 use Rattle.frames.specs.declared.operand.Operand.{Operand}
@@ -23,7 +23,7 @@ use Rattle.world.specs.declared.fault.Fault.{Fault}
 use Rattle.statement_machine.specs.Held.{IsSound, Left, Meets, after}
 use Rattle.statement_machine.specs.declared.state.State.{State}
 use Rattle.statement_machine.specs.declared.status.Halt.{Halt}
-use Rattle.machine_laws.specs.Standing.{StateStands}
+use Rattle.model.specs.Machine.Standing.{StateStands}
 use Rattle.statement_machine.proofs.Flowing.{seen, fetch_stands, fetch_above_stands, assign_stands, splice_stands}
 use Rattle.statement_machine.proofs.Operations.{some_answer, some_answer_or_failure}
 use Rattle.statement_machine.proofs.Telling.{no_records}

@@ -1,9 +1,9 @@
 -- What an operation comes to: a value, a failure or an error.
 use Rattle.std.proofs.Common.{◌≡◌, List, [], Option, Some, None, Result, Ok, Err, refl, sym, subst}
-use Rattle.model.specs.Io.{Io}
-use Rattle.model.specs.Conversions.{Op, Gives, Refuses, Faults}
-use Rattle.model.specs.Machine as m
-use Rattle.model.specs.Machine.{MW, Operand, Handler, after_op, fail_to}
+use Rattle.model.specs.Language.Io.{Io}
+use Rattle.model.specs.Language.Conversions.{Op, Gives, Refuses, Faults}
+use Rattle.model.specs.Machine.Steps as m
+use Rattle.model.specs.Machine.Steps.{MW, Operand, Handler, after_op, fail_to}
 use Rattle.world.specs.Answers.{Answers, AnswersOrFails}
 use Rattle.world.specs.Held.{world_of}
 use Rattle.world.specs.declared.fault.Fault.{Fault}

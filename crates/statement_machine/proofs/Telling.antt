@@ -1,7 +1,7 @@
 -- What is said of units that tell carries over from one call to the next.
 use Rattle.std.proofs.Common.{[], Option, Some, None}
-use Rattle.model.specs.Io.{Io}
-use Rattle.model.specs.Told.{IfTold}
+use Rattle.model.specs.Language.Io.{Io}
+use Rattle.model.specs.Language.Told.{IfTold}
 pub use Rattle.world.proofs.Telling.{told_on}
 
 -- any records serve for what is told of none

@@ -1,9 +1,9 @@
 //! Failure, and where it leads.
 
 ghost use Rattle.std.specs.Prelude.{◌≡◌, [], Ok};
-ghost use Rattle.model.specs.Io.{Io};
-ghost use Rattle.model.specs.Flow.{IsInTry};
-ghost use Rattle.model.specs.Machine.{fail_to};
+ghost use Rattle.model.specs.Language.Io.{Io};
+ghost use Rattle.model.specs.Module.Flow.{IsInTry};
+ghost use Rattle.model.specs.Machine.Steps.{fail_to};
 ghost use Rattle.model.specs.declared.image.Image.{Image};
 ghost use Rattle.model.specs.declared.run.Stop.TheVariants.{NoMemory};
 ghost use Rattle.frames.specs.View.{operands_of, handlers_of};

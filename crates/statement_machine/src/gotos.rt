@@ -1,11 +1,11 @@
 //! Instructions that go on elsewhere.
 
 ghost use Rattle.std.specs.Prelude.{◌≡◌, ◌≢◌, ◌∷◌, ℕ, [], Ok, Err, None};
-ghost use Rattle.model.specs.Io.{Io};
-ghost use Rattle.model.specs.Calls.{return_of};
-ghost use Rattle.model.specs.Flow.{V};
-ghost use Rattle.model.specs.Machine.{to_return};
-ghost use Rattle.model.specs.Modules.{module_of, statement_at};
+ghost use Rattle.model.specs.Language.Io.{Io};
+ghost use Rattle.model.specs.Language.Calls.{return_of};
+ghost use Rattle.model.specs.Module.Flow.{V};
+ghost use Rattle.model.specs.Machine.Steps.{to_return};
+ghost use Rattle.model.specs.Module.Images.{module_of, statement_at};
 ghost use Rattle.model.specs.declared.image.Image.{Image};
 ghost use Rattle.model.specs.declared.instr.ReturnKind.{ReturnKind};
 ghost use Rattle.model.specs.declared.run.Stop.TheVariants.{NoMemory};

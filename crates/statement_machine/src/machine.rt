@@ -1,13 +1,13 @@
 //! A run of a module, up to a bound on its steps.
 
 ghost use Rattle.std.specs.Prelude.{◌≡◌, Option, Some, None, IfOk};
-ghost use Rattle.model.specs.Io.{Io};
-ghost use Rattle.model.specs.Told.{IfTold};
-ghost use Rattle.model.specs.Agreement.{first_m, mach};
-ghost use Rattle.model.specs.PrintedBefore.{after_s, seen_after};
-ghost use Rattle.model.specs.Machine as m;
-ghost use Rattle.model.specs.Machine.{begun, steps};
-ghost use Rattle.model.specs.Modules.{module_of};
+ghost use Rattle.model.specs.Language.Io.{Io};
+ghost use Rattle.model.specs.Language.Told.{IfTold};
+ghost use Rattle.model.specs.Laws.Agreement.{first_m, mach};
+ghost use Rattle.model.specs.Laws.PrintedBefore.{after_s, seen_after};
+ghost use Rattle.model.specs.Machine.Steps as m;
+ghost use Rattle.model.specs.Machine.Steps.{begun, steps};
+ghost use Rattle.model.specs.Module.Images.{module_of};
 ghost use Rattle.statement_machine.specs.Runs.{Holds, left_after};
 ghost use Rattle.statement_machine.specs.Stopped.{IfRan, IfStopped, ending_of, status_at};
 ghost use Rattle.unit_io.specs.Counts.{Same};

@@ -1,8 +1,8 @@
 //! Instructions that put a value or a name in the place of operands.
 
 ghost use Rattle.std.specs.Prelude.{◌≡◌, ◌∷◌, [], Ok};
-ghost use Rattle.model.specs.Io.{Io};
-ghost use Rattle.model.specs.Flow.{V, N};
+ghost use Rattle.model.specs.Language.Io.{Io};
+ghost use Rattle.model.specs.Module.Flow.{V, N};
 ghost use Rattle.model.specs.declared.image.Image.{Image};
 ghost use Rattle.model.specs.declared.run.Stop.TheVariants.{NoMemory};
 ghost use Rattle.frames.specs.Kinds.{AreOnTop};

@@ -1,11 +1,11 @@
 //! Instructions that may read from a unit or write to one, by a variable that has it.
 
 ghost use Rattle.std.specs.Prelude.{ℕ, ◌∷◌, [], OnOk, option_map};
-ghost use Rattle.model.specs.Conversions.{Op};
-ghost use Rattle.model.specs.Flow.{V, N, R};
-ghost use Rattle.model.specs.Io.{Io};
-ghost use Rattle.model.specs.Machine.{MVal, MW, OV, Run, after_op};
-ghost use Rattle.model.specs.Told.{IfTold};
+ghost use Rattle.model.specs.Language.Conversions.{Op};
+ghost use Rattle.model.specs.Module.Flow.{V, N, R};
+ghost use Rattle.model.specs.Language.Io.{Io};
+ghost use Rattle.model.specs.Machine.Steps.{MVal, MW, OV, Run, after_op};
+ghost use Rattle.model.specs.Language.Told.{IfTold};
 ghost use Rattle.model.specs.declared.image.Image.{Image};
 ghost use Rattle.frames.specs.Kinds.{AreOnTop};
 ghost use Rattle.frames.specs.View.{operands_of, handlers_of};

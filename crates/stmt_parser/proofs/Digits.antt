@@ -3,8 +3,8 @@ use Rattle.std.proofs.Common.{◌≡◌, refl, ap, ℕ, zero, suc, ◌+◌, ◌-
 use Rattle.std.proofs.lemmas.Bool.Decides.{nat_tests}
 use Rattle.std.specs.Prelude.{nat_le, if◌then◌else◌}
 use Rattle.model.specs.declared.tokens.TokenKind.TheVariants as kind
-use Rattle.model.specs.Cut.{Class, Space, Letter, Digit, class, class_of_sign, digital, is_digit, all, IsToken}
-use Rattle.model.specs.Digits.{value_from}
+use Rattle.model.specs.Deck.Cut.{Class, Space, Letter, Digit, class, class_of_sign, digital, is_digit, all, IsToken}
+use Rattle.model.specs.Deck.Digits.{value_from}
 
 other_if : (b : Bool) (x y : Class) → digital x ≡ false → digital y ≡ false → digital (if b then x else y) ≡ false
 other_if true x y h i = h

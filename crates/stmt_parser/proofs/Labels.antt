@@ -3,8 +3,8 @@ use Rattle.std.proofs.Common.{◌≡◌, refl, subst, true, false, List, [], ◌
 use Rattle.std.specs.Prelude.{Some, None}
 use Rattle.model.specs.declared.tokens.TokenKind.{TokenKind}
 use Rattle.model.specs.declared.tokens.TokenKind.TheVariants as kind
-use Rattle.model.specs.ParseStatements.{starts_word, label}
-use Rattle.model.specs.Tokens.{Tok, Word, tok_by}
+use Rattle.model.specs.Deck.ParseStatements.{starts_word, label}
+use Rattle.model.specs.Deck.Tokens.{Tok, Word, tok_by}
 
 pub no_label : (ts : List Tok) → starts_word ts ≡ false → label ts ≡ Some (None, ts)
 unfolding starts_word

@@ -2,7 +2,7 @@
 use Rattle.std.proofs.Common.{◌≡◌, ℕ, zero, suc, ◌-◌, List, [], ◌∷◌, length, drop, take, arith}
 use Rattle.std.proofs.lemmas.Grind.{common_steps}
 use Rattle.model.specs.declared.tokens.Token.{Token}
-use Rattle.model.specs.Lexed.{Lexed}
+use Rattle.model.specs.Deck.Lexed.{Lexed}
 
 pub lexed_drop : (n : ℕ) (xs : List Token) → Lexed xs → Lexed (drop n xs)
 lexed_drop zero xs h = h

@@ -5,13 +5,13 @@ use Rattle.model.specs.declared.tokens.Mark.TheVariants as mark
 use Rattle.model.specs.declared.trees.Argument.{Argument}
 use Rattle.model.specs.declared.trees.Binary.{Binary}
 use Rattle.model.specs.declared.trees.Binary.TheVariants as binary
-use Rattle.model.specs.Grammar.{grade}
-use Rattle.model.specs.Parse.{Parser, bind, Next, Ends, Sees, next, on, lefts, rights, graded, one, several, sees, tail}
-use Rattle.model.specs.Tokens.{Tok}
-use Rattle.model.specs.Trees.{Expr, Combine, Arg, Args, Nil, More}
-use Rattle.model.specs.TreeViews.{arg_of, args_of}
-use Rattle.model.proofs.ParseComplete.{on_go}
-use Rattle.model.proofs.ParseSound.{pow_only}
+use Rattle.model.specs.Deck.Grammar.{grade}
+use Rattle.model.specs.Deck.Parse.{Parser, bind, Next, Ends, Sees, next, on, lefts, rights, graded, one, several, sees, tail}
+use Rattle.model.specs.Deck.Tokens.{Tok}
+use Rattle.model.specs.Deck.Trees.{Expr, Combine, Arg, Args, Nil, More}
+use Rattle.model.specs.Deck.TreeViews.{arg_of, args_of}
+use Rattle.model.proofs.Decks.ParseComplete.{on_go}
+use Rattle.model.proofs.Decks.ParseSound.{pow_only}
 use Rattle.stmt_parser.specs.Powers.{powers}
 use Rattle.stmt_parser.specs.Views.{Misses, Operated}
 use Rattle.stmt_parser.proofs.Powers.{powers_last}

@@ -1,7 +1,7 @@
 -- A chain of `**`.
 use Rattle.std.specs.Prelude.{List, [], ◌∷◌}
 use Rattle.model.specs.declared.trees.Binary.TheVariants as binary
-use Rattle.model.specs.Trees.{Expr, Combine}
+use Rattle.model.specs.Deck.Trees.{Expr, Combine}
 
 -- the operands and the last one, grouped to the right
 abbrev pub powers : List Expr → Expr → Expr

@@ -2,15 +2,15 @@
 use Rattle.std.specs.Prelude.{◌≡◌, ◌≤◌, ℕ, ⊤, List, [], ◌∷◌, length, drop, Option, Some, None, Result, Ok, Err}
 use Rattle.model.specs.declared.tokens.Token.{Token}
 use Rattle.model.specs.declared.trees.Binary.{Binary}
-use Rattle.model.specs.Grammar.{grade}
-use Rattle.model.specs.Parse as spec
-use Rattle.model.specs.Parse.{Next, Ends, Sees, next}
-use Rattle.model.specs.Tokens.{Tok, Blank, tok}
-use Rattle.model.specs.Trees as tree
-use Rattle.model.specs.Trees.{Args}
+use Rattle.model.specs.Deck.Grammar.{grade}
+use Rattle.model.specs.Deck.Parse as spec
+use Rattle.model.specs.Deck.Parse.{Next, Ends, Sees, next}
+use Rattle.model.specs.Deck.Tokens.{Tok, Blank, tok}
+use Rattle.model.specs.Deck.Trees as tree
+use Rattle.model.specs.Deck.Trees.{Args}
 use Rattle.model.specs.declared.trees.Place.{Place}
 use Rattle.model.specs.declared.trees.Stmt.{Stmt}
-use Rattle.model.specs.TreeViews.{args_of, place_of, stmt_of}
+use Rattle.model.specs.Deck.TreeViews.{args_of, place_of, stmt_of}
 use Rattle.model.specs.declared.trees.Argument.{Argument}
 use Rattle.std.specs.declared.alloc.Global.{Global}
 use Rattle.std.specs.declared.vec.Vec.{Vec}

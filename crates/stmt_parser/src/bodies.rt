@@ -1,8 +1,8 @@
 //! What statements do: subject, pattern and object.
 
 ghost use Rattle.std.specs.Prelude.{◌≡◌};
-ghost use Rattle.model.specs.ParseStatements as spec;
-ghost use Rattle.model.specs.TreeViews.{body_of, expr_of, object_of};
+ghost use Rattle.model.specs.Deck.ParseStatements as spec;
+ghost use Rattle.model.specs.Deck.TreeViews.{body_of, expr_of, object_of};
 ghost use Rattle.stmt_parser.specs.Views.{Reads};
 
 use crate::cursor::Cursor;
@@ -12,7 +12,7 @@ use model::{Body, Expr, Mark};
 use std::alloc::Global;
 
 /// `[B subject [B pattern] [B = [B object]]]`
-#[tactic(auto, unfolding(model::specs::ParseStatements::body, model::specs::Parse::bind))]
+#[tactic(auto, unfolding(model::specs::Deck::ParseStatements::body, model::specs::Deck::Parse::bind))]
 pub(crate) fn body(alloc: Global, cursor: &mut Cursor<'_>, depth: usize) -> Result<Body, Stop>
     ensures { Reads body_of (spec.body depth cursor.old) result cursor.new }
 {
@@ -23,7 +23,7 @@ pub(crate) fn body(alloc: Global, cursor: &mut Cursor<'_>, depth: usize) -> Resu
     after_subject(alloc, cursor, depth, subject)
 }
 
-#[tactic(auto, unfolding(model::specs::ParseStatements::after_subject, model::specs::Parse::bind))]
+#[tactic(auto, unfolding(model::specs::Deck::ParseStatements::after_subject, model::specs::Deck::Parse::bind))]
 fn after_subject(
     alloc: Global,
     cursor: &mut Cursor<'_>,
@@ -53,7 +53,7 @@ fn after_subject(
     }
 }
 
-#[tactic(auto, unfolding(model::specs::ParseStatements::after_pattern, model::specs::Parse::bind))]
+#[tactic(auto, unfolding(model::specs::Deck::ParseStatements::after_pattern, model::specs::Deck::Parse::bind))]
 fn after_pattern(
     alloc: Global,
     cursor: &mut Cursor<'_>,
@@ -77,7 +77,7 @@ fn after_pattern(
 }
 
 /// `[B object]`
-#[tactic(auto, unfolding(model::specs::ParseStatements::object, model::specs::Parse::bind))]
+#[tactic(auto, unfolding(model::specs::Deck::ParseStatements::object, model::specs::Deck::Parse::bind))]
 fn object(alloc: Global, cursor: &mut Cursor<'_>, depth: usize) -> Result<Option<Expr>, Stop>
     ensures { Reads object_of (spec.object depth cursor.old) result cursor.new }
 {

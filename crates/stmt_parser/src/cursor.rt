@@ -1,10 +1,10 @@
 //! A cursor over tokens.
 
 ghost use Rattle.std.specs.Prelude.{◌≡◌, IfSome, if◌then◌else◌, length};
-ghost use Rattle.model.specs.Lexed.{IsLexed, Lexed};
-ghost use Rattle.model.specs.Parse as spec;
-ghost use Rattle.model.specs.ParseStatements as ahead;
-ghost use Rattle.model.specs.Tokens.{tok, toks};
+ghost use Rattle.model.specs.Deck.Lexed.{IsLexed, Lexed};
+ghost use Rattle.model.specs.Deck.Parse as spec;
+ghost use Rattle.model.specs.Deck.ParseStatements as ahead;
+ghost use Rattle.model.specs.Deck.Tokens.{tok, toks};
 ghost use Rattle.stmt_parser.specs.Views as view;
 
 use crate::marks::{Role, grade, role_of};
@@ -19,8 +19,8 @@ pub(crate) struct Cursor<'a> {
 
 impl<'a> Model for Cursor<'a> {
     ghost use Rattle.std.specs.Prelude.{List};
-    ghost use Rattle.model.specs.Lexed.{Lexed};
-    ghost use Rattle.model.specs.Tokens.{Tok, toks};
+    ghost use Rattle.model.specs.Deck.Lexed.{Lexed};
+    ghost use Rattle.model.specs.Deck.Tokens.{Tok, toks};
 
     ghost Value = { List Tok };
 
@@ -58,7 +58,7 @@ impl<'a> Cursor<'a> {
     }
 
     /// Takes blanks, where they come next.
-    #[tactic(auto, unfolding(model::specs::Parse::skip))]
+    #[tactic(auto, unfolding(model::specs::Deck::Parse::skip))]
     pub(crate) fn skip(&mut self)
         ensures { self.new ≡ spec.skip self.old }
     {
@@ -66,7 +66,7 @@ impl<'a> Cursor<'a> {
     }
 
     /// Takes this mark, where it comes next.
-    #[tactic(auto, unfolding(model::specs::Parse::sees))]
+    #[tactic(auto, unfolding(model::specs::Deck::Parse::sees))]
     pub(crate) fn eat(&mut self, mark: Mark) -> bool
         ensures found { result ≡ spec.sees mark self.old }
         ensures after { self.new ≡ (if result then spec.tail self.old else self.old) }
@@ -81,7 +81,7 @@ impl<'a> Cursor<'a> {
     }
 
     /// Takes blanks and this mark, where they come next.
-    #[tactic(auto, unfolding(model::specs::Parse::sees, model::specs::ParseStatements::sees_spaced))]
+    #[tactic(auto, unfolding(model::specs::Deck::Parse::sees, model::specs::Deck::ParseStatements::sees_spaced))]
     pub(crate) fn eat_spaced(&mut self, mark: Mark) -> bool
         ensures found { result ≡ ahead.sees_spaced mark self.old }
         ensures after { self.new ≡ (if result then spec.tail (spec.tail self.old) else self.old) }
@@ -96,7 +96,7 @@ impl<'a> Cursor<'a> {
     }
 
     /// Takes this word, where it comes next.
-    #[tactic(auto, unfolding(model::specs::ParseStatements::sees_word))]
+    #[tactic(auto, unfolding(model::specs::Deck::ParseStatements::sees_word))]
     pub(crate) fn eat_word(&mut self, word: &[u8]) -> bool
         ensures found { result ≡ ahead.sees_word word.now self.old }
         ensures after { self.new ≡ (if result then spec.tail self.old else self.old) }
@@ -111,7 +111,7 @@ impl<'a> Cursor<'a> {
     }
 
     /// Takes blanks and this word, where the word comes next but for blanks.
-    #[tactic(auto, unfolding(model::specs::ParseStatements::sees_word))]
+    #[tactic(auto, unfolding(model::specs::Deck::ParseStatements::sees_word))]
     pub(crate) fn eat_word_past_blanks(&mut self, word: &[u8]) -> bool
         ensures found { result ≡ ahead.sees_word word.now (spec.skip self.old) }
         ensures after { self.new ≡ (if result then spec.tail (spec.skip self.old) else self.old) }
@@ -126,7 +126,7 @@ impl<'a> Cursor<'a> {
     }
 
     /// Takes blanks, where an element begins behind them.
-    #[tactic(auto, unfolding(model::specs::Parse::starts, model::specs::ParseStatements::starts_spaced))]
+    #[tactic(auto, unfolding(model::specs::Deck::Parse::starts, model::specs::Deck::ParseStatements::starts_spaced))]
     pub(crate) fn enter(&mut self) -> bool
         ensures found { result ≡ ahead.starts_spaced self.old }
         ensures after { self.new ≡ (if result then spec.tail self.old else self.old) }
@@ -141,7 +141,7 @@ impl<'a> Cursor<'a> {
     }
 
     /// Takes blanks, where a name stands behind them.
-    #[tactic(auto, unfolding(model::specs::ParseStatements::word_spaced))]
+    #[tactic(auto, unfolding(model::specs::Deck::ParseStatements::word_spaced))]
     pub(crate) fn enter_name(&mut self) -> bool
         ensures found { result ≡ ahead.word_spaced self.old }
         ensures after { self.new ≡ (if result then spec.tail self.old else self.old) }
@@ -170,7 +170,7 @@ impl<'a> Cursor<'a> {
     }
 
     /// The operator that comes next, and how many tokens it takes.
-    #[tactic(auto, unfolding(model::specs::Parse::next))]
+    #[tactic(auto, unfolding(model::specs::Deck::Parse::next))]
     fn next(&self) -> (Option<Binary>, usize)
         ensures { view.Seen self.now result.0 result.1 }
     {
@@ -222,7 +222,7 @@ fn is_word(token: &Token<'_>, word: &[u8]) -> bool
     }
 }
 
-#[tactic(auto, unfolding(model::specs::Parse::skip))]
+#[tactic(auto, unfolding(model::specs::Deck::Parse::skip))]
 fn past_blanks<'a>(tokens: &'a [Token<'a>]) -> &'a [Token<'a>]
     ensures tokens { toks result.now ≡ spec.skip (toks tokens.now) }
     ensures lexed { Lexed tokens.now → Lexed result.now }
@@ -234,7 +234,7 @@ fn past_blanks<'a>(tokens: &'a [Token<'a>]) -> &'a [Token<'a>]
 }
 
 /// Whether an element begins here.
-#[tactic(auto, unfolding(model::specs::Parse::starts))]
+#[tactic(auto, unfolding(model::specs::Deck::Parse::starts))]
 fn starts(tokens: &[Token<'_>]) -> bool
     ensures { result ≡ spec.starts (toks tokens.now) }
 {
@@ -249,7 +249,7 @@ fn starts(tokens: &[Token<'_>]) -> bool
 }
 
 /// Whether a name comes next.
-#[tactic(auto, unfolding(model::specs::ParseStatements::starts_word))]
+#[tactic(auto, unfolding(model::specs::Deck::ParseStatements::starts_word))]
 fn starts_word(tokens: &[Token<'_>]) -> bool
     ensures { result ≡ ahead.starts_word (toks tokens.now) }
 {
@@ -259,7 +259,7 @@ fn starts_word(tokens: &[Token<'_>]) -> bool
     }
 }
 
-#[tactic(auto, unfolding(model::specs::Parse::next))]
+#[tactic(auto, unfolding(model::specs::Deck::Parse::next))]
 fn after_blank(token: &Token<'_>, rest: &[Token<'_>]) -> (Option<Binary>, usize)
     ensures { view.SeenAfter (tok token.now) (toks rest.now) result.0 result.1 }
 {

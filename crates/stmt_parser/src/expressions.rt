@@ -1,8 +1,8 @@
 //! Expressions by grades.
 
 ghost use Rattle.std.specs.Prelude.{◌≡◌, ◌<◌, ◌-◌, length};
-ghost use Rattle.model.specs.Parse as spec;
-ghost use Rattle.model.specs.TreeViews.{arg_of, expr_of};
+ghost use Rattle.model.specs.Deck.Parse as spec;
+ghost use Rattle.model.specs.Deck.TreeViews.{arg_of, expr_of};
 ghost use Rattle.stmt_parser.specs.Views.{Reads, arguments_of};
 
 use crate::cursor::Cursor;
@@ -22,7 +22,7 @@ pub(crate) fn whole(alloc: Global, cursor: &mut Cursor<'_>, depth: usize) -> Res
 
 /// An expression of a grade.
 #[cycle(expr)]
-#[tactic(auto, unfolding(model::specs::Parse::graded, model::specs::Parse::bind))]
+#[tactic(auto, unfolding(model::specs::Deck::Parse::graded, model::specs::Deck::Parse::bind))]
 fn graded(alloc: Global, cursor: &mut Cursor<'_>, depth: usize, grade: u8) -> Result<Expr, Stop>
     ensures { Reads expr_of (spec.graded (spec.element depth) grade cursor.old) result cursor.new }
 {
@@ -38,7 +38,7 @@ fn graded(alloc: Global, cursor: &mut Cursor<'_>, depth: usize, grade: u8) -> Re
 
 /// Operators of a grade that group to the left, with their operands, after the first operand.
 #[cycle(expr)]
-#[tactic(auto, unfolding(model::specs::Parse::lefts, model::specs::Parse::bind, model::specs::Parse::on))]
+#[tactic(auto, unfolding(model::specs::Deck::Parse::lefts, model::specs::Deck::Parse::bind, model::specs::Deck::Parse::on))]
 fn lefts(
     alloc: Global,
     cursor: &mut Cursor<'_>,
@@ -66,7 +66,7 @@ fn lefts(
 
 /// Operands of `**`, which groups to the right.
 #[cycle(expr)]
-#[tactic(auto, unfolding(model::specs::Parse::rights, model::specs::Parse::bind, model::specs::Parse::on))]
+#[tactic(auto, unfolding(model::specs::Deck::Parse::rights, model::specs::Deck::Parse::bind, model::specs::Deck::Parse::on))]
 fn rights(alloc: Global, cursor: &mut Cursor<'_>, depth: usize) -> Result<Expr, Stop>
     ensures { Reads expr_of (spec.rights (spec.graded (spec.element depth) 1) 2 (length cursor.old) cursor.old) result cursor.new }
 {
@@ -83,7 +83,7 @@ fn rights(alloc: Global, cursor: &mut Cursor<'_>, depth: usize) -> Result<Expr, 
 
 /// An element; brackets and unary operators are nested less deep than the number.
 #[cycle(expr)]
-#[tactic(auto, unfolding(model::specs::Parse::element, model::specs::Parse::element_step, model::specs::Parse::bind))]
+#[tactic(auto, unfolding(model::specs::Deck::Parse::element, model::specs::Deck::Parse::element_step, model::specs::Deck::Parse::bind))]
 pub(crate) fn element(alloc: Global, cursor: &mut Cursor<'_>, depth: usize) -> Result<Expr, Stop>
     ensures { Reads expr_of (spec.element depth cursor.old) result cursor.new }
 {
@@ -128,7 +128,7 @@ fn keyword(alloc: Global, cursor: &mut Cursor<'_>) -> Result<Expr, Stop>
 
 /// An expression and the round bracket that closes, after the one that opens.
 #[cycle(expr)]
-#[tactic(auto, unfolding(model::specs::Parse::bracketed, model::specs::Parse::bind, model::specs::Parse::expect))]
+#[tactic(auto, unfolding(model::specs::Deck::Parse::bracketed, model::specs::Deck::Parse::bind, model::specs::Deck::Parse::expect))]
 fn bracketed(alloc: Global, cursor: &mut Cursor<'_>, depth: usize) -> Result<Expr, Stop>
     ensures { Reads expr_of (spec.bracketed (spec.whole depth) cursor.old) result cursor.new }
 {
@@ -145,7 +145,7 @@ fn bracketed(alloc: Global, cursor: &mut Cursor<'_>, depth: usize) -> Result<Exp
 
 /// A name, a call or a reference, after the name.
 #[cycle(expr)]
-#[tactic(auto, unfolding(model::specs::Parse::named, model::specs::Parse::bind, model::specs::Parse::expect))]
+#[tactic(auto, unfolding(model::specs::Deck::Parse::named, model::specs::Deck::Parse::bind, model::specs::Deck::Parse::expect))]
 fn named(alloc: Global, cursor: &mut Cursor<'_>, depth: usize, name: &[u8]) -> Result<Expr, Stop>
     ensures { Reads expr_of (spec.named (spec.whole depth) name.now cursor.old) result cursor.new }
 {
@@ -172,7 +172,7 @@ fn named(alloc: Global, cursor: &mut Cursor<'_>, depth: usize, name: &[u8]) -> R
 
 /// At most so many arguments, with commas between.
 #[cycle(expr)]
-#[tactic(auto, unfolding(model::specs::Parse::several, model::specs::Parse::bind))]
+#[tactic(auto, unfolding(model::specs::Deck::Parse::several, model::specs::Deck::Parse::bind))]
 fn several(
     alloc: Global,
     cursor: &mut Cursor<'_>,
@@ -193,7 +193,7 @@ fn several(
 
 /// One argument.
 #[cycle(expr)]
-#[tactic(auto, unfolding(model::specs::Parse::one, model::specs::Parse::bind))]
+#[tactic(auto, unfolding(model::specs::Deck::Parse::one, model::specs::Deck::Parse::bind))]
 fn one(alloc: Global, cursor: &mut Cursor<'_>, depth: usize) -> Result<Argument, Stop>
     ensures { Reads arg_of (spec.one (spec.whole depth) cursor.old) result cursor.new }
 {

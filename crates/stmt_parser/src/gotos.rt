@@ -1,8 +1,8 @@
 //! Gotos.
 
 ghost use Rattle.std.specs.Prelude.{◌≡◌};
-ghost use Rattle.model.specs.ParseStatements as spec;
-ghost use Rattle.model.specs.TreeViews.{goto_of, place_of};
+ghost use Rattle.model.specs.Deck.ParseStatements as spec;
+ghost use Rattle.model.specs.Deck.TreeViews.{goto_of, place_of};
 ghost use Rattle.stmt_parser.specs.Views.{Reads, other_place_of};
 
 use crate::cursor::Cursor;
@@ -12,7 +12,7 @@ use model::{Goto, Mark, Place, Token, TokenKind};
 use std::alloc::Global;
 
 /// `[B goto]`
-#[tactic(auto, unfolding(model::specs::ParseStatements::goto))]
+#[tactic(auto, unfolding(model::specs::Deck::ParseStatements::goto))]
 pub(crate) fn goto(alloc: Global, cursor: &mut Cursor<'_>, depth: usize) -> Result<Goto, Stop>
     ensures { Reads goto_of (spec.goto depth cursor.old) result cursor.new }
 {
@@ -24,7 +24,7 @@ pub(crate) fn goto(alloc: Global, cursor: &mut Cursor<'_>, depth: usize) -> Resu
 }
 
 /// What stands after `:` and blanks.
-#[tactic(auto, unfolding(model::specs::ParseStatements::exits, model::specs::Parse::bind))]
+#[tactic(auto, unfolding(model::specs::Deck::ParseStatements::exits, model::specs::Deck::Parse::bind))]
 fn exits(alloc: Global, cursor: &mut Cursor<'_>, depth: usize) -> Result<Goto, Stop>
     ensures { Reads goto_of (spec.exits depth cursor.old) result cursor.new }
 {
@@ -54,7 +54,7 @@ fn exits(alloc: Global, cursor: &mut Cursor<'_>, depth: usize) -> Result<Goto, S
 }
 
 /// The place after blanks and this word, where the word comes next.
-#[tactic(auto, unfolding(model::specs::ParseStatements::second, model::specs::Parse::bind))]
+#[tactic(auto, unfolding(model::specs::Deck::ParseStatements::second, model::specs::Deck::Parse::bind))]
 fn second(
     alloc: Global,
     cursor: &mut Cursor<'_>,
@@ -70,7 +70,7 @@ fn second(
 }
 
 /// A place in round brackets.
-#[tactic(auto, unfolding(model::specs::ParseStatements::in_brackets, model::specs::Parse::bind, model::specs::Parse::expect))]
+#[tactic(auto, unfolding(model::specs::Deck::ParseStatements::in_brackets, model::specs::Deck::Parse::bind, model::specs::Deck::Parse::expect))]
 fn in_brackets(alloc: Global, cursor: &mut Cursor<'_>, depth: usize) -> Result<Place, Stop>
     ensures { Reads place_of (spec.in_brackets depth cursor.old) result cursor.new }
 {
@@ -89,7 +89,7 @@ fn in_brackets(alloc: Global, cursor: &mut Cursor<'_>, depth: usize) -> Result<P
 }
 
 /// A label, or `$` directly before an element.
-#[tactic(auto, unfolding(model::specs::ParseStatements::place, model::specs::Parse::bind))]
+#[tactic(auto, unfolding(model::specs::Deck::ParseStatements::place, model::specs::Deck::Parse::bind))]
 fn place(alloc: Global, cursor: &mut Cursor<'_>, depth: usize) -> Result<Place, Stop>
     ensures { Reads place_of (spec.place depth cursor.old) result cursor.new }
 {

@@ -1,8 +1,8 @@
 //! Marks as the grammar sees them.
 
 ghost use Rattle.std.specs.Prelude.{◌≡◌};
-ghost use Rattle.model.specs.Grammar as grammar;
-ghost use Rattle.model.specs.Parse as spec;
+ghost use Rattle.model.specs.Deck.Grammar as grammar;
+ghost use Rattle.model.specs.Deck.Parse as spec;
 ghost use Rattle.stmt_parser.specs.Views as view;
 
 use model::{Binary, Mark, Unary};

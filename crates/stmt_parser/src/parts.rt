@@ -1,12 +1,12 @@
 //! The parts that trees are made of.
 
 ghost use Rattle.std.specs.Prelude.{◌≡◌, ◌≤◌, length, pos, true, IfOk, map};
-ghost use Rattle.model.specs.Cut.{all, is_digit};
-ghost use Rattle.model.specs.Digits.{value};
-ghost use Rattle.model.specs.Grammar as grammar;
-ghost use Rattle.model.specs.Tokens.{between_quotes};
-ghost use Rattle.model.specs.Trees as tree;
-ghost use Rattle.model.specs.TreeViews.{args_of, expr_of};
+ghost use Rattle.model.specs.Deck.Cut.{all, is_digit};
+ghost use Rattle.model.specs.Deck.Digits.{value};
+ghost use Rattle.model.specs.Deck.Grammar as grammar;
+ghost use Rattle.model.specs.Deck.Tokens.{between_quotes};
+ghost use Rattle.model.specs.Deck.Trees as tree;
+ghost use Rattle.model.specs.Deck.TreeViews.{args_of, expr_of};
 ghost use Rattle.stmt_parser.specs.Powers.{powers};
 
 use model::{Argument, Binary, Expr, Unary};
@@ -64,7 +64,7 @@ pub(crate) fn unquoted(text: &[u8]) -> &[u8]
 }
 
 /// One absent argument is none.
-#[tactic(auto, unfolding(model::specs::TreeViews::args_of))]
+#[tactic(auto, unfolding(model::specs::Deck::TreeViews::args_of))]
 pub(crate) fn shown(arguments: Vec<Argument>) -> Vec<Argument>
     ensures { args_of result.items ≡ grammar.shown (args_of arguments.items) }
 {
@@ -79,7 +79,7 @@ pub(crate) fn shown(arguments: Vec<Argument>) -> Vec<Argument>
 }
 
 /// Whether no argument is absent.
-#[tactic(auto, unfolding(model::specs::TreeViews::args_of))]
+#[tactic(auto, unfolding(model::specs::Deck::TreeViews::args_of))]
 pub(crate) fn given(arguments: &[Argument]) -> bool
     ensures { result ≡ grammar.given (args_of arguments.now) }
 {

@@ -1,11 +1,11 @@
 //! Statements.
 
 ghost use Rattle.std.specs.Prelude.{◌≡◌, ◌⊎◌, IfErr, IfOk};
-ghost use Rattle.model.specs.Lexed.{Lexed};
-ghost use Rattle.model.specs.ParseStatements as spec;
-ghost use Rattle.model.specs.Statements.{HasNoTree, Tree};
-ghost use Rattle.model.specs.Tokens.{toks};
-ghost use Rattle.model.specs.TreeViews.{label_of, stmt_of};
+ghost use Rattle.model.specs.Deck.Lexed.{Lexed};
+ghost use Rattle.model.specs.Deck.ParseStatements as spec;
+ghost use Rattle.model.specs.Deck.Statements.{HasNoTree, Tree};
+ghost use Rattle.model.specs.Deck.Tokens.{toks};
+ghost use Rattle.model.specs.Deck.TreeViews.{label_of, stmt_of};
 ghost use Rattle.model.specs.declared.causes.Cause.TheVariants as cause;
 ghost use Rattle.stmt_parser.specs.Views.{Parses, Reads};
 
@@ -30,7 +30,7 @@ pub fn parse_statement(alloc: Global, tokens: &[Token<'_>]) -> Result<Stmt, Caus
     }
 }
 
-#[tactic(auto, unfolding(model::specs::ParseStatements::stmt))]
+#[tactic(auto, unfolding(model::specs::Deck::ParseStatements::stmt))]
 fn all(alloc: Global, tokens: &[Token<'_>]) -> Result<Stmt, Stop>
     requires { Lexed tokens.now }
     ensures { Parses (spec.stmt (toks tokens.now)) result }
@@ -46,7 +46,7 @@ fn all(alloc: Global, tokens: &[Token<'_>]) -> Result<Stmt, Stop>
     }
 }
 
-#[tactic(auto, unfolding(model::specs::ParseStatements::statement, model::specs::Parse::bind))]
+#[tactic(auto, unfolding(model::specs::Deck::ParseStatements::statement, model::specs::Deck::Parse::bind))]
 fn statement(alloc: Global, cursor: &mut Cursor<'_>, depth: usize) -> Result<Stmt, Stop>
     ensures { Reads stmt_of (spec.statement depth cursor.old) result cursor.new }
 {
@@ -57,7 +57,7 @@ fn statement(alloc: Global, cursor: &mut Cursor<'_>, depth: usize) -> Result<Stm
     after_label(alloc, cursor, depth, label)
 }
 
-#[tactic(auto, unfolding(model::specs::ParseStatements::after_label, model::specs::Parse::bind))]
+#[tactic(auto, unfolding(model::specs::Deck::ParseStatements::after_label, model::specs::Deck::Parse::bind))]
 fn after_label(
     alloc: Global,
     cursor: &mut Cursor<'_>,
@@ -80,7 +80,7 @@ fn after_label(
 }
 
 /// `[B name] [B]`
-#[tactic(auto, unfolding(model::specs::ParseStatements::after_end, model::specs::Parse::bind))]
+#[tactic(auto, unfolding(model::specs::Deck::ParseStatements::after_end, model::specs::Deck::Parse::bind))]
 fn after_end(alloc: Global, cursor: &mut Cursor<'_>) -> Result<Stmt, Stop>
     ensures { Reads stmt_of (spec.after_end cursor.old) result cursor.new }
 {

@@ -2,7 +2,7 @@ use Rattle.std.proofs.Common.{◌≡◌, ℕ, zero, suc, ◌+◌, ◌-◌, ◌�
 use Rattle.std.proofs.lemmas.List.{drop-take, append-nil, take-take, drop-drop, length-append, length-take}
 use Rattle.std.specs.List.{repeat, slice_range}
 use Rattle.std.specs.Prelude.{◌==◌, if◌then◌else◌}
-use Rattle.model.specs.Strings.{replaced_or}
+use Rattle.model.specs.Language.Strings.{replaced_or}
 
 pub repeat-nil : (n : ℕ) → repeat {A = ℕ} n [] ≡ []
 repeat-nil zero = refl

@@ -2,7 +2,7 @@
 
 ghost use Rattle.std.specs.Prelude.{◌≡◌, ◌≤◌, length, SomeIff};
 ghost use Rattle.std.specs.Str.Parse.{signed_digits_value};
-ghost use Rattle.model.specs.Strings.{IsIntText, trimmed, span_to, break_to, flags_of, has};
+ghost use Rattle.model.specs.Language.Strings.{IsIntText, trimmed, span_to, break_to, flags_of, has};
 
 use std::marker::Model;
 use std::str;

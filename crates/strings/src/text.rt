@@ -3,7 +3,7 @@
 ghost use Rattle.std.specs.Prelude.{◌≡◌, ◌+◌, ◌*◌, ◌^◌, ◌<◌, ◌≤◌, ℕ, [], ◌++◌, length, map, IfOk, IfErr, IsTrue, Err, ◌↔◌, slice_range, slice_index};
 ghost use Rattle.std.specs.Fmt.{signed_decimal};
 ghost use Rattle.std.specs.List.{repeat};
-ghost use Rattle.model.specs.Strings.{replaced};
+ghost use Rattle.model.specs.Language.Strings.{replaced};
 
 use crate::fault::StrFault;
 use itoa::Buffer;

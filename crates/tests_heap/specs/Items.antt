@@ -1,6 +1,6 @@
 -- Items: which is null, and which a key is.
 use Rattle.std.specs.Prelude.{Bool, false, nat_eq, length}
-use Rattle.model.specs.Values.{Key, IntegerAt, StringAt}
+use Rattle.model.specs.Language.Values.{Key, IntegerAt, StringAt}
 use Rattle.tests_heap.specs.declared.items.Item.{Item}
 use Rattle.tests_heap.specs.declared.items.Item.TheVariants as item
 

@@ -4,7 +4,7 @@ use Rattle.std.specs.Prelude.{if◌then◌else◌}
 use Rattle.std.proofs.lemmas.Bool.{cases_eq}
 use Rattle.std.proofs.lemmas.Bool.Decides.{nat_tests}
 use Rattle.std.proofs.lemmas.List.{append-nil, map-append}
-use Rattle.model.specs.Units.{first_of, rest_of, bytes_on, after_read, after_write, Reads, Writes}
+use Rattle.model.specs.Language.Units.{first_of, rest_of, bytes_on, after_read, after_write, Reads, Writes}
 use Rattle.unit_io.specs.Held.{Held, IsKept, IsRead, IsWritten, side_at, place_of, with_side, left_by, output_of, printed_of, io_of}
 use Rattle.unit_io.specs.declared.mem.OpenUnit.{OpenUnit}
 use Rattle.unit_io.specs.declared.mem.Side.{Side}

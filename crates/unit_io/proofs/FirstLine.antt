@@ -3,7 +3,7 @@ use Rattle.std.proofs.Common.{◌≡◌, ℕ, zero, suc, ◌+◌, ◌-◌, ◌<�
 use Rattle.std.specs.Prelude.{◌==◌, slice_range}
 use Rattle.std.proofs.lemmas.List.{drop-drop, take_rest, length-drop, drop_all}
 use Rattle.memchr.specs.Find.{IsFirstByte, is_byte}
-use Rattle.model.specs.Units.{records_of, with_byte, first_of, rest_of}
+use Rattle.model.specs.Language.Units.{records_of, with_byte, first_of, rest_of}
 
 isn't_true : (b : Bool) → ¬ (b ≡ true) → b ≡ false
 isn't_true true h = absurd (h refl)

@@ -1,6 +1,6 @@
 -- Units that don't tell their records meet every read and every write.
 use Rattle.std.proofs.Common.{ℕ, List, [], ◌∷◌, Option, Some, None, refl}
-use Rattle.model.specs.Units.{Reads, Writes}
+use Rattle.model.specs.Language.Units.{Reads, Writes}
 
 pub untold_read : (unit : ℕ) (got : Option (List ℕ)) → Reads unit got None None
 untold_read unit None = (record { left = λ u. []; printed = [] }, tt, refl)

@@ -1,8 +1,8 @@
 -- What units in memory hold.
 use Rattle.std.specs.Prelude.{◌≡◌, ℕ, ◌+◌, List, [], ◌∷◌, ◌++◌, Option, Some, None, length, map, nat_eq, ◌⊎◌, set, if◌then◌else◌}
-use Rattle.model.specs.Io.{Io}
+use Rattle.model.specs.Language.Io.{Io}
 use Rattle.unit_io.specs.Counts.{count_of, one_more}
-use Rattle.model.specs.Units.{bytes_on, first_of, rest_of}
+use Rattle.model.specs.Language.Units.{bytes_on, first_of, rest_of}
 use Rattle.model.specs.declared.run.UnitFault.{UnitFault}
 use Rattle.model.specs.declared.run.UnitFault.TheVariants.{NotOpen, Memory}
 use Rattle.unit_io.specs.declared.mem.OpenUnit.{OpenUnit}

@@ -1,7 +1,7 @@
 //! How often units have failed.
 
 ghost use Rattle.std.specs.Prelude.{◌≡◌, ◌≤◌, ℕ, replicate, set};
-ghost use Rattle.model.specs.Units.{HasGrown};
+ghost use Rattle.model.specs.Language.Units.{HasGrown};
 ghost use Rattle.unit_io.specs.Counts.{count_of, one_more, SameBut};
 
 use std::marker::Model;

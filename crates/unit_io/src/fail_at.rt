@@ -1,7 +1,7 @@
 //! Units of which one call fails.
 
 ghost use Rattle.std.specs.Prelude.{◌≡◌, ◌≢◌, ◌↔◌, ◌≤◌, ◌-◌, ℕ, IsTrue, Err, IfErr, IfOk, OnOk, OnErr, replicate};
-ghost use Rattle.model.specs.Units.{Reads, Writes, IsCounted, HasGrown};
+ghost use Rattle.model.specs.Language.Units.{Reads, Writes, IsCounted, HasGrown};
 ghost use Rattle.unit_io.specs.Counts.{count_of, one_more, Same, SameBut, IfNoneFailed};
 ghost use Rattle.unit_io.specs.Failing.{failures_with, failures_in};
 

@@ -1,7 +1,7 @@
 //! Units on standard input, standard output and files.
 
 ghost use Rattle.std.specs.Prelude.{◌≡◌, ◌≤◌, ℕ, IfOk, IfErr, replicate};
-ghost use Rattle.model.specs.Units.{IsCounted};
+ghost use Rattle.model.specs.Language.Units.{IsCounted};
 ghost use Rattle.unit_io.specs.Counts.{count_of, Same, SameBut, IfMemory};
 
 use crate::counts::Counts;

@@ -1,7 +1,7 @@
 //! Units in memory.
 
 ghost use Rattle.std.specs.Prelude.{◌≡◌, ◌↔◌, ◌≤◌, ◌⊎◌, ℕ, [], ◌∷◌, ◌++◌, Some, None, Err, replicate, option_copied, set, IfOk, OnOk, IfErr, OnErr};
-ghost use Rattle.model.specs.Units.{records_of, Reads, Writes, IsCounted};
+ghost use Rattle.model.specs.Language.Units.{records_of, Reads, Writes, IsCounted};
 ghost use Rattle.unit_io.specs.Counts.{Same, SameBut, IfNoneFailed};
 ghost use Rattle.unit_io.specs.Held.{side_at, output_of, place_of, written_to, io_of, failures_of, refused, IsRead, IsWritten, IsReadable, IsWritable, IsOfMemUnits};
 ghost use Rattle.unit_io.specs.declared.mem.Side.TheVariants.{Input, Output};

@@ -1,7 +1,7 @@
 //! The records of a text.
 
 ghost use Rattle.std.specs.Prelude.{◌≡◌, IfOk, OnErr, IfErr};
-ghost use Rattle.model.specs.Units.{records_of, first_of, rest_of};
+ghost use Rattle.model.specs.Language.Units.{records_of, first_of, rest_of};
 
 use memchr::memchr;
 use model::UnitFault;
@@ -17,7 +17,7 @@ pub struct Records {
 
 impl Model for Records {
     ghost use Rattle.std.specs.Prelude.{List, ℕ, length, drop, ◌≤◌};
-    ghost use Rattle.model.specs.Units.{records_of};
+    ghost use Rattle.model.specs.Language.Units.{records_of};
 
     ghost Value = { List (List ℕ) };
 

@@ -1,7 +1,7 @@
 //! What a run asks of units.
 
 ghost use Rattle.std.specs.Prelude.{◌≡◌, ◌≤◌, ℕ, IfOk, OnOk, IfErr, OnErr};
-ghost use Rattle.model.specs.Units.{Reads, Writes, IsCounted};
+ghost use Rattle.model.specs.Language.Units.{Reads, Writes, IsCounted};
 ghost use Rattle.unit_io.specs.Counts.{Same, SameBut, IfNoneFailed};
 
 use model::UnitFault;
@@ -10,7 +10,7 @@ use strings::Text;
 /// The units of a run, numbered from 0 to 99.
 pub trait Units {
     ghost use Rattle.std.specs.Prelude.{ℕ, Option};
-    ghost use Rattle.model.specs.Io.{Io};
+    ghost use Rattle.model.specs.Language.Io.{Io};
 
     /// The records left on each unit, and those written, in one order over all units; or that they aren't told.
     ghost told: { Self → Option Io };

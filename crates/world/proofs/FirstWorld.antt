@@ -1,13 +1,13 @@
 -- The world that a run begins with.
 use Rattle.std.proofs.Common.{◌≡◌, List, [], ◌∷◌, ◌++◌, Bool, true, false, cond, Option, Some, None, refl, sym, ap, ◌∙◌, append-nil, bytes_eq, codes}
 use Rattle.std.proofs.lemmas.Slice.Eq.{bytes_eq-Decides}
-use Rattle.model.specs.Trees.{Bytes}
-use Rattle.model.specs.Io.{Io}
-use Rattle.model.specs.Keywords.{first_keys}
-use Rattle.model.specs.Values.{Str, first_value}
-use Rattle.model.specs.Machine.{codes_of}
-use Rattle.model.specs.Agreement.{first_m}
-use Rattle.model.specs.PrintedBefore.{after_w}
+use Rattle.model.specs.Deck.Trees.{Bytes}
+use Rattle.model.specs.Language.Io.{Io}
+use Rattle.model.specs.Language.Keywords.{first_keys}
+use Rattle.model.specs.Language.Values.{Str, first_value}
+use Rattle.model.specs.Machine.Steps.{codes_of}
+use Rattle.model.specs.Laws.Agreement.{first_m}
+use Rattle.model.specs.Laws.PrintedBefore.{after_w}
 use Rattle.world.specs.Held.{Held, variable_at, value_in, input_in, output_in, world_of, null_variable, first_patterns, first_variables}
 use Rattle.world.specs.declared.world.Variable.{Variable}
 

@@ -3,10 +3,10 @@ use Rattle.std.proofs.Common.{◌≡◌, [], ◌∷◌, length, ℤ, false, sym,
 use Rattle.std.specs.Prelude.{◌==◌}
 use Rattle.std.specs.Str.Parse.{signed_digits_value}
 use Rattle.model.specs.declared.run.ErrorCode.TheVariants as error
-use Rattle.model.specs.Trees.{Bytes}
-use Rattle.model.specs.Strings.{IsIntText}
-use Rattle.model.specs.Conversions.{Got, Bad, read_integer}
-use Rattle.model.proofs.IntegerLaws.{reads_integers, refuses_other_texts}
+use Rattle.model.specs.Deck.Trees.{Bytes}
+use Rattle.model.specs.Language.Strings.{IsIntText}
+use Rattle.model.specs.Language.Conversions.{Got, Bad, read_integer}
+use Rattle.model.proofs.Language.Integers.{reads_integers, refuses_other_texts}
 
 pub same_in_64 : (n : ℤ) → FitsSigned w64 n → to_z w64 (of_z w64 n) ≡ n
 same_in_64 n h = to_z-of_z h

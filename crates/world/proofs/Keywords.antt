@@ -4,14 +4,14 @@ use Rattle.std.specs.Prelude.{if◌then◌else◌}
 use Rattle.model.specs.declared.keys.KeyId.{KeyId}
 use Rattle.model.specs.declared.keys.KeyId.TheVariants as k
 use Rattle.model.specs.declared.run.ErrorCode.TheVariants as error
-use Rattle.model.specs.Trees.{Bytes}
-use Rattle.model.specs.Io.{Io}
-use Rattle.model.specs.Keywords.{Keys, allows, put_key}
-use Rattle.model.specs.Names.{is_protected}
-use Rattle.model.specs.Values.{set_keys, keys_of}
-use Rattle.model.specs.Conversions.{Got, Op, Gives, Faults, conv, to_integer}
-use Rattle.model.specs.Operators.{keyset_op}
-use Rattle.model.specs.Machine.{MVal, MW}
+use Rattle.model.specs.Deck.Trees.{Bytes}
+use Rattle.model.specs.Language.Io.{Io}
+use Rattle.model.specs.Language.Keywords.{Keys, allows, put_key}
+use Rattle.model.specs.Language.Names.{is_protected}
+use Rattle.model.specs.Language.Values.{set_keys, keys_of}
+use Rattle.model.specs.Language.Conversions.{Got, Op, Gives, Faults, conv, to_integer}
+use Rattle.model.specs.Language.Operators.{keyset_op}
+use Rattle.model.specs.Machine.Steps.{MVal, MW}
 use Rattle.keywords.specs.Answers.{set_answer}
 use Rattle.keywords.specs.declared.KeyFault.{KeyFault}
 use Rattle.keywords.specs.declared.KeyFault.TheVariants.{Protected, NotAllowed}

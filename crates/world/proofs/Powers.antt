@@ -3,9 +3,9 @@ use Rattle.std.proofs.Common.{◌≡◌, ◌<◌, ◌≤◌, ℕ, zero, suc, ◌
 use Rattle.std.proofs.Math.IntN.{zero-*ℤ, *ℤ_comm, *ℤ-one, *ℤ-negsuc, neg_ℤ-neg_ℤ, one}
 use Rattle.std.proofs.lemmas.Int.{unsigned_abs-mul, fits_signed_from_abs}
 use Rattle.model.specs.declared.run.ErrorCode.TheVariants as error
-use Rattle.model.specs.Conversions.{Bad, fit}
-use Rattle.model.specs.Operators.{power, raised}
-use Rattle.model.proofs.IntegerLaws.{faults_beyond}
+use Rattle.model.specs.Language.Conversions.{Bad, fit}
+use Rattle.model.specs.Language.Operators.{power, raised}
+use Rattle.model.proofs.Language.Integers.{faults_beyond}
 
 -- ---- of -1, 0 and 1
 

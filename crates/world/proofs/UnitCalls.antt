@@ -3,16 +3,16 @@ use Rattle.std.proofs.Common.{◌≡◌, ◌<◌, ◌≤◌, ℕ, List, [], ◌�
 use Rattle.std.specs.Prelude.{OnErr, OnOk, if◌then◌else◌}
 use Rattle.std.proofs.lemmas.Slice.Eq.{bytes_eq-Decides}
 use Rattle.model.specs.declared.run.ErrorCode.TheVariants as error
-use Rattle.model.specs.Trees.{Bytes}
-use Rattle.model.specs.Io.{Io}
-use Rattle.model.specs.Told.{IfTold}
-use Rattle.model.specs.Units.{Reads, after_read, first_of, rest_of}
-use Rattle.model.specs.Keywords.{IsInteger, KeyValue, is_zero}
-use Rattle.model.specs.Values.{Str, set_var, keys_of}
-use Rattle.model.specs.Conversions.{Op, Gives, Refuses, Faults, to_text}
-use Rattle.model.specs.Operators.{as_read, take_record, fetch_var, fetch_op, assign_op, write_var, print_text}
-use Rattle.model.specs.Machine.{MVal, MW}
-use Rattle.model.specs.Pattern as p
+use Rattle.model.specs.Deck.Trees.{Bytes}
+use Rattle.model.specs.Language.Io.{Io}
+use Rattle.model.specs.Language.Told.{IfTold}
+use Rattle.model.specs.Language.Units.{Reads, after_read, first_of, rest_of}
+use Rattle.model.specs.Language.Keywords.{IsInteger, KeyValue, is_zero}
+use Rattle.model.specs.Language.Values.{Str, set_var, keys_of}
+use Rattle.model.specs.Language.Conversions.{Op, Gives, Refuses, Faults, to_text}
+use Rattle.model.specs.Language.Operators.{as_read, take_record, fetch_var, fetch_op, assign_op, write_var, print_text}
+use Rattle.model.specs.Machine.Steps.{MVal, MW}
+use Rattle.model.specs.Pattern.Patterns as p
 use Rattle.pattern_compiler.specs.View.{name_of}
 use Rattle.pattern_compiler.specs.declared.instr.Name.{Name}
 use Rattle.pattern_compiler.specs.declared.instr.Name.TheVariants as name

@@ -2,10 +2,10 @@
 use Rattle.std.proofs.Common.{◌≡◌, List, [], Bool, true, false, cond, Option, Some, None, refl, sym, ap, ◌∙◌, bytes_eq}
 use Rattle.std.specs.Prelude.{if◌then◌else◌}
 use Rattle.std.proofs.lemmas.Slice.Eq.{bytes_eq-Decides}
-use Rattle.model.specs.Trees.{Bytes}
-use Rattle.model.specs.Io.{Io}
-use Rattle.model.specs.Keywords.{Keys}
-use Rattle.model.specs.Values.{set_var}
+use Rattle.model.specs.Deck.Trees.{Bytes}
+use Rattle.model.specs.Language.Io.{Io}
+use Rattle.model.specs.Language.Keywords.{Keys}
+use Rattle.model.specs.Language.Values.{set_var}
 use Rattle.world.specs.Values.{value_of}
 use Rattle.world.specs.declared.value.Value.{Value}
 use Rattle.world.specs.Held.{Held, variable_at, value_in, input_in, output_in, world_of}

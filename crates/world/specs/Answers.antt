@@ -6,8 +6,8 @@ use Rattle.model.specs.declared.run.Stop.{Stop}
 use Rattle.model.specs.declared.run.Stop.TheVariants as stop
 use Rattle.model.specs.declared.run.UnitFault.{UnitFault}
 use Rattle.model.specs.declared.run.UnitFault.TheVariants as unit
-use Rattle.model.specs.Units.{IsCounted}
-use Rattle.model.specs.Conversions.{Conv, Got, Bad, Op, Gives, Refuses, Faults}
+use Rattle.model.specs.Language.Units.{IsCounted}
+use Rattle.model.specs.Language.Conversions.{Conv, Got, Bad, Op, Gives, Refuses, Faults}
 use Rattle.strings.specs.declared.fault.StrFault.{StrFault}
 use Rattle.strings.specs.declared.fault.StrFault.TheVariants as text
 use Rattle.unit_io.specs.Counts.{Same, SameBut}

@@ -1,17 +1,17 @@
 -- The world as it is held, and as the definitions see it.
 use Rattle.std.specs.Prelude.{◌≡◌, ◌⊎◌, ℕ, List, [], ◌∷◌, ◌++◌, Option, Some, None, bytes_eq, codes, Bool, false}
 use Rattle.std.specs.Map.{lookup}
-use Rattle.model.specs.Trees.{Bytes}
-use Rattle.model.specs.Io.{Io}
-use Rattle.model.specs.Keywords.{Keys, KeyValue, IsInteger, IsText, is_zero}
-use Rattle.model.specs.Conversions.{Op, Gives}
-use Rattle.model.specs.Operators.{take_record, as_read, limited}
-use Rattle.model.specs.Values.{Str, set_var}
+use Rattle.model.specs.Deck.Trees.{Bytes}
+use Rattle.model.specs.Language.Io.{Io}
+use Rattle.model.specs.Language.Keywords.{Keys, KeyValue, IsInteger, IsText, is_zero}
+use Rattle.model.specs.Language.Conversions.{Op, Gives}
+use Rattle.model.specs.Language.Operators.{take_record, as_read, limited}
+use Rattle.model.specs.Language.Values.{Str, set_var}
 use Rattle.indexmap.specs.IndexMap.{insert_entry}
-use Rattle.model.specs.Pattern as p
-use Rattle.model.specs.Target as target
-use Rattle.model.specs.Steps.{Code}
-use Rattle.model.specs.Machine.{MVal, MW, codes_of}
+use Rattle.model.specs.Pattern.Patterns as p
+use Rattle.model.specs.Deck.Target as target
+use Rattle.model.specs.Pattern.Steps.{Code}
+use Rattle.model.specs.Machine.Steps.{MVal, MW, codes_of}
 use Rattle.world.specs.Values.{value_of}
 use Rattle.world.specs.declared.value.Value.TheVariants as v
 use Rattle.world.specs.declared.world.Variable.{Variable}

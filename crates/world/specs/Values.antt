@@ -1,8 +1,8 @@
 -- Values at run time, as the definitions see them.
 use Rattle.std.specs.Prelude.{length, Bool, true, false, if◌then◌else◌}
-use Rattle.model.specs.Operators as o
-use Rattle.model.specs.Values.{Str, Int, Pat, Nam, Exp, Obj}
-use Rattle.model.specs.Machine.{MVal, PCode}
+use Rattle.model.specs.Language.Operators as o
+use Rattle.model.specs.Language.Values.{Str, Int, Pat, Nam, Exp, Obj}
+use Rattle.model.specs.Machine.Steps.{MVal, PCode}
 use Rattle.pattern_compiler.specs.View.{name_of}
 use Rattle.world.specs.declared.value.Value.{Value}
 use Rattle.world.specs.declared.world_operators.Begun.{Begun}

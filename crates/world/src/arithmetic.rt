@@ -1,8 +1,8 @@
 //! Arithmetic on values. It takes no memory.
 
 ghost use Rattle.std.specs.Prelude.{◌≡◌, ◌≤ℤ◌, pos};
-ghost use Rattle.model.specs.Machine.{MW};
-ghost use Rattle.model.specs.Operators.{arith_op, arith_of, sign_op, sign_of, quotient, raised, power};
+ghost use Rattle.model.specs.Machine.Steps.{MW};
+ghost use Rattle.model.specs.Language.Operators.{arith_op, arith_of, sign_op, sign_of, quotient, raised, power};
 ghost use Rattle.world.specs.Values.{value_of};
 ghost use Rattle.world.specs.Answers.{answer_map, conv_of, op_of};
 

@@ -1,12 +1,12 @@
 //! Keywords in which a run counts its statements.
 
 ghost use Rattle.std.specs.Prelude.{◌≡◌, IsTrue};
-ghost use Rattle.model.specs.Io.{Io};
-ghost use Rattle.model.specs.Keywords.{IsInteger, Keys, key_value};
-ghost use Rattle.model.specs.Keywords as keys;
-ghost use Rattle.model.specs.Meaning.{over_limit};
-ghost use Rattle.model.specs.Values as values;
-ghost use Rattle.model.specs.Values.{enter_stmt};
+ghost use Rattle.model.specs.Language.Io.{Io};
+ghost use Rattle.model.specs.Language.Keywords.{IsInteger, Keys, key_value};
+ghost use Rattle.model.specs.Language.Keywords as keys;
+ghost use Rattle.model.specs.Language.Meaning.{over_limit};
+ghost use Rattle.model.specs.Language.Values as values;
+ghost use Rattle.model.specs.Language.Values.{enter_stmt};
 ghost use Rattle.world.specs.Counts.{is_counted};
 ghost use Rattle.world.specs.Held.{world_of};
 

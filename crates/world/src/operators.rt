@@ -1,8 +1,8 @@
 //! Operators that don't ask the world.
 
 ghost use Rattle.std.specs.Prelude.{◌≡◌};
-ghost use Rattle.model.specs.Machine.{MW, codes_of};
-ghost use Rattle.model.specs.Operators.{alt_op, cond_op, imm_op, indir_op};
+ghost use Rattle.model.specs.Machine.Steps.{MW, codes_of};
+ghost use Rattle.model.specs.Language.Operators.{alt_op, cond_op, imm_op, indir_op};
 ghost use Rattle.model.specs.declared.run.Stop.TheVariants.{NoMemory};
 ghost use Rattle.pattern_compiler.specs.View.{name_of};
 ghost use Rattle.world.specs.Values.{value_of};

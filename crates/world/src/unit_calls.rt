@@ -1,11 +1,11 @@
 //! Names that are fetched and assigned to. A variable may read its value from a unit, or write it to one.
 
 ghost use Rattle.std.specs.Prelude.{◌≡◌, ◌≢◌, ◌⊎◌, Some, None, Ok, length, option_map, IfOk, IfErr, OnOk, OnErr};
-ghost use Rattle.model.specs.Io.{Io};
-ghost use Rattle.model.specs.Told.{IfTold};
-ghost use Rattle.model.specs.Operators.{fetch_op, take_record, as_read, assign_op, splice_op, write_var, print_text};
-ghost use Rattle.model.specs.Conversions.{to_text};
-ghost use Rattle.model.specs.Machine.{MVal};
+ghost use Rattle.model.specs.Language.Io.{Io};
+ghost use Rattle.model.specs.Language.Told.{IfTold};
+ghost use Rattle.model.specs.Language.Operators.{fetch_op, take_record, as_read, assign_op, splice_op, write_var, print_text};
+ghost use Rattle.model.specs.Language.Conversions.{to_text};
+ghost use Rattle.model.specs.Machine.Steps.{MVal};
 ghost use Rattle.model.specs.declared.run.Stop.TheVariants.{NoMemory};
 ghost use Rattle.pattern_compiler.specs.View.{name_of};
 ghost use Rattle.world.specs.Values.{value_of};

@@ -1,8 +1,8 @@
 //! Values.
 
 ghost use Rattle.std.specs.Prelude.{◌≡◌, []};
-ghost use Rattle.model.specs.Values.{Str};
-ghost use Rattle.model.specs.Conversions.{is_null};
+ghost use Rattle.model.specs.Language.Values.{Str};
+ghost use Rattle.model.specs.Language.Conversions.{is_null};
 ghost use Rattle.world.specs.Values.{value_of, has_text};
 
 use pattern_compiler::{Name, PatCode};

@@ -1,12 +1,12 @@
 //! The world of a run.
 
 ghost use Rattle.std.specs.Prelude.{◌≡◌, [], pos, None, IfOk, IfErr, OnOk, OnErr};
-ghost use Rattle.model.specs.Io.{Io};
-ghost use Rattle.model.specs.Values.{set_var};
-ghost use Rattle.model.specs.Operators.{fetch_var};
-ghost use Rattle.model.specs.Keywords.{key_value};
-ghost use Rattle.model.specs.Agreement.{first_m};
-ghost use Rattle.model.specs.PrintedBefore.{after_w};
+ghost use Rattle.model.specs.Language.Io.{Io};
+ghost use Rattle.model.specs.Language.Values.{set_var};
+ghost use Rattle.model.specs.Language.Operators.{fetch_var};
+ghost use Rattle.model.specs.Language.Keywords.{key_value};
+ghost use Rattle.model.specs.Laws.Agreement.{first_m};
+ghost use Rattle.model.specs.Laws.PrintedBefore.{after_w};
 ghost use Rattle.world.specs.Values.{value_of};
 ghost use Rattle.world.specs.Held.{world_of, fetched_from, zero_in, variable_at, value_in, output_in, with_variable, pattern_variable, first_patterns, first_variables};
 ghost use Rattle.world.specs.declared.value.Value.TheVariants.{String};

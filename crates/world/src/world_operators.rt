@@ -1,10 +1,10 @@
 //! Operators that ask the world, but no unit.
 
 ghost use Rattle.std.specs.Prelude.{◌≡◌, ◌++◌, ◌+◌, ◌<◌, ◌≤◌, length, IfOk, IfErr, Err, ◌↔◌, take, drop};
-ghost use Rattle.model.specs.Io.{Io};
-ghost use Rattle.model.specs.Machine.{codes_of};
-ghost use Rattle.model.specs.Operators.{cat_op, keyget_op, keyset_op, match_op, assign_op, splice_op};
-ghost use Rattle.model.specs.Target.{Name};
+ghost use Rattle.model.specs.Language.Io.{Io};
+ghost use Rattle.model.specs.Machine.Steps.{codes_of};
+ghost use Rattle.model.specs.Language.Operators.{cat_op, keyget_op, keyset_op, match_op, assign_op, splice_op};
+ghost use Rattle.model.specs.Deck.Target.{Name};
 ghost use Rattle.model.specs.declared.run.Stop.TheVariants.{NoMemory};
 ghost use Rattle.world.specs.Values.{value_of, begun_of};
 ghost use Rattle.world.specs.Held.{world_of};

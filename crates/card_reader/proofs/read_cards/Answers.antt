@@ -1,6 +1,6 @@
 use Rattle.std.proofs.Common.{sym, ap, subst, arith, length, take}
 use Rattle.std.specs.Prelude.{Ok, is_some, true, false}
-use Rattle.model.specs.Cards.{kind_of_columns}
+use Rattle.model.specs.Deck.Cards.{kind_of_columns}
 use Rattle.card_reader.specs.Parts.{step}
 use Rattle.card_reader.specs.Reading.{merge, card_fault, IsCardRead}
 use Rattle.card_reader.specs.Reached.{early}

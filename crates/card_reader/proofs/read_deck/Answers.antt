@@ -1,5 +1,5 @@
 use Rattle.std.proofs.Common.{arith}
-use Rattle.model.specs.Cards.{cards, ended}
+use Rattle.model.specs.Deck.Cards.{cards, ended}
 use Rattle.card_reader.proofs.Answering.{if_ok, if_err, if_fault, if_memory, not_too_long, too_long}
 use Rattle.card_reader.proofs.read_deck.Goals as goal
 

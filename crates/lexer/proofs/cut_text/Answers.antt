@@ -1,8 +1,8 @@
 use Rattle.std.proofs.Common.{◌≡◌, ◌≤◌, ◌+◌, ◌-◌, refl, sym, ap, ◌∙◌, subst, arith, length, drop, take, append-nil}
 use Rattle.std.specs.Prelude.{Some, None, ◌++◌, slice_range}
-use Rattle.model.specs.Cut as cut
-use Rattle.model.specs.Cut.{least_lexical}
-use Rattle.model.specs.Pieces.{pieces}
+use Rattle.model.specs.Deck.Cut as cut
+use Rattle.model.specs.Deck.Cut.{least_lexical}
+use Rattle.model.specs.Deck.Pieces.{pieces}
 use Rattle.lexer.specs.declared.limits.Limits.{Limits}
 use Rattle.lexer.specs.declared.scan.Scanned.TheVariants as s
 use Rattle.lexer.specs.Lexed.{pieces_of, Spans}

@@ -1,5 +1,5 @@
 use Rattle.std.proofs.Common.{◌≡◌, ◌++◌, ◌≤◌, ◌-◌, length, drop}
-use Rattle.model.specs.Pieces.{pieces}
+use Rattle.model.specs.Deck.Pieces.{pieces}
 use Rattle.lexer.specs.Lexed.{pieces_of, Spans}
 use Rattle.lexer.specs.Limits.{none, told}
 use Rattle.lexer.proofs.cut_text.Given as goal

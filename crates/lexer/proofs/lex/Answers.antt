@@ -1,9 +1,9 @@
 use Rattle.std.proofs.Common.{◌≡◌, sym, ◌∙◌, ap, subst}
 use Rattle.std.specs.Prelude.{None}
-use Rattle.model.specs.Cut.{Cut, least_lexical}
-use Rattle.model.specs.Pieces.{pieces}
-use Rattle.model.proofs.Cutting.{cut_is}
-use Rattle.model.proofs.Lexing.{lexed}
+use Rattle.model.specs.Deck.Cut.{Cut, least_lexical}
+use Rattle.model.specs.Deck.Pieces.{pieces}
+use Rattle.model.proofs.Decks.Cutting.{cut_is}
+use Rattle.model.proofs.Decks.Lexing.{lexed}
 use Rattle.lexer.proofs.lex.Goals as goal
 
 pub returns-clause-cut : goal.returns-clause-cut

@@ -1,5 +1,5 @@
 use Rattle.std.proofs.Common.{◌≡◌, ◌<◌, ◌^◌, ◌-◌, min, take}
-use Rattle.model.specs.Prototypes.{elements_in}
+use Rattle.model.specs.Language.Prototypes.{elements_in}
 use Rattle.aggregates.proofs.bounds.elements_in.Given as goal
 
 abbrev pub invariant-loop-dimension : goal.invariant-loop-dimension

@@ -1,8 +1,8 @@
 use Rattle.std.proofs.Common.{◌≡◌, ◌+◌, ◌*◌, ◌≤◌, Some, None, drop, subst, refl, sym, ap, ◌∙◌, arith}
 use Rattle.std.proofs.lemmas.Int.{ints, to_z-of_z}
 use Rattle.std.proofs.Math.Nat.{one-mul}
-use Rattle.model.specs.Aggregates.{place_from}
-use Rattle.model.specs.Prototypes.{elements_in}
+use Rattle.model.specs.Language.Aggregates.{place_from}
+use Rattle.model.specs.Language.Prototypes.{elements_in}
 use Rattle.aggregates.proofs.Subscripts.{no_place, place_next, place_none, some_next, fits_next, small_next, ended}
 use Rattle.aggregates.proofs.bounds.place_of.Goals as goal
 

@@ -1,6 +1,6 @@
 use Rattle.std.proofs.Common.{◌≡◌, ◌<◌, ◌≤◌, ◌+◌, ◌*◌, drop}
-use Rattle.model.specs.Aggregates.{place_from}
-use Rattle.model.specs.Prototypes.{elements_in}
+use Rattle.model.specs.Language.Aggregates.{place_from}
+use Rattle.model.specs.Language.Prototypes.{elements_in}
 use Rattle.aggregates.proofs.bounds.place_of.Given as goal
 
 abbrev pub invariant-loop-k : goal.invariant-loop-k

@@ -1,5 +1,5 @@
 use Rattle.std.proofs.Common.{◌≡◌, drop}
-use Rattle.model.specs.Aggregates.{place_of}
+use Rattle.model.specs.Language.Aggregates.{place_of}
 use Rattle.aggregates.proofs.object.place_among.Given as goal
 
 abbrev pub invariant-loop-k : goal.invariant-loop-k

@@ -1,6 +1,6 @@
 use Rattle.std.proofs.Common.{sym, ap, ◌∙◌}
 use Rattle.std.specs.Prelude.{[]}
-use Rattle.model.specs.Cards.{is_word_first}
+use Rattle.model.specs.Deck.Cards.{is_word_first}
 use Rattle.card_reader.proofs.Words.{word_found, word_missing, at_end, at_blank}
 use Rattle.card_reader.proofs.kinds.begins_with_word.Goals as goal
 

@@ -1,5 +1,5 @@
 use Rattle.std.proofs.Common.{refl}
-use Rattle.model.specs.Cards.{placed, split}
+use Rattle.model.specs.Deck.Cards.{placed, split}
 use Rattle.card_reader.proofs.Splitting.{split_some, glue_start}
 use Rattle.card_reader.proofs.reader.piece_end.Goals as goal
 

@@ -1,5 +1,5 @@
 use Rattle.std.proofs.Common.{◌≡◌, ◌∷◌, [], ℕ, take, drop}
-use Rattle.model.specs.Cards.{placed, split}
+use Rattle.model.specs.Deck.Cards.{placed, split}
 use Rattle.card_reader.specs.Parts.{after, glue}
 use Rattle.card_reader.proofs.reader.piece_end.Given as goal
 

@@ -1,6 +1,6 @@
 use Rattle.std.proofs.Common.{◌≡◌, sym, ap}
 use Rattle.model.specs.declared.instr.Instr.TheVariants as op
-use Rattle.model.specs.TreeViews.{object_of}
+use Rattle.model.specs.Deck.TreeViews.{object_of}
 use Rattle.expr_codegen.proofs.Joins.{instr, on_ok}
 use Rattle.expr_codegen.proofs.Constructs.{as_part}
 use Rattle.codegen.specs.Layout as layout

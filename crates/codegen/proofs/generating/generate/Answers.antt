@@ -1,6 +1,6 @@
 use Rattle.std.proofs.Common.{◌≡◌, ◌∙◌, ◌≤◌, ◌<◌, sym, ap, subst, arith, length, map}
 use Rattle.std.proofs.lemmas.List.{length-map}
-use Rattle.model.specs.TreeViews.{stmt_of}
+use Rattle.model.specs.Deck.TreeViews.{stmt_of}
 use Rattle.expr_codegen.specs.Emitting.{size}
 use Rattle.expr_codegen.specs.Views.{gen_of}
 use Rattle.codegen.specs.Countable.{Fits}

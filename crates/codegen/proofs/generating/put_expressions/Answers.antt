@@ -1,7 +1,7 @@
 use Rattle.std.proofs.Common.{◌≡◌, ◌<◌, ◌≤◌, ◌+◌, ◌*◌, ◌^◌, ◌∷◌, sym, ap, subst, arith, option_map, ℕ}
 use Rattle.std.specs.List.{AllByRecursion}
-use Rattle.model.specs.TreeViews.{expr_of}
-use Rattle.model.specs.Weights as weights
+use Rattle.model.specs.Deck.TreeViews.{expr_of}
+use Rattle.model.specs.Deck.Weights as weights
 use Rattle.expr_codegen.specs.Emitting.{Countable, Takes}
 use Rattle.expr_codegen.specs.Views.{gen_of}
 use Rattle.codegen.specs.Laying.{left}

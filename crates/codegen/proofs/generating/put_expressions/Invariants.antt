@@ -1,4 +1,4 @@
-use Rattle.model.specs.Weights as weights
+use Rattle.model.specs.Deck.Weights as weights
 use Rattle.expr_codegen.specs.Views.{gen_of}
 use Rattle.codegen.specs.Laying.{left}
 use Rattle.codegen.proofs.Queue.{Kept}

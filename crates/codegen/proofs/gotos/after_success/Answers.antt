@@ -1,6 +1,6 @@
 use Rattle.std.proofs.Common.{◌≡◌, ◌∙◌, ◌+◌, suc, sym, ap, arith}
 use Rattle.model.specs.declared.instr.Instr.TheVariants as op
-use Rattle.model.specs.TreeViews.{goto_of}
+use Rattle.model.specs.Deck.TreeViews.{goto_of}
 use Rattle.expr_codegen.specs.Code.{one}
 use Rattle.expr_codegen.proofs.Joins.{instr, nothing_put, on_ok}
 use Rattle.expr_codegen.proofs.Constructs.{as_part}

@@ -1,7 +1,7 @@
 use Rattle.std.proofs.Common.{◌≡◌, ◌∙◌, sym, ap}
 use Rattle.model.specs.declared.instr.Instr.TheVariants as op
-use Rattle.model.specs.Calls.{return_of}
-use Rattle.model.specs.TreeViews.{place_of}
+use Rattle.model.specs.Language.Calls.{return_of}
+use Rattle.model.specs.Deck.TreeViews.{place_of}
 use Rattle.expr_codegen.specs.Code.{one}
 use Rattle.expr_codegen.specs.Emitting.{with_instr}
 use Rattle.expr_codegen.specs.Views.{gen_of}

@@ -1,6 +1,6 @@
 use Rattle.std.proofs.Common.{◌≡◌, map, drop}
-use Rattle.model.specs.Programs as programs
-use Rattle.model.specs.TreeViews.{stmt_of}
+use Rattle.model.specs.Language.Programs as programs
+use Rattle.model.specs.Deck.TreeViews.{stmt_of}
 use Rattle.codegen.proofs.labels.entry_label.Given as goal
 
 abbrev pub invariant-loop-statement : goal.invariant-loop-statement

@@ -1,6 +1,6 @@
 use Rattle.std.proofs.Common.{◌∙◌, sym, subst, map, arith}
-use Rattle.model.specs.Spelling.{IsImage}
-use Rattle.model.specs.TreeViews.{stmt_of}
+use Rattle.model.specs.Module.Spelling.{IsImage}
+use Rattle.model.specs.Deck.TreeViews.{stmt_of}
 use Rattle.parser.proofs.ReadLists.{is_nothing}
 use Rattle.codegen_laws.proofs.Images.{spelt}
 use Rattle.driver.proofs.WholeDecks.{few_given, fits, is_module, none_told}

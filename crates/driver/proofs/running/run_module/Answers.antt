@@ -1,9 +1,9 @@
 use Rattle.std.proofs.Common.{◌≡◌, refl, subst, sym, ◌∙◌}
 use Rattle.model.specs.declared.image.Image.{Image}
-use Rattle.model.specs.Agreement.{mach}
-use Rattle.model.specs.PrintedBefore.{seen_after}
-use Rattle.model.specs.Told.{IfTold}
-use Rattle.model.proofs.SpeltNumbers.{ok_is}
+use Rattle.model.specs.Laws.Agreement.{mach}
+use Rattle.model.specs.Laws.PrintedBefore.{seen_after}
+use Rattle.model.specs.Language.Told.{IfTold}
+use Rattle.model.proofs.Module.SpeltNumbers.{ok_is}
 use Rattle.statement_machine.specs.Runs.{left_after}
 use Rattle.statement_machine.specs.Stopped.{IfRan, ending_of}
 use Rattle.driver.proofs.WholeRuns.{is_run, is_meant, is_in_time}

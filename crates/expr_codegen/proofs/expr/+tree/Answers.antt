@@ -4,11 +4,11 @@ use Rattle.std.proofs.lemmas.Int.{to_z-of_z}
 use Rattle.model.specs.declared.instr.Instr.TheVariants as op
 use Rattle.model.specs.declared.trees.Expr.TheVariants as e
 use Rattle.model.specs.declared.trees.Unary.TheVariants as u
-use Rattle.model.specs.Trees as m
-use Rattle.model.specs.TreeViews.{expr_of, arg_of, args_of}
-use Rattle.model.specs.Names.{prim_named}
-use Rattle.model.specs.Weights.{of_expr, of_args}
-use Rattle.model.proofs.ArgumentLists.{count_is}
+use Rattle.model.specs.Deck.Trees as m
+use Rattle.model.specs.Deck.TreeViews.{expr_of, arg_of, args_of}
+use Rattle.model.specs.Language.Names.{prim_named}
+use Rattle.model.specs.Deck.Weights.{of_expr, of_args}
+use Rattle.model.proofs.Decks.ArgumentLists.{count_is}
 use Rattle.expr_codegen.specs.Code as code
 use Rattle.expr_codegen.specs.Code.{one, with_string, ◌>>◌}
 use Rattle.expr_codegen.specs.Emitting.{Countable, AllCountable, most_counted, with_instr, with_changed}

@@ -1,6 +1,6 @@
 use Rattle.std.proofs.Common.{◌+◌, ◌*◌}
-use Rattle.model.specs.TreeViews.{expr_of, args_of}
-use Rattle.model.specs.Weights.{of_expr, of_args}
+use Rattle.model.specs.Deck.TreeViews.{expr_of, args_of}
+use Rattle.model.specs.Deck.Weights.{of_expr, of_args}
 use Rattle.expr_codegen.specs.Views.{gen_of}
 use Rattle.expr_codegen.proofs.Arguments.{Kept}
 use Rattle.expr_codegen.proofs.expr.+tree.Given as goal

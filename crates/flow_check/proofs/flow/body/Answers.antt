@@ -1,5 +1,5 @@
 use Rattle.std.proofs.Common.{refl, sym, subst}
-use Rattle.model.specs.Flow as flow
+use Rattle.model.specs.Module.Flow as flow
 use Rattle.flow_check.specs.declared.shapes.Mode.TheVariants.{Goto}
 use Rattle.flow_check.specs.Shapes.{IsShape}
 use Rattle.flow_check.proofs.RunLaws.{none_from}

@@ -1,5 +1,5 @@
 use Rattle.std.proofs.Common.{refl, ap}
-use Rattle.model.specs.Flow as flow
+use Rattle.model.specs.Module.Flow as flow
 use Rattle.flow_check.proofs.RunLaws.{none_from}
 use Rattle.flow_check.proofs.Steps.{with_value}
 use Rattle.flow_check.proofs.flow.is_one_value.Goals as goal

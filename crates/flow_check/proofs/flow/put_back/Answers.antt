@@ -1,6 +1,6 @@
 use Rattle.std.proofs.Common.{◌≡◌, ◌+◌, ◌≤◌, ◌++◌, refl, arith, length}
 use Rattle.std.proofs.lemmas.Bool.Decides.{nat_tests}
-use Rattle.model.specs.Flow as flow
+use Rattle.model.specs.Module.Flow as flow
 use Rattle.flow_check.specs.Rules.{left}
 use Rattle.flow_check.proofs.Stacks.{grown}
 use Rattle.flow_check.proofs.Steps.{length_both}

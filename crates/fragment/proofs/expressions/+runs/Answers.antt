@@ -1,8 +1,8 @@
 use Rattle.std.proofs.Common.{◌≡◌, ◌∙◌, sym, ap, ◌&&◌, drop, [], arith}
 use Rattle.std.proofs.lemmas.Grind.{common_steps}
-use Rattle.model.specs.Faults.{everywhere, in_args}
-use Rattle.model.specs.Names.{prim_named}
-use Rattle.model.specs.TreeViews.{args_of, expr_of}
+use Rattle.model.specs.Deck.Faults.{everywhere, in_args}
+use Rattle.model.specs.Language.Names.{prim_named}
+use Rattle.model.specs.Deck.TreeViews.{args_of, expr_of}
 use Rattle.expr_codegen.proofs.Arguments.{call_of_slice}
 use Rattle.fragment.specs.Fragment.{call_runs, construct_runs}
 use Rattle.fragment.proofs.Arguments.{all_pass, fails, passes}

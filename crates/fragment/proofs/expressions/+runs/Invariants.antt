@@ -1,6 +1,6 @@
 use Rattle.std.proofs.Common.{◌≡◌, drop}
-use Rattle.model.specs.Faults.{in_args}
-use Rattle.model.specs.TreeViews.{args_of}
+use Rattle.model.specs.Deck.Faults.{in_args}
+use Rattle.model.specs.Deck.TreeViews.{args_of}
 use Rattle.fragment.specs.Fragment.{construct_runs}
 use Rattle.fragment.proofs.expressions.+runs.Given as goal
 

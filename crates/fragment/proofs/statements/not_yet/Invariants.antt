@@ -1,5 +1,5 @@
 use Rattle.std.proofs.Common.{◌≡◌, ◌++◌, ◌+◌, map, drop}
-use Rattle.model.specs.TreeViews.{stmt_of}
+use Rattle.model.specs.Deck.TreeViews.{stmt_of}
 use Rattle.fragment.specs.Fragment.{not_yet}
 use Rattle.fragment.proofs.statements.not_yet.Given as goal
 

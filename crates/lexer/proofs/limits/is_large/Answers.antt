@@ -1,6 +1,6 @@
 use Rattle.std.proofs.Common.{◌≡◌, ◌<◌, ◌≤◌, ◌*◌, ◌+◌, ◌-◌, sym, ◌∙◌, subst, arith, ℕ, true, false, nat_lt, get_or}
 use Rattle.std.proofs.lemmas.Bool.Decides.{nat_tests}
-use Rattle.model.specs.Digits.{value, value_from}
+use Rattle.model.specs.Deck.Digits.{value, value_from}
 use Rattle.lexer.proofs.Values.{over, at_end}
 use Rattle.lexer.proofs.limits.is_large.Goals as goal
 

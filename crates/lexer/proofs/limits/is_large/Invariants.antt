@@ -1,5 +1,5 @@
 use Rattle.std.proofs.Common.{◌≡◌, ◌≤◌, drop}
-use Rattle.model.specs.Digits.{value_from}
+use Rattle.model.specs.Deck.Digits.{value_from}
 use Rattle.lexer.proofs.limits.is_large.Given as goal
 
 abbrev pub invariant-loop-d : goal.invariant-loop-d

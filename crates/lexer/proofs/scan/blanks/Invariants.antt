@@ -1,5 +1,5 @@
 use Rattle.std.proofs.Common.{◌≡◌, ◌<◌, ℕ, get_or, true}
-use Rattle.model.specs.Cut.{is_space}
+use Rattle.model.specs.Deck.Cut.{is_space}
 use Rattle.lexer.proofs.scan.blanks.Given as goal
 
 abbrev pub invariant-loop-n : goal.invariant-loop-n

@@ -1,7 +1,7 @@
 use Rattle.std.proofs.Common.{◌≡◌, ◌∷◌, ◌∙◌, sym, ap, inl, inr, refl, arith, length}
 use Rattle.model.specs.declared.tokens.TokenKind.TheVariants as kind
-use Rattle.model.specs.Cut as cut
-use Rattle.model.specs.Pieces.{front, back, quoted, starred}
+use Rattle.model.specs.Deck.Cut as cut
+use Rattle.model.specs.Deck.Pieces.{front, back, quoted, starred}
 use Rattle.lexer.specs.Scans.{IsFound, class_of}
 use Rattle.lexer.proofs.Scanning.{run, arm, others}
 use Rattle.lexer.proofs.scan.scan.Goals as goal

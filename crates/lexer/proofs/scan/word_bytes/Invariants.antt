@@ -1,5 +1,5 @@
 use Rattle.std.proofs.Common.{◌≡◌, ◌<◌, ℕ, get_or, true}
-use Rattle.model.specs.Cut.{is_word}
+use Rattle.model.specs.Deck.Cut.{is_word}
 use Rattle.lexer.proofs.scan.word_bytes.Given as goal
 
 abbrev pub invariant-loop-n : goal.invariant-loop-n

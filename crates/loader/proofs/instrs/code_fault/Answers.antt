@@ -1,7 +1,7 @@
 use Rattle.std.proofs.Common.{◌≡◌, ◌∙◌, ◌+◌, take, get_or, None, ap, subst, arith}
 use Rattle.model.specs.declared.instr.Instr.TheVariants.{End}
-use Rattle.model.specs.Modules.{bytes}
-use Rattle.model.specs.WellFormed.{told, instr_fault}
+use Rattle.model.specs.Module.Images.{bytes}
+use Rattle.model.specs.Module.WellFormed.{told, instr_fault}
 use Rattle.loader.specs.Parts.{code_fault}
 use Rattle.loader.proofs.Coding.{instr_told, total_next, total_left}
 use Rattle.loader.proofs.Scanning.{rest, goes_on}

@@ -1,6 +1,6 @@
 use Rattle.std.proofs.Common.{◌≡◌, ◌+◌, drop, take}
-use Rattle.model.specs.Modules.{bytes, total}
-use Rattle.model.specs.WellFormed.{instr_fault}
+use Rattle.model.specs.Module.Images.{bytes, total}
+use Rattle.model.specs.Module.WellFormed.{instr_fault}
 use Rattle.loader.specs.Parts.{code_fault}
 use Rattle.loader.proofs.Scanning.{rest}
 use Rattle.loader.proofs.instrs.code_fault.Given as goal

@@ -1,5 +1,5 @@
 use Rattle.std.proofs.Common.{◌≡◌, ◌+◌, drop}
-use Rattle.model.specs.Modules.{total}
+use Rattle.model.specs.Module.Images.{total}
 use Rattle.loader.proofs.instrs.size_of.Given as goal
 
 abbrev pub invariant-loop-instr : goal.invariant-loop-instr

@@ -1,7 +1,7 @@
 use Rattle.std.proofs.Common.{◌≡◌, ◌∙◌, ℕ, List, length, arith, ap, get_or, not, take, true, false}
 use Rattle.std.specs.Prelude.{nat_eq}
 use Rattle.std.specs.List.{list_any}
-use Rattle.model.specs.WellFormed.{told, rule}
+use Rattle.model.specs.Module.WellFormed.{told, rule}
 use Rattle.model.specs.declared.format.ModuleRule.TheVariants.{BadIndex}
 use Rattle.loader.specs.Parts.{label_fault}
 use Rattle.loader.proofs.Sizes.{places_short}

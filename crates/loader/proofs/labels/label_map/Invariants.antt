@@ -1,7 +1,7 @@
 use Rattle.std.proofs.Common.{◌≡◌, ◌≤◌, ℕ, List, drop, length}
 use Rattle.std.specs.Prelude.{None, bytes_eq}
 use Rattle.std.specs.HashMap.{get_by}
-use Rattle.model.specs.Modules.{statement_of}
+use Rattle.model.specs.Module.Images.{statement_of}
 use Rattle.loader.proofs.labels.label_map.Given as goal
 
 abbrev pub invariant-loop-left : goal.invariant-loop-left

@@ -1,5 +1,5 @@
 use Rattle.std.proofs.Common.{sym, subst, ◌∙◌}
-use Rattle.model.specs.WellFormed.{IsTold}
+use Rattle.model.specs.Module.WellFormed.{IsTold}
 use Rattle.loader.proofs.Judging.{loaded}
 use Rattle.loader.proofs.loading.judge.Goals as goal
 

@@ -1,6 +1,6 @@
 use Rattle.std.proofs.Common.{suc, arith}
 use Rattle.model.specs.declared.image.PatInstr.TheVariants.{Lit}
-use Rattle.model.specs.WellFormed.{pat_bytes}
+use Rattle.model.specs.Module.WellFormed.{pat_bytes}
 use Rattle.loader.proofs.Sizes.{next, taken, pattern_sum}
 use Rattle.loader.proofs.patterns.pattern_fault.Goals as goal
 

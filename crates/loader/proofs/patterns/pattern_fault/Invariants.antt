@@ -1,6 +1,6 @@
 use Rattle.std.proofs.Common.{◌≡◌, ◌+◌, [], map, take, length}
 use Rattle.std.specs.List.{sum}
-use Rattle.model.specs.WellFormed.{told, pat_rule, pat_bytes, pattern_fault}
+use Rattle.model.specs.Module.WellFormed.{told, pat_rule, pat_bytes, pattern_fault}
 use Rattle.loader.proofs.Scanning.{rest}
 use Rattle.loader.proofs.patterns.pattern_fault.Given as goal
 

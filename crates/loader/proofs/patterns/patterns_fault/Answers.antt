@@ -1,7 +1,7 @@
 use Rattle.std.proofs.Common.{[], suc, length, arith, ap, List, map, take, get_or, ◌∙◌}
 use Rattle.std.specs.List.{sum}
 use Rattle.model.specs.declared.image.PatInstr.{PatInstr}
-use Rattle.model.specs.WellFormed.{pattern_bytes}
+use Rattle.model.specs.Module.WellFormed.{pattern_bytes}
 use Rattle.loader.proofs.Sizes.{next, taken, pattern_count, places_short}
 use Rattle.loader.proofs.patterns.patterns_fault.Goals as goal
 

@@ -1,6 +1,6 @@
 use Rattle.std.proofs.Common.{◌≡◌, ◌+◌, map, take}
 use Rattle.std.specs.List.{sum}
-use Rattle.model.specs.WellFormed.{pattern_bytes, pattern_fault}
+use Rattle.model.specs.Module.WellFormed.{pattern_bytes, pattern_fault}
 use Rattle.loader.specs.Parts.{patterns_fault}
 use Rattle.loader.proofs.Scanning.{rest}
 use Rattle.loader.proofs.patterns.patterns_fault.Given as goal

@@ -1,5 +1,5 @@
 use Rattle.std.proofs.Common.{suc, [], arith, ap, length}
-use Rattle.model.specs.WellFormed.{pattern_bytes}
+use Rattle.model.specs.Module.WellFormed.{pattern_bytes}
 use Rattle.loader.proofs.Sizes.{next, taken, patterns_short, pattern_count}
 use Rattle.loader.proofs.places.patterns_size.Goals as goal
 

@@ -1,6 +1,6 @@
 use Rattle.std.proofs.Common.{◌≡◌, map, take}
 use Rattle.std.specs.List.{sum}
-use Rattle.model.specs.WellFormed.{pattern_bytes}
+use Rattle.model.specs.Module.WellFormed.{pattern_bytes}
 use Rattle.loader.proofs.places.patterns_size.Given as goal
 
 abbrev pub invariant-loop-pattern : goal.invariant-loop-pattern

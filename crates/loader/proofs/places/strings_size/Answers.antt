@@ -1,5 +1,5 @@
 use Rattle.std.proofs.Common.{suc, arith, ap}
-use Rattle.model.specs.WellFormed.{string_bytes}
+use Rattle.model.specs.Module.WellFormed.{string_bytes}
 use Rattle.loader.proofs.Sizes.{next, taken, strings_short}
 use Rattle.loader.proofs.places.strings_size.Goals as goal
 

@@ -1,5 +1,5 @@
 use Rattle.std.proofs.Common.{◌≡◌, ◌+◌, ◌*◌}
-use Rattle.model.specs.WellFormed.{told, expression_rule}
+use Rattle.model.specs.Module.WellFormed.{told, expression_rule}
 use Rattle.loader.specs.Parts.{expression_fault}
 use Rattle.loader.proofs.Scanning.{rest}
 use Rattle.loader.proofs.tables.expression_fault.Given as goal

@@ -1,5 +1,5 @@
 use Rattle.std.proofs.Common.{◌≡◌, ◌+◌, ◌*◌}
-use Rattle.model.specs.WellFormed.{told, statement_rule}
+use Rattle.model.specs.Module.WellFormed.{told, statement_rule}
 use Rattle.loader.specs.Parts.{statement_fault}
 use Rattle.loader.proofs.Scanning.{rest}
 use Rattle.loader.proofs.tables.statement_fault.Given as goal

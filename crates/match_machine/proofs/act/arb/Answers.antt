@@ -1,5 +1,5 @@
 use Rattle.std.proofs.Common.{ap, sym}
-use Rattle.model.specs.Steps.{Moves, forked}
+use Rattle.model.specs.Pattern.Steps.{Moves, forked}
 use Rattle.match_machine.proofs.Moves.{arb_more}
 use Rattle.match_machine.proofs.act.arb.Goals as goal
 

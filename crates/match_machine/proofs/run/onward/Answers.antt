@@ -2,7 +2,7 @@ use Rattle.std.proofs.Common.{◌≡◌, List, sym, ◌∙◌, ap, arith, ◌<�
 use Rattle.match_machine.specs.Standing.{Back}
 use Rattle.match_machine.specs.View.{thread_of, choices_of}
 use Rattle.match_machine.proofs.Moves.{go_within, go_past}
-use Rattle.model.specs.Steps as s
+use Rattle.model.specs.Pattern.Steps as s
 use Rattle.match_machine.proofs.run.onward.Goals as goal
 use Rattle.match_machine.proofs.run.onward.Goals.{then-run-len, else-run-len}
 

@@ -1,5 +1,5 @@
 use Rattle.std.proofs.Common.{◌≡◌, ◌≤◌, ◌<◌, ◌∙◌, sym, ap, arith, length}
-use Rattle.model.specs.Steps.{settled}
+use Rattle.model.specs.Pattern.Steps.{settled}
 use Rattle.match_machine.specs.Standing.{Standing}
 use Rattle.match_machine.proofs.Moves.{settled_left, settled_within}
 use Rattle.match_machine.proofs.run.settle.Goals as goal

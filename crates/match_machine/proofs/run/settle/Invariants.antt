@@ -1,5 +1,5 @@
 use Rattle.std.proofs.Common.{◌≡◌, length}
-use Rattle.model.specs.Steps.{settled}
+use Rattle.model.specs.Pattern.Steps.{settled}
 use Rattle.match_machine.proofs.run.settle.Given as goal
 
 abbrev pub invariant-loop-thread : goal.invariant-loop-thread

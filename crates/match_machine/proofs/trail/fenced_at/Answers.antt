@@ -1,5 +1,5 @@
 use Rattle.std.proofs.Common.{◌∷◌, ◌∙◌, sym, ap, reverse, inl, inr}
-use Rattle.model.specs.Steps as s
+use Rattle.model.specs.Pattern.Steps as s
 use Rattle.match_machine.specs.Standing.{fenced}
 use Rattle.match_machine.specs.Logs.{note_of, chain, below_of}
 use Rattle.match_machine.proofs.Chains.{chain_head, chain_no_head}

@@ -1,4 +1,4 @@
-use Rattle.model.proofs.AgreementLaw.{agrees_where_placed}
+use Rattle.model.proofs.Machine.Agreement.{agrees_where_placed}
 use Rattle.model.proofs.laws_agreement.agreement.Goals as goal
 
 pub returns : goal.returns

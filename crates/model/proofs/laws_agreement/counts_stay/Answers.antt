@@ -1,4 +1,4 @@
-use Rattle.model.proofs.CountsStay as by
+use Rattle.model.proofs.Language.CountsStay as by
 use Rattle.model.proofs.laws_agreement.counts_stay.Goals as goal
 
 pub returns-clause-counts : goal.returns-clause-counts

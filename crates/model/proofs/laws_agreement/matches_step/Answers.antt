@@ -1,4 +1,4 @@
-use Rattle.model.proofs.MachineMatches.{match_runs, match_comes}
+use Rattle.model.proofs.Machine.Matches.{match_runs, match_comes}
 use Rattle.model.proofs.laws_agreement.matches_step.Goals as goal
 
 pub returns-clause-runs : goal.returns-clause-runs

@@ -1,4 +1,4 @@
-use Rattle.model.proofs.FuelLaw.{ending_stays, printed_grows}
+use Rattle.model.proofs.Language.EndingsStay.{ending_stays, printed_grows}
 use Rattle.model.proofs.laws_agreement.meaning_stays.Goals as goal
 
 pub returns-clause-ending : goal.returns-clause-ending

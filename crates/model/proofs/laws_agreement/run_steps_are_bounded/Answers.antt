@@ -1,4 +1,4 @@
-use Rattle.model.proofs.RunSteps.{run_steps_law}
+use Rattle.model.proofs.Machine.RunsBounded.{run_steps_law}
 use Rattle.model.proofs.laws_agreement.run_steps_are_bounded.Goals as goal
 
 pub returns : goal.returns

@@ -2,7 +2,7 @@ use Rattle.std.proofs.Common.{◌≡◌, refl, ℕ, ◌<◌, List, length, arith
 use Rattle.std.proofs.lemmas.Bool.Decides.{nat_tests}
 use Rattle.std.specs.Prelude.{Err, nat_lt, true}
 use Rattle.model.specs.declared.cards.CardRule.TheVariants as rule
-use Rattle.model.specs.Cards.{deck, ended, faults_of, pieces_of, kind_of, fault}
+use Rattle.model.specs.Deck.Cards.{deck, ended, faults_of, pieces_of, kind_of, fault}
 use Rattle.model.proofs.laws_cards.worked_decks.Goals as goal
 
 too_long : (text : List ℕ) → 1048576 < length text → deck text ≡ Err (fault 0 rule.DeckTooLong)

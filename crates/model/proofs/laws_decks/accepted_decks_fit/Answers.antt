@@ -1,4 +1,4 @@
-use Rattle.model.proofs.DeckSizes.{accepted_fit}
+use Rattle.model.proofs.Decks.Sizes.{accepted_fit}
 use Rattle.model.proofs.laws_decks.accepted_decks_fit.Goals as goal
 
 pub returns : goal.returns

@@ -1,5 +1,5 @@
-use Rattle.model.proofs.DeckSizes
+use Rattle.model.proofs.Decks.Sizes
 use Rattle.model.proofs.laws_decks.decks_fit.Goals as goal
 
 pub returns : goal.returns
-returns c = DeckSizes.decks_fit
+returns c = Sizes.decks_fit

@@ -1,4 +1,4 @@
-use Rattle.model.proofs.DeckEnds.{end_last}
+use Rattle.model.proofs.Decks.Ends.{end_last}
 use Rattle.model.proofs.laws_decks.end_is_last.Goals as goal
 
 pub returns : goal.returns

@@ -1,4 +1,4 @@
-use Rattle.model.proofs.LeastFaults as by
+use Rattle.model.proofs.Module.LeastFaults as by
 use Rattle.model.proofs.laws_modules.faultless_is_well_formed.Goals as goal
 
 pub returns-clause-none : goal.returns-clause-none

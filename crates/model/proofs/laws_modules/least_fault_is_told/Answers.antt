@@ -1,4 +1,4 @@
-use Rattle.model.proofs.LeastFaults as by
+use Rattle.model.proofs.Module.LeastFaults as by
 use Rattle.model.proofs.laws_modules.least_fault_is_told.Goals as goal
 
 pub returns-clause-least : goal.returns-clause-least

@@ -1,5 +1,5 @@
 use Rattle.std.proofs.Common.{refl}
-use Rattle.model.proofs.FlowRows.{flow_rows}
+use Rattle.model.proofs.Rows.Flow.{flow_rows}
 use Rattle.model.proofs.laws_modules.worked_images.Goals as goal
 
 pub returns-clause-parts : goal.returns-clause-parts

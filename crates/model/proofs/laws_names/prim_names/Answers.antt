@@ -1,4 +1,4 @@
-use Rattle.model.proofs.Names
+use Rattle.model.proofs.Language.Names
 use Rattle.model.proofs.laws_names.prim_names.Goals as goal
 
 pub returns : goal.returns

@@ -1,4 +1,4 @@
-use Rattle.model.proofs.AnswersLater.{answers_later}
+use Rattle.model.proofs.Pattern.AnswersLater.{answers_later}
 use Rattle.model.proofs.laws_patterns.answers_come_later.Goals as goal
 
 pub returns : goal.returns

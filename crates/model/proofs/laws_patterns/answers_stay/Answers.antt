@@ -1,4 +1,4 @@
-use Rattle.model.proofs.PatternLaws.{ends_grow, search_stays, scan_stays}
+use Rattle.model.proofs.Pattern.Laws.{ends_grow, search_stays, scan_stays}
 use Rattle.model.proofs.laws_patterns.answers_stay.Goals as goal
 
 pub returns-clause-ends : goal.returns-clause-ends

@@ -1,4 +1,4 @@
-use Rattle.model.proofs.PatternLaws.{steps_law, scans_law}
+use Rattle.model.proofs.Pattern.Laws.{steps_law, scans_law}
 use Rattle.model.proofs.laws_patterns.code_means_its_pattern.Goals as goal
 
 pub returns-clause-steps : goal.returns-clause-steps

@@ -1,4 +1,4 @@
-use Rattle.model.proofs.FirstEnd.{scan_of_first, first_of_scan}
+use Rattle.model.proofs.Pattern.FirstEnd.{scan_of_first, first_of_scan}
 use Rattle.model.proofs.laws_patterns.first_end_is_found.Goals as goal
 
 pub returns-clause-scan : goal.returns-clause-scan

@@ -1,4 +1,4 @@
-use Rattle.model.proofs.Literals.{literals_scanned, literal_scans_right}
+use Rattle.model.proofs.Pattern.Literals.{literals_scanned, literal_scans_right}
 use Rattle.model.proofs.laws_patterns.literals_are_scanned.Goals as goal
 
 pub returns-clause-answers : goal.returns-clause-answers

@@ -1,4 +1,4 @@
-use Rattle.model.proofs.MatchStates as by
+use Rattle.model.proofs.Pattern.MatchStates as by
 use Rattle.model.proofs.laws_patterns.match_states_answer.Goals as goal
 
 pub returns-clause-scan : goal.returns-clause-scan

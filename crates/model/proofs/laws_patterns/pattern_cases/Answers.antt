@@ -1,4 +1,4 @@
-use Rattle.model.proofs.PatternCases as by
+use Rattle.model.proofs.Rows.Patterns as by
 use Rattle.model.proofs.laws_patterns.pattern_cases.Goals as goal
 
 pub returns-clause-scans : goal.returns-clause-scans

@@ -1,4 +1,4 @@
-use Rattle.model.proofs.PatternSteps.{pattern_steps_law, pattern_steps_on_law}
+use Rattle.model.proofs.Pattern.StepsBounded.{pattern_steps_law, pattern_steps_on_law}
 use Rattle.model.proofs.laws_patterns.pattern_steps_are_bounded.Goals as goal
 
 pub returns-clause-from_start : goal.returns-clause-from_start

@@ -1,4 +1,4 @@
-use Rattle.model.proofs.StepsSound.{steps_sound}
+use Rattle.model.proofs.Pattern.StepsSound.{steps_sound}
 use Rattle.model.proofs.laws_patterns.steps_stay_within.Goals as goal
 
 pub returns : goal.returns

@@ -1,7 +1,7 @@
 use Rattle.std.proofs.Common.{refl}
-use Rattle.model.specs.Cut.{class, least_lexical}
-use Rattle.model.specs.Digits.{value}
-use Rattle.model.specs.Pieces.{first, pieces_from, pieces}
+use Rattle.model.specs.Deck.Cut.{class, least_lexical}
+use Rattle.model.specs.Deck.Digits.{value}
+use Rattle.model.specs.Deck.Pieces.{first, pieces_from, pieces}
 use Rattle.model.proofs.laws_tokens.worked_texts.Goals as goal
 
 pub returns : goal.returns

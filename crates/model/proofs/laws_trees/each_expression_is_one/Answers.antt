@@ -1,5 +1,5 @@
-use Rattle.model.proofs.ParseComplete.{expr_full}
-use Rattle.model.proofs.ParseExact.{expr_sound}
+use Rattle.model.proofs.Decks.ParseComplete.{expr_full}
+use Rattle.model.proofs.Decks.ParseExact.{expr_sound}
 use Rattle.model.proofs.laws_trees.each_expression_is_one.Goals as goal
 
 pub returns : goal.returns

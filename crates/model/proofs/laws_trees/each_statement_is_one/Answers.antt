@@ -1,5 +1,5 @@
-use Rattle.model.proofs.StatementSound.{stmt_sound}
-use Rattle.model.proofs.StatementComplete.{stmt_full}
+use Rattle.model.proofs.Decks.StatementSound.{stmt_sound}
+use Rattle.model.proofs.Decks.StatementComplete.{stmt_full}
 use Rattle.model.proofs.laws_trees.each_statement_is_one.Goals as goal
 
 pub returns : goal.returns

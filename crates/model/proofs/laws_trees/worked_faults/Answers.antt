@@ -1,12 +1,12 @@
 use Rattle.std.proofs.Common.{refl}
-use Rattle.model.specs.Cards.{deck, ended, faults_of, pieces_of, kind_of}
-use Rattle.model.specs.Cut.{class, least_lexical}
-use Rattle.model.specs.Digits.{value}
-use Rattle.model.specs.Pieces.{first, pieces_from, pieces}
-use Rattle.model.specs.Parse as parse
-use Rattle.model.specs.ParseStatements as statements
-use Rattle.model.specs.Names.{named, key_named, prim_named}
-use Rattle.model.specs.Faults.{read, faults, trees, verdict}
+use Rattle.model.specs.Deck.Cards.{deck, ended, faults_of, pieces_of, kind_of}
+use Rattle.model.specs.Deck.Cut.{class, least_lexical}
+use Rattle.model.specs.Deck.Digits.{value}
+use Rattle.model.specs.Deck.Pieces.{first, pieces_from, pieces}
+use Rattle.model.specs.Deck.Parse as parse
+use Rattle.model.specs.Deck.ParseStatements as statements
+use Rattle.model.specs.Language.Names.{named, key_named, prim_named}
+use Rattle.model.specs.Deck.Faults.{read, faults, trees, verdict}
 use Rattle.model.proofs.laws_trees.worked_faults.Goals as goal
 
 pub returns : goal.returns

@@ -1,9 +1,9 @@
 use Rattle.std.proofs.Common.{refl}
-use Rattle.model.specs.Cut.{class}
-use Rattle.model.specs.Digits.{value}
-use Rattle.model.specs.Pieces.{first, pieces_from, pieces}
-use Rattle.model.specs.Parse as parse
-use Rattle.model.specs.ParseStatements as statements
+use Rattle.model.specs.Deck.Cut.{class}
+use Rattle.model.specs.Deck.Digits.{value}
+use Rattle.model.specs.Deck.Pieces.{first, pieces_from, pieces}
+use Rattle.model.specs.Deck.Parse as parse
+use Rattle.model.specs.Deck.ParseStatements as statements
 use Rattle.model.proofs.laws_trees.worked_trees.Goals as goal
 
 pub returns : goal.returns

@@ -1,4 +1,4 @@
-use Rattle.model.proofs.IntegerLaws.{fits_in_range, faults_beyond}
+use Rattle.model.proofs.Language.Integers.{fits_in_range, faults_beyond}
 use Rattle.model.proofs.laws_values.integers_fit.Goals as goal
 
 pub returns-clause-fit : goal.returns-clause-fit

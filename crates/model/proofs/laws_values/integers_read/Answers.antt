@@ -1,4 +1,4 @@
-use Rattle.model.proofs.IntegerLaws.{reads_integers, refuses_other_texts}
+use Rattle.model.proofs.Language.Integers.{reads_integers, refuses_other_texts}
 use Rattle.model.proofs.laws_values.integers_read.Goals as goal
 
 pub returns-clause-read : goal.returns-clause-read

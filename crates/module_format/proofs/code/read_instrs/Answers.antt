@@ -1,6 +1,6 @@
 use Rattle.std.proofs.Common.{◌≡◌, ◌<◌, length, arith, refl, []}
 use Rattle.std.proofs.lemmas.Bool.Decides.{nat_tests}
-use Rattle.model.specs.Reading.{code_from}
+use Rattle.model.specs.Module.Reading.{code_from}
 use Rattle.module_format.proofs.Loops.{code_goes_on, code_stops, code_left, code_done}
 use Rattle.module_format.proofs.code.read_instrs.Goals as goal
 

@@ -1,5 +1,5 @@
 use Rattle.std.proofs.Common.{◌≡◌, ◌-◌, []}
-use Rattle.model.specs.Reading.{code_from}
+use Rattle.model.specs.Module.Reading.{code_from}
 use Rattle.module_format.proofs.code.read_instrs.Given as goal
 
 abbrev pub invariant-loop : goal.invariant-loop

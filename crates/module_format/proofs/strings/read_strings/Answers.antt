@@ -1,8 +1,8 @@
 use Rattle.std.proofs.Common.{◌≡◌, true, false, refl, sym, ◌∙◌}
 use Rattle.std.proofs.lemmas.Result.{err_from_is_err_and}
 use Rattle.model.specs.declared.format.ReadError.TheVariants as errors
-use Rattle.model.specs.Spelling.{is_new}
-use Rattle.model.specs.Reading.{table_at, string_at}
+use Rattle.model.specs.Module.Spelling.{is_new}
+use Rattle.model.specs.Module.Reading.{table_at, string_at}
 use Rattle.module_format.proofs.Loops.{goes_on, ends, is_done}
 use Rattle.module_format.proofs.Seen.{is_new_text, with_text, text_cut, text_new, text_old}
 use Rattle.module_format.proofs.strings.read_strings.Goals as goal

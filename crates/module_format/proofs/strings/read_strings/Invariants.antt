@@ -1,5 +1,5 @@
 use Rattle.std.proofs.Common.{◌≡◌, ◌-◌, map}
-use Rattle.model.specs.Reading.{entries_from, table_at, string_at}
+use Rattle.model.specs.Module.Reading.{entries_from, table_at, string_at}
 use Rattle.module_format.proofs.strings.read_strings.Given as goal
 
 abbrev pub invariant-loop : goal.invariant-loop

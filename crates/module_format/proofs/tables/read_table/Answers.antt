@@ -1,5 +1,5 @@
 use Rattle.std.proofs.lemmas.Result.{err_from_is_err_and}
-use Rattle.model.specs.Reading.{table_at}
+use Rattle.model.specs.Module.Reading.{table_at}
 use Rattle.module_format.proofs.Loops.{goes_on, ends, is_done}
 use Rattle.module_format.proofs.tables.read_table.Goals as goal
 

@@ -1,5 +1,5 @@
 use Rattle.std.proofs.Common.{◌≡◌, ◌-◌}
-use Rattle.model.specs.Reading.{entries_from, table_at}
+use Rattle.model.specs.Module.Reading.{entries_from, table_at}
 use Rattle.module_format.proofs.tables.read_table.Given as goal
 
 abbrev pub invariant-loop : goal.invariant-loop

@@ -1,6 +1,6 @@
 use Rattle.std.proofs.Common.{◌≡◌, take}
 use Rattle.std.specs.List.{flat_map}
-use Rattle.model.specs.Spelling.{instr}
+use Rattle.model.specs.Module.Spelling.{instr}
 use Rattle.module_format.proofs.writing.code_of.Given as goal
 
 abbrev pub invariant-loop-i : goal.invariant-loop-i

@@ -1,6 +1,6 @@
 use Rattle.std.proofs.Common.{◌≡◌, ◌++◌, take, length}
 use Rattle.std.specs.List.{flat_map}
-use Rattle.model.specs.Spelling.{u32}
+use Rattle.model.specs.Module.Spelling.{u32}
 use Rattle.module_format.proofs.writing.put_table.Given as goal
 
 abbrev pub invariant-loop-entry : goal.invariant-loop-entry

@@ -1,5 +1,5 @@
 use Rattle.std.proofs.Common.{◌∙◌, ◌++◌, ℕ, List, [], ap}
-use Rattle.model.specs.Spelling.{u16, u32, magic, counted, string, label, pattern, code_bytes}
+use Rattle.model.specs.Module.Spelling.{u16, u32, magic, counted, string, label, pattern, code_bytes}
 use Rattle.module_format.proofs.Written.{strings_short, patterns_short, put_as, joined}
 use Rattle.module_format.proofs.writing.write_image.Goals as goal
 

@@ -1,6 +1,6 @@
 use Rattle.std.proofs.Common.{◌≡◌, ◌∙◌, ap, sym, subst, map, take, arith}
 use Rattle.std.proofs.lemmas.Grind.{common_steps}
-use Rattle.model.specs.Faults.{is_among}
+use Rattle.model.specs.Deck.Faults.{is_among}
 use Rattle.parser.specs.Labels.{AreSame}
 use Rattle.parser.specs.Reads.{labels_of, shown}
 use Rattle.parser.proofs.ReadLists.{labels_turn}

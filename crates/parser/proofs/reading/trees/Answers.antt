@@ -1,5 +1,5 @@
 use Rattle.std.proofs.Common.{◌++◌, ◌∙◌, ap, ap₂, map, [], ◌∷◌}
-use Rattle.model.specs.TreeViews.{stmt_of}
+use Rattle.model.specs.Deck.TreeViews.{stmt_of}
 use Rattle.parser.specs.Reads.{shown, trees_of}
 use Rattle.parser.proofs.ReadLists.{none_left, tree_more, no_tree_more, trees_end}
 use Rattle.parser.proofs.reading.trees.Goals as goal

@@ -1,5 +1,5 @@
 use Rattle.std.proofs.Common.{◌≡◌, ◌++◌, map}
-use Rattle.model.specs.TreeViews.{stmt_of}
+use Rattle.model.specs.Deck.TreeViews.{stmt_of}
 use Rattle.parser.specs.Reads.{shown, trees_of}
 use Rattle.parser.proofs.reading.trees.Given as goal
 

@@ -1,9 +1,9 @@
 use Rattle.std.proofs.Common.{◌≡◌, sym, ◌∙◌, ap, ap₂, subst, inl, inr, ◌&&◌, [], drop, arith}
 use Rattle.std.proofs.lemmas.Grind.{common_steps}
-use Rattle.model.specs.Faults.{everywhere, in_args, call_fits, keyword_known, operand_fits}
-use Rattle.model.specs.Trees as tree
-use Rattle.model.specs.TreeViews.{args_of, expr_of}
-use Rattle.model.proofs.ArgumentLists.{call_is, reference_is}
+use Rattle.model.specs.Deck.Faults.{everywhere, in_args, call_fits, keyword_known, operand_fits}
+use Rattle.model.specs.Deck.Trees as tree
+use Rattle.model.specs.Deck.TreeViews.{args_of, expr_of}
+use Rattle.model.proofs.Decks.ArgumentLists.{call_is, reference_is}
 use Rattle.parser.specs.Rules.{AllKeep, Keeps}
 use Rattle.parser.specs.declared.rules.Kept.{Kept}
 use Rattle.parser.proofs.Arguments.{args_turn, args_end}

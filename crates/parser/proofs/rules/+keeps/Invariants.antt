@@ -1,6 +1,6 @@
 use Rattle.std.proofs.Common.{◌≡◌, ◌&&◌, drop}
-use Rattle.model.specs.Faults.{in_args, call_fits, keyword_known, operand_fits}
-use Rattle.model.specs.TreeViews.{args_of}
+use Rattle.model.specs.Deck.Faults.{in_args, call_fits, keyword_known, operand_fits}
+use Rattle.model.specs.Deck.TreeViews.{args_of}
 use Rattle.parser.proofs.rules.+keeps.Given as goal
 
 abbrev pub invariant-all_keep-loop-argument : goal.invariant-all_keep-loop-argument

@@ -1,9 +1,9 @@
 use Rattle.std.proofs.Common.{◌≡◌, sym, ◌∙◌, ap}
-use Rattle.model.specs.Faults.{at_most, call_fits, count}
-use Rattle.model.specs.Names.{prim_named}
-use Rattle.model.specs.Trees as tree
-use Rattle.model.specs.TreeViews.{args_of, expr_of}
-use Rattle.model.proofs.ArgumentLists.{call_is}
+use Rattle.model.specs.Deck.Faults.{at_most, call_fits, count}
+use Rattle.model.specs.Language.Names.{prim_named}
+use Rattle.model.specs.Deck.Trees as tree
+use Rattle.model.specs.Deck.TreeViews.{args_of, expr_of}
+use Rattle.model.proofs.Decks.ArgumentLists.{call_is}
 use Rattle.parser.proofs.rules.itself.Goals as goal
 
 pub returns-in-Call-clause-calls : goal.returns-in-Call-clause-calls

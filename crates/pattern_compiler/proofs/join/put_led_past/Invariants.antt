@@ -1,5 +1,5 @@
 use Rattle.std.proofs.Common.{◌≡◌, ◌++◌, drop}
-use Rattle.model.specs.PatternCode.{exits_past}
+use Rattle.model.specs.Pattern.Code.{exits_past}
 use Rattle.pattern_compiler.specs.View.{code_of}
 use Rattle.pattern_compiler.proofs.join.put_led_past.Given as goal
 

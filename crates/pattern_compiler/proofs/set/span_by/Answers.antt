@@ -1,7 +1,7 @@
 use Rattle.std.proofs.Common.{◌≡◌, ◌+◌, arith}
 use Rattle.std.specs.List.{prefix_len}
 use Rattle.std.proofs.lemmas.List.Sums.{prefix_len-le-length}
-use Rattle.model.specs.Strings.{has}
+use Rattle.model.specs.Language.Strings.{has}
 use Rattle.pattern_compiler.proofs.Sets.{span_by_flags}
 use Rattle.pattern_compiler.proofs.set.span_by.Goals as goal
 

@@ -1,6 +1,6 @@
 use Rattle.std.proofs.Common.{[], ◌∷◌, map, subst, ◌∙◌}
-use Rattle.model.specs.Machine.{codes_of}
-use Rattle.model.specs.Primitives.{prim_op}
+use Rattle.model.specs.Machine.Steps.{codes_of}
+use Rattle.model.specs.Language.Primitives.{prim_op}
 use Rattle.world.specs.Values.{value_of}
 use Rattle.world.specs.Held.{world_of}
 use Rattle.primitives.specs.Answers.{ComesTo}

@@ -1,5 +1,5 @@
 use Rattle.std.proofs.Common.{subst, sym}
-use Rattle.model.specs.Primitives.{returned}
+use Rattle.model.specs.Language.Primitives.{returned}
 use Rattle.pattern_compiler.specs.View.{kind_of}
 use Rattle.primitives.specs.Answers.{ComesTo}
 use Rattle.primitives.proofs.KindParts.{kind_is_known}

@@ -1,7 +1,7 @@
 use Rattle.std.proofs.Common.{◌≡◌, drop}
 use Rattle.match_machine.specs.View.{pending_of}
-use Rattle.model.specs.Operators.{assign_all}
-use Rattle.model.specs.Told.{IfTold}
+use Rattle.model.specs.Language.Operators.{assign_all}
+use Rattle.model.specs.Language.Told.{IfTold}
 use Rattle.unit_io.specs.Counts.{Same}
 use Rattle.world.specs.Held.{world_of}
 use Rattle.statement_machine.proofs.matches.assign_all.Given as goal

@@ -2,14 +2,14 @@ use Rattle.std.proofs.Common.{rules, arith, ◌≡◌, refl, ◌∙◌, ap, subs
 use Rattle.std.proofs.lemmas.List.{map-append}
 use Rattle.std.specs.Prelude.{Some, is_some, not}
 use Rattle.std.proofs.lemmas.Grind.{common_steps}
-use Rattle.model.specs.Parse as spec
-use Rattle.model.specs.Parse.{lefts, rights, graded, element}
-use Rattle.model.specs.Tokens as m
-use Rattle.model.specs.TreeViews.{expr_of, args_of}
+use Rattle.model.specs.Deck.Parse as spec
+use Rattle.model.specs.Deck.Parse.{lefts, rights, graded, element}
+use Rattle.model.specs.Deck.Tokens as m
+use Rattle.model.specs.Deck.TreeViews.{expr_of, args_of}
 use Rattle.stmt_parser.specs.Views as view
 use Rattle.stmt_parser.specs.Views.{Reads}
 use Rattle.stmt_parser.proofs.Loops.{one_more, no_more, lefts_stop, lefts_go, lefts_end, graded_left, onto, rights_none, rights_stop, rights_go, rights_start, rights_end, stopped, went_on, prepend, several_go, several_end, several_start}
-use Rattle.model.proofs.ArgumentLists.{call_is, reference_is}
+use Rattle.model.proofs.Decks.ArgumentLists.{call_is, reference_is}
 use Rattle.stmt_parser.proofs.expressions.+expr.Goals as goal
 
 pub graded-returns : goal.graded-returns

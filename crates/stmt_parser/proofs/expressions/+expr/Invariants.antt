@@ -1,6 +1,6 @@
 use Rattle.std.proofs.Common.{◌≡◌, ◌+◌, ◌-◌, ◌*◌, length, map}
-use Rattle.model.specs.Parse.{lefts, rights, graded, element, whole, several}
-use Rattle.model.specs.TreeViews.{expr_of, args_of}
+use Rattle.model.specs.Deck.Parse.{lefts, rights, graded, element, whole, several}
+use Rattle.model.specs.Deck.TreeViews.{expr_of, args_of}
 use Rattle.stmt_parser.proofs.Loops.{prepend, onto}
 use Rattle.stmt_parser.proofs.expressions.+expr.Given as goal
 

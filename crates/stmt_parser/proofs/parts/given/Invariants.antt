@@ -1,6 +1,6 @@
 use Rattle.std.proofs.Common.{◌≡◌, drop}
-use Rattle.model.specs.Grammar as grammar
-use Rattle.model.specs.TreeViews.{args_of}
+use Rattle.model.specs.Deck.Grammar as grammar
+use Rattle.model.specs.Deck.TreeViews.{args_of}
 use Rattle.stmt_parser.proofs.parts.given.Given as goal
 
 abbrev pub invariant-loop-argument : goal.invariant-loop-argument

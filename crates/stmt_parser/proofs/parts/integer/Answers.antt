@@ -1,5 +1,5 @@
 use Rattle.std.proofs.Common.{refl, arith}
-use Rattle.model.specs.Digits.{value}
+use Rattle.model.specs.Deck.Digits.{value}
 use Rattle.stmt_parser.proofs.Digits.{turn}
 use Rattle.stmt_parser.proofs.parts.integer.Goals as goal
 

@@ -1,6 +1,6 @@
 use Rattle.std.proofs.Common.{◌≡◌, drop, true}
-use Rattle.model.specs.Cut.{all, is_digit}
-use Rattle.model.specs.Digits.{value, value_from}
+use Rattle.model.specs.Deck.Cut.{all, is_digit}
+use Rattle.model.specs.Deck.Digits.{value, value_from}
 use Rattle.stmt_parser.proofs.parts.integer.Given as goal
 
 abbrev pub invariant-loop-digit : goal.invariant-loop-digit

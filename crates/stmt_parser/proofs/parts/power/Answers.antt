@@ -1,6 +1,6 @@
 use Rattle.std.proofs.Common.{◌≡◌, sym, ◌∙◌, ap, map, ◌∷◌, ◌++◌, []}
 use Rattle.std.proofs.lemmas.List.{map-append}
-use Rattle.model.specs.TreeViews.{expr_of}
+use Rattle.model.specs.Deck.TreeViews.{expr_of}
 use Rattle.stmt_parser.specs.Powers.{powers}
 use Rattle.stmt_parser.proofs.Powers.{powers_last}
 use Rattle.stmt_parser.proofs.parts.power.Goals as goal

@@ -1,5 +1,5 @@
 use Rattle.std.proofs.Common.{◌≡◌, map, length}
-use Rattle.model.specs.TreeViews.{expr_of}
+use Rattle.model.specs.Deck.TreeViews.{expr_of}
 use Rattle.stmt_parser.specs.Powers.{powers}
 use Rattle.stmt_parser.proofs.parts.power.Given as goal
 

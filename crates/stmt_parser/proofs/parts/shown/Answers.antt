@@ -1,8 +1,8 @@
 use Rattle.std.proofs.Common.{arith, ◌≡◌, refl, subst, ◌≤◌, List, [], ◌∷◌, length}
 use Rattle.model.specs.declared.trees.Argument.{Argument}
-use Rattle.model.specs.Trees as m
-use Rattle.model.specs.Grammar as grammar
-use Rattle.model.specs.TreeViews.{arg_of, args_of}
+use Rattle.model.specs.Deck.Trees as m
+use Rattle.model.specs.Deck.Grammar as grammar
+use Rattle.model.specs.Deck.TreeViews.{arg_of, args_of}
 use Rattle.stmt_parser.proofs.parts.shown.Goals as goal
 
 itself : (a b : m.Arg) (c : m.Args) → m.More a (m.More b c) ≡ grammar.shown (m.More a (m.More b c))

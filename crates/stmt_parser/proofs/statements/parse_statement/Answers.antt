@@ -1,9 +1,9 @@
 use Rattle.std.proofs.Common.{refl, inr, subst}
-use Rattle.model.specs.ParseStatements.{stmt}
-use Rattle.model.specs.Tokens.{toks}
-use Rattle.model.specs.TreeViews.{stmt_of}
-use Rattle.model.proofs.StatementComplete.{no_tree}
-use Rattle.model.proofs.StatementSound.{stmt_sound}
+use Rattle.model.specs.Deck.ParseStatements.{stmt}
+use Rattle.model.specs.Deck.Tokens.{toks}
+use Rattle.model.specs.Deck.TreeViews.{stmt_of}
+use Rattle.model.proofs.Decks.StatementComplete.{no_tree}
+use Rattle.model.proofs.Decks.StatementSound.{stmt_sound}
 use Rattle.stmt_parser.specs.Views.{Fails}
 use Rattle.stmt_parser.proofs.statements.parse_statement.Goals as goal
 

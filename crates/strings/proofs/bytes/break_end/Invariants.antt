@@ -1,5 +1,5 @@
 use Rattle.std.proofs.Common.{◌≡◌}
-use Rattle.model.specs.Strings.{break_to}
+use Rattle.model.specs.Language.Strings.{break_to}
 use Rattle.strings.proofs.bytes.break_end.Given as goal
 
 abbrev pub invariant-loop-k : goal.invariant-loop-k

@@ -1,5 +1,5 @@
 use Rattle.std.proofs.Common.{◌≡◌, ◌-◌, ◌≤◌, length}
-use Rattle.model.specs.Strings.{span_to}
+use Rattle.model.specs.Language.Strings.{span_to}
 use Rattle.strings.proofs.bytes.span_end.Given as goal
 
 abbrev pub invariant-loop-end : goal.invariant-loop-end

@@ -1,6 +1,6 @@
 use Rattle.std.proofs.Common.{◌≡◌, ◌+◌, ◌≤◌, length, take}
 use Rattle.std.specs.List.{suffix_len}
-use Rattle.model.specs.Strings.{is_blank}
+use Rattle.model.specs.Language.Strings.{is_blank}
 use Rattle.strings.proofs.bytes.trim_end.Given as goal
 
 abbrev pub invariant-loop-end : goal.invariant-loop-end

@@ -4,7 +4,7 @@ use Rattle.std.proofs.lemmas.Bool.{cases_eq}
 use Rattle.std.proofs.lemmas.List.{take_more, length-take, get_or-set_same, get_or-set_other, length-set}
 use Rattle.std.specs.Prelude.{◌==◌, if◌then◌else◌}
 use Rattle.strings.proofs.Lists.{replaced_or-push}
-use Rattle.model.specs.Strings.{replaced}
+use Rattle.model.specs.Language.Strings.{replaced}
 use Rattle.strings.proofs.text.replacements.Goals as goal
 
 step : (fs ts table : List ℕ) (k j : ℕ) → k < length fs → k < length ts → get_or fs k 0 < length table → get_or table j 0 ≡ replaced (take k fs) (take k ts) j → get_or (set table (get_or fs k 0) (get_or ts k 0)) j 0 ≡ replaced (take (k + 1) fs) (take (k + 1) ts) j

@@ -1,5 +1,5 @@
 use Rattle.std.proofs.Common.{◌≡◌, ℕ, ◌<◌, length, take, get_or}
-use Rattle.model.specs.Strings.{replaced}
+use Rattle.model.specs.Language.Strings.{replaced}
 use Rattle.strings.proofs.text.replacements.Given as goal
 
 abbrev pub invariant-loop-b : goal.invariant-loop-b

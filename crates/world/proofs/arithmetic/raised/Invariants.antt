@@ -1,5 +1,5 @@
 use Rattle.std.proofs.Common.{◌≡◌}
-use Rattle.model.specs.Operators.{power}
+use Rattle.model.specs.Language.Operators.{power}
 use Rattle.world.proofs.arithmetic.raised.Given as goal
 
 abbrev pub invariant-loop-turn : goal.invariant-loop-turn

@@ -1,5 +1,5 @@
 use Rattle.std.proofs.Common.{◌≡◌, ◌≤◌, take}
-use Rattle.model.specs.Aggregates.{row_count}
+use Rattle.model.specs.Language.Aggregates.{row_count}
 use Rattle.aggregates.specs.Keys.{entries_of}
 use Rattle.aggregates.proofs.table.Table.row_count.Given as goal
 

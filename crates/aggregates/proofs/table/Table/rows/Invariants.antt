@@ -1,5 +1,5 @@
 use Rattle.std.proofs.Common.{◌≡◌, take}
-use Rattle.model.specs.Aggregates.{rows}
+use Rattle.model.specs.Language.Aggregates.{rows}
 use Rattle.aggregates.specs.Keys.{entries_of}
 use Rattle.aggregates.proofs.table.Table.rows.Given as goal
 

@@ -1,6 +1,6 @@
 use Rattle.std.proofs.Common.{ap, ◌∙◌}
 use Rattle.aggregates.specs.Keys.{key_of}
-use Rattle.model.specs.Operators.{with_entry}
+use Rattle.model.specs.Language.Operators.{with_entry}
 use Rattle.aggregates.proofs.Entries.{inserted, keys_told}
 use Rattle.aggregates.proofs.table.Table.set.Goals as goal
 

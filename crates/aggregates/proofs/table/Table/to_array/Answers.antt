@@ -1,5 +1,5 @@
 use Rattle.std.proofs.Common.{◌*◌, length, ap, sym, ◌∙◌}
-use Rattle.model.specs.Prototypes.{elements_in}
+use Rattle.model.specs.Language.Prototypes.{elements_in}
 use Rattle.aggregates.proofs.Entries.{length-rows}
 use Rattle.aggregates.proofs.table.Table.to_array.Goals as goal
 

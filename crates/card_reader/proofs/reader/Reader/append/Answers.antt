@@ -1,7 +1,7 @@
 use Rattle.std.proofs.Common.{◌∙◌, ◌+◌, sym, ap, subst, arith, length, take, drop}
 use Rattle.std.specs.Prelude.{◌++◌, ◌∷◌, [], Ok, None}
 use Rattle.std.proofs.lemmas.List.{length-drop}
-use Rattle.model.specs.Cards.{placed, split}
+use Rattle.model.specs.Deck.Cards.{placed, split}
 use Rattle.card_reader.specs.declared.reader.Stop.TheVariants as stop
 use Rattle.card_reader.specs.Parts.{glue, all_pieces}
 use Rattle.card_reader.specs.Reading.{IsStop, IsRead, IsPieceEnd, Ends}

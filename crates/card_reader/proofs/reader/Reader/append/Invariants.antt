@@ -1,7 +1,7 @@
 use Rattle.std.proofs.Common.{◌≡◌, ◌≤◌, ◌+◌, length}
 use Rattle.std.specs.Prelude.{Option}
 use Rattle.model.specs.declared.cards.CardFault.{CardFault}
-use Rattle.model.specs.Cards.{placed}
+use Rattle.model.specs.Deck.Cards.{placed}
 use Rattle.card_reader.specs.Parts.{Parts, appended}
 use Rattle.card_reader.specs.Reading.{Holds}
 use Rattle.card_reader.proofs.reader.Reader.append.Given as goal

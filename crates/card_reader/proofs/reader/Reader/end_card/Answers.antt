@@ -1,6 +1,6 @@
 use Rattle.std.proofs.Common.{◌∙◌, refl, ap}
 use Rattle.std.specs.Prelude.{codes, ◌++◌}
-use Rattle.model.specs.Cards.{placed, is_word_first}
+use Rattle.model.specs.Deck.Cards.{placed, is_word_first}
 use Rattle.card_reader.specs.Parts.{parts}
 use Rattle.card_reader.proofs.Keeping.{extends, requoted, is_read_end, is_read_on}
 use Rattle.card_reader.proofs.reader.Reader.end_card.Goals as goal

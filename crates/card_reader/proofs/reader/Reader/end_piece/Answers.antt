@@ -1,6 +1,6 @@
 use Rattle.std.proofs.Common.{◌∙◌, refl, ap}
 use Rattle.std.specs.Prelude.{codes, ◌++◌}
-use Rattle.model.specs.Cards.{placed, is_word_first}
+use Rattle.model.specs.Deck.Cards.{placed, is_word_first}
 use Rattle.card_reader.specs.Parts.{parts}
 use Rattle.card_reader.proofs.Keeping.{extends, piece_ends}
 use Rattle.card_reader.proofs.reader.Reader.end_piece.Goals as goal

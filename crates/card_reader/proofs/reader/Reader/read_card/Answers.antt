@@ -1,6 +1,6 @@
 use Rattle.std.proofs.Common.{◌∙◌, ap, subst, arith, length}
 use Rattle.std.specs.Prelude.{is_some}
-use Rattle.model.specs.Cards.{kind_of_columns}
+use Rattle.model.specs.Deck.Cards.{kind_of_columns}
 use Rattle.card_reader.specs.declared.reader.Reader.{Reader}
 use Rattle.card_reader.specs.Parts.{step}
 use Rattle.card_reader.specs.Reading.{kind_of, kind_fault, bad_byte, merge, IsCardRead}

@@ -1,6 +1,6 @@
 use Rattle.std.proofs.Common.{◌≡◌, ◌≤◌, ◌∙◌, ◌++◌, ◌∷◌, [], sym, ap, arith, length, map, subst}
 use Rattle.std.proofs.lemmas.List.{length-map}
-use Rattle.model.specs.TreeViews.{expr_of}
+use Rattle.model.specs.Deck.TreeViews.{expr_of}
 use Rattle.expr_codegen.specs.Views.{gen_of}
 use Rattle.expr_codegen.proofs.Joins.{size_waiting, map_snoc}
 use Rattle.expr_codegen.proofs.generator.Generator.defer.Goals as goal

@@ -1,5 +1,5 @@
 use Rattle.std.proofs.Common.{◌≡◌, ap, arith}
-use Rattle.model.specs.Modules.{total, bytes}
+use Rattle.model.specs.Module.Images.{total, bytes}
 use Rattle.expr_codegen.proofs.Joins.{total_snoc}
 use Rattle.expr_codegen.proofs.generator.Generator.put.Goals as goal
 

@@ -1,5 +1,5 @@
 use Rattle.std.proofs.Common.{◌≡◌, refl}
-use Rattle.model.specs.TreeViews.{expr_of}
+use Rattle.model.specs.Deck.TreeViews.{expr_of}
 use Rattle.expr_codegen.proofs.Joins.{drop_here}
 use Rattle.expr_codegen.proofs.generator.Generator.take.Goals as goal
 

@@ -1,5 +1,5 @@
 use Rattle.std.proofs.Common.{◌∷◌, arith, length, ◌<◌, ◌-◌, ◌^◌}
-use Rattle.model.specs.Flow.{N}
+use Rattle.model.specs.Module.Flow.{N}
 use Rattle.flow_check.proofs.pool.Pool.push_both.Goals as goal
 
 pub push-requires-2 : goal.push-requires-2

@@ -1,5 +1,5 @@
 use Rattle.std.proofs.Common.{◌∷◌, List, ◌∙◌, ap, reverse}
-use Rattle.model.specs.Steps.{Code}
+use Rattle.model.specs.Pattern.Steps.{Code}
 use Rattle.match_machine.specs.Standing.{Back}
 use Rattle.match_machine.specs.Logs.{chain, pending_of, backs, logs_of}
 use Rattle.match_machine.proofs.Chains.{more_codes, keep_marks, keep_backs}

@@ -1,5 +1,5 @@
 use Rattle.std.proofs.Common.{◌≡◌, ◌∷◌, ℕ, ◌∙◌, sym, ap, subst, length, OnOk}
-use Rattle.model.specs.Steps as s
+use Rattle.model.specs.Pattern.Steps as s
 use Rattle.match_machine.specs.Standing.{Standing}
 use Rattle.match_machine.specs.Logs.{logs_of}
 use Rattle.match_machine.proofs.Chains.{count_choices}

@@ -1,5 +1,5 @@
 use Rattle.std.proofs.Common.{◌∙◌, ap}
-use Rattle.model.specs.Faults.{is_among}
+use Rattle.model.specs.Deck.Faults.{is_among}
 use Rattle.parser.proofs.LabelSets.{among_keys}
 use Rattle.parser.proofs.labels.Labels.contains.Goals as goal
 

@@ -1,5 +1,5 @@
 use Rattle.std.proofs.Common.{◌∙◌, ap, sym}
-use Rattle.model.specs.Faults.{labels_of_read}
+use Rattle.model.specs.Deck.Faults.{labels_of_read}
 use Rattle.parser.specs.Reads.{result_of}
 use Rattle.parser.proofs.LabelSets.{is_put}
 use Rattle.parser.proofs.labels.Labels.insert_given.Goals as goal

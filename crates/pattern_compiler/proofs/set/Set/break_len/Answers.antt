@@ -1,5 +1,5 @@
 use Rattle.std.proofs.Common.{◌∙◌, ap}
-use Rattle.model.specs.Strings.{flags_of}
+use Rattle.model.specs.Language.Strings.{flags_of}
 use Rattle.pattern_compiler.proofs.set.Set.break_len.Goals as goal
 
 pub returns-in-None-clause-value : goal.returns-in-None-clause-value

@@ -1,5 +1,5 @@
 use Rattle.std.proofs.Common.{◌≡◌, ◌∙◌, ap}
-use Rattle.model.specs.Strings.{has, flags_of}
+use Rattle.model.specs.Language.Strings.{has, flags_of}
 use Rattle.pattern_compiler.proofs.Sets.{has-flags_of, at_some}
 use Rattle.pattern_compiler.proofs.set.Set.has.Goals as goal
 

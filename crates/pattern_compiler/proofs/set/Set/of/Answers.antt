@@ -1,5 +1,5 @@
 use Rattle.std.proofs.Common.{◌∙◌, ap}
-use Rattle.model.specs.Strings.{flags_of}
+use Rattle.model.specs.Language.Strings.{flags_of}
 use Rattle.pattern_compiler.proofs.set.Set.of.Goals as goal
 
 pub invariant_of-result : goal.invariant_of-result

@@ -1,5 +1,5 @@
 use Rattle.std.proofs.Common.{◌≡◌, ◌∙◌, ap, sym}
-use Rattle.model.specs.Strings.{flags_of}
+use Rattle.model.specs.Language.Strings.{flags_of}
 use Rattle.pattern_compiler.proofs.Sets.{at_some, from_some, from_none}
 use Rattle.pattern_compiler.proofs.set.SetClone.clone.Goals as goal
 use Rattle.pattern_compiler.proofs.set.SetClone.clone.Goals.{in-Some+in_ok-clone-in-Some, in-None}

@@ -1,5 +1,5 @@
 use Rattle.std.proofs.Common.{◌≡◌, [], Some, sym, ap, ◌∙◌, subst}
-use Rattle.model.specs.Machine.{Run, fail_to}
+use Rattle.model.specs.Machine.Steps.{Run, fail_to}
 use Rattle.frames.specs.View.{operands_of, handlers_of}
 use Rattle.frames.specs.Failing.{caught_at}
 use Rattle.world.specs.Held.{world_of}

@@ -1,6 +1,6 @@
 use Rattle.std.proofs.Common.{◌∙◌, [], Ok, Err, ap, subst, sym}
-use Rattle.model.specs.Machine.{to_known, to_return}
-use Rattle.model.specs.Modules.{module_of}
+use Rattle.model.specs.Machine.Steps.{to_known, to_return}
+use Rattle.model.specs.Module.Images.{module_of}
 use Rattle.world.specs.Held.{world_of}
 use Rattle.statement_machine.specs.Held.{Left}
 use Rattle.statement_machine.proofs.Flowing.{is_there}

@@ -1,7 +1,7 @@
 use Rattle.std.proofs.Common.{[], refl, sym, ap, ◌∙◌, drop, subst}
-use Rattle.model.specs.Calls.{return_of}
-use Rattle.model.specs.Machine.{to_return}
-use Rattle.model.specs.Modules.{module_of}
+use Rattle.model.specs.Language.Calls.{return_of}
+use Rattle.model.specs.Machine.Steps.{to_return}
+use Rattle.model.specs.Module.Images.{module_of}
 use Rattle.frames.specs.Kinds.{kinds_of}
 use Rattle.world.specs.Held.{world_of}
 use Rattle.statement_machine.specs.Held.{Left}

@@ -1,8 +1,8 @@
 use Rattle.std.proofs.Common.{◌≡◌, sym, ◌∙◌, ap, subst, drop}
 use Rattle.std.proofs.lemmas.List.{drop-map}
-use Rattle.model.specs.Lexed.{Lexed}
-use Rattle.model.specs.Parse as spec
-use Rattle.model.specs.Tokens.{tok, toks}
+use Rattle.model.specs.Deck.Lexed.{Lexed}
+use Rattle.model.specs.Deck.Parse as spec
+use Rattle.model.specs.Deck.Tokens.{tok, toks}
 use Rattle.stmt_parser.specs.Views as view
 use Rattle.stmt_parser.proofs.Lexed.{lexed_drop, rest_is}
 use Rattle.stmt_parser.proofs.cursor.Cursor.operator.Goals as goal

@@ -1,5 +1,5 @@
 use Rattle.std.proofs.Common.{◌≡◌, ◌<◌, ◌∙◌, sym, ap, subst, Some}
-use Rattle.model.specs.Units.{bytes_on}
+use Rattle.model.specs.Language.Units.{bytes_on}
 use Rattle.unit_io.specs.Held.{Held, IsKept, place_of, side_at, written_by, printed_of, output_of}
 use Rattle.unit_io.proofs.OpenSides.{within, nowhere}
 use Rattle.unit_io.proofs.Calls.{side_is}

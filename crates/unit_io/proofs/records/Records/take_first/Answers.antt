@@ -1,6 +1,6 @@
 use Rattle.std.proofs.Common.{◌≡◌, ℕ, ◌+◌, ◌-◌, ◌<◌, List, length, take, drop, Some, subst, ap, ◌∙◌, arith}
 use Rattle.std.specs.Prelude.{slice_range}
-use Rattle.model.specs.Units.{records_of, first_of, rest_of}
+use Rattle.model.specs.Language.Units.{records_of, first_of, rest_of}
 use Rattle.memchr.specs.Find.{IsFirstByte, is_byte}
 use Rattle.unit_io.proofs.FirstLine.{took_line, took_all}
 use Rattle.unit_io.proofs.records.Records.take_first.Goals as goal

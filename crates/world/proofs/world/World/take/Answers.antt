@@ -1,5 +1,5 @@
 use Rattle.std.proofs.Common.{ap, ◌∙◌}
-use Rattle.model.specs.Keywords.{IsInteger}
+use Rattle.model.specs.Language.Keywords.{IsInteger}
 use Rattle.world.specs.Held.{world_of}
 use Rattle.world.proofs.UnitCalls.{too_long, taken_as}
 use Rattle.world.proofs.world.World.take.Goals as goal

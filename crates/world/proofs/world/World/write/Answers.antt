@@ -1,5 +1,5 @@
 use Rattle.std.proofs.Common.{ap, ◌∙◌, sym}
-use Rattle.model.specs.Keywords.{is_zero}
+use Rattle.model.specs.Language.Keywords.{is_zero}
 use Rattle.world.proofs.UnitCalls.{written}
 use Rattle.world.proofs.world.World.write.Goals as goal
 

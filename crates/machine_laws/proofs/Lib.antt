@@ -1,8 +1,0 @@
-pub mod Lists
-pub mod OperationsIn
-pub mod PrimitivesIn
-pub mod SearchIn
-pub mod MachineIn
-pub mod ImagesIn
-pub mod Complete
-pub mod Standing

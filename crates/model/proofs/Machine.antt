@@ -1,0 +1,24 @@
+-- Room: Lemmas on the machine: it follows the meaning, in time, and never lacks what it needs.
+pub mod StepsPrint
+pub mod StepsAfter
+pub mod Matches
+pub mod OperationsAlike
+pub mod PrimitivesAlike
+pub mod Asking
+pub mod Following
+pub mod CallsFollow
+pub mod ExpressionsFollow
+pub mod MatchesFollow
+pub mod StatementsFollow
+pub mod Agreement
+pub mod Pacing
+pub mod MatchesPaced
+pub mod RunsBounded
+pub mod Lists
+pub mod OperationsIn
+pub mod PrimitivesIn
+pub mod SearchIn
+pub mod StepsIn
+pub mod ImagesIn
+pub mod Complete
+pub mod Standing

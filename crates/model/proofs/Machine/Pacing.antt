@@ -1,0 +1,76 @@
+-- How many steps of the machine are enough, where each rule is followed at a known pace.
+use Rattle.std.proofs.Common.{ℕ, suc, ◌+◌, ◌*◌, ◌≤◌, Option, sym, subst, arith}
+use Rattle.model.specs.Deck.Trees.{Expr}
+use Rattle.model.specs.Language.Programs.{Program}
+use Rattle.model.specs.Language.Meaning.{W, Res, Done, Fails, Ends, Open, Query, QVal, QName, QArgs, QBody, QExec, QMatch, Rule, Ret, Fail, Stop, Ask, Seek, after, meaning}
+use Rattle.model.specs.Machine.Steps.{MW, Module, State, steps}
+use Rattle.model.specs.Machine.Alike.{WR}
+use Rattle.model.specs.Language.RulesUsed.{after_count, follow_count, count}
+use Rattle.model.proofs.Language.MeaningGrows.{at_depth}
+use Rattle.model.proofs.Machine.Following.{Task, start, done, failed, rank, extra, Stopped, Follows, steps_add}
+
+module _ (prog : Program) (img : Module) (trees_at : ℕ → Option Expr) where
+  -- the pattern steps that a match has made already
+  abbrev pub spent : (q : Query) → Task prog img trees_at q → ℕ
+  spent (QVal e) t = 0
+  spent (QName e) t = 0
+  spent (QArgs xs) t = 0
+  spent (QBody b) t = 0
+  spent (QExec k) t = 0
+  spent (QMatch s p left u) t = t.so_far
+
+  -- after i steps that are done, n in all are enough for a result; nothing is said while it is open
+  abbrev pub Reaches : {A : Type 0} → (i n : ℕ) → State → (A → W → State → Type 0) → (W → State → Type 0) → Res A → Type 0
+  Reaches i n c Q F (Done a w) = (j : ℕ) × (i + j ≤ n) × Q a w (steps img j c)
+  Reaches i n c Q F (Fails w) = (j : ℕ) × (i + j ≤ n) × F w (steps img j c)
+  Reaches i n c Q F (Ends e w) = (j : ℕ) × (i + j ≤ suc n) × Stopped prog img trees_at e w (steps img j c)
+  Reaches i n c Q F (Open w) = Unit {0}
+
+  pub reaches_from : {A : Type 0} (j i i' n m : ℕ) (c : State) (Q : A → W → State → Type 0) (F : W → State → Type 0) (r : Res A) → i + j + n ≤ i' + m → Reaches i' n (steps img j c) Q F r → Reaches i m c Q F r
+  reaches_from j i i' n m c Q F (Done a w) le (l, h, x) = (j + l, omega arith, subst (Q a w) (sym (steps_add prog img trees_at j l c)) x)
+  reaches_from j i i' n m c Q F (Fails w) le (l, h, x) = (j + l, omega arith, subst (F w) (sym (steps_add prog img trees_at j l c)) x)
+  reaches_from j i i' n m c Q F (Ends e w) le (l, h, x) = (j + l, omega arith, subst (Stopped prog img trees_at e w) (sym (steps_add prog img trees_at j l c)) x)
+  reaches_from j i i' n m c Q F (Open w) le x = tt
+
+  -- a result, and what follows it
+  pub reaches_after : {A B : Type 0} (i n l m : ℕ) (c : State) (Q : A → W → State → Type 0) (F : W → State → Type 0) (Q' : B → W → State → Type 0) (F' : W → State → Type 0) (r : Res A) (k : A → W → Res B) (f : W → Res B) (kc : A → W → ℕ) (fc : W → ℕ)
+      → i + n + l + 7 * after_count r kc fc ≤ m → Reaches 0 n (steps img i c) Q F r
+      → ((a : A) (w : W) (d : State) → Q a w d → Reaches 0 (l + 7 * kc a w) d Q' F' (k a w)) → ((w : W) (d : State) → F w d → Reaches 0 (l + 7 * fc w) d Q' F' (f w))
+      → Reaches 0 m c Q' F' (after r k f)
+  reaches_after i n l m c Q F Q' F' (Done a w) k f kc fc le (j, h, x) hk hf =
+      reaches_from i 0 0 (n + (l + 7 * kc a w)) m c Q' F' (k a w) (omega arith) (reaches_from j 0 0 (l + 7 * kc a w) (n + (l + 7 * kc a w)) (steps img i c) Q' F' (k a w) (omega arith) (hk a w (steps img j (steps img i c)) x))
+  reaches_after i n l m c Q F Q' F' (Fails w) k f kc fc le (j, h, x) hk hf =
+      reaches_from i 0 0 (n + (l + 7 * fc w)) m c Q' F' (f w) (omega arith) (reaches_from j 0 0 (l + 7 * fc w) (n + (l + 7 * fc w)) (steps img i c) Q' F' (f w) (omega arith) (hf w (steps img j (steps img i c)) x))
+  reaches_after i n l m c Q F Q' F' (Ends e w) k f kc fc le x hk hf = reaches_from i 0 0 n m c Q' F' (Ends e w) (omega arith) x
+  reaches_after i n l m c Q F Q' F' (Open w) k f kc fc le x hk hf = tt
+
+  -- at the depth n: seven steps for each rule, and the extra ones
+  abbrev pub SimPaced : ℕ → Type 0
+  SimPaced n = (q : Query) (t : Task prog img trees_at q) (w : W) (w' : MW) → WR trees_at w w' → Reaches (spent q t) (7 * count prog n q w + extra q) (start prog img trees_at q t w') (done prog img trees_at q t) (failed prog img trees_at q t) (meaning prog n q w)
+
+  -- the same from a start without steps before
+  fresh : {A : Type 0} (i n : ℕ) (c : State) (Q : A → W → State → Type 0) (F : W → State → Type 0) (r : Res A) → Reaches i n c Q F r → Reaches 0 n c Q F r
+  fresh i n c Q F (Done a w) (j, h, x) = (j, omega arith, x)
+  fresh i n c Q F (Fails w) (j, h, x) = (j, omega arith, x)
+  fresh i n c Q F (Ends e w) (j, h, x) = (j, omega arith, x)
+  fresh i n c Q F (Open w) x = tt
+
+  abbrev pub count_at : {A : Type 0} → ℕ → Rule A → ℕ
+  count_at n p = follow_count (suc n) (λ r v. meaning prog n r v) (λ r v. count prog n r v) p
+
+  pub follow_reaches : {A : Type 0} (n : ℕ) → SimPaced n → (r b : ℕ) → 1 ≤ r → (c : State) (Q : A → W → State → Type 0) (F : W → State → Type 0) (p : Rule A) → Follows prog img trees_at r b c Q F p → Reaches 0 (b + 7 * count_at n p) c Q F (at_depth prog n p)
+  follow_reaches n sim r b up c Q F (Ret a w) (j, le, x) = (j, omega arith, x)
+  follow_reaches n sim r b up c Q F (Fail w) (j, le, x) = (j, omega arith, x)
+  follow_reaches n sim r b up c Q F (Stop e w) (j, le, x) = (j, omega arith, x)
+  follow_reaches n sim r b up c Q F (Ask q w k f) x =
+      let above : suc (rank q) ≤ x.5 = x.6 in
+      let le : x.0 + extra q + x.8 ≤ b = x.9 in
+      let one : 1 ≤ x.5 = omega (arith, above) in
+      reaches_after x.0 (7 * count prog n q w + extra q) x.8 (b + 7 * count_at n (Ask q w k f)) c (done prog img trees_at q x.1) (failed prog img trees_at q x.1) Q F (meaning prog n q w)
+      (λ a u. at_depth prog n (k a u)) (λ u. at_depth prog n (f u)) (λ a u. count_at n (k a u)) (λ u. count_at n (f u)) (omega (arith, le))
+      (subst (λ s. Reaches 0 (7 * count prog n q w + extra q) s (done prog img trees_at q x.1) (failed prog img trees_at q x.1) (meaning prog n q w)) (sym x.3)
+      (fresh (spent q x.1) (7 * count prog n q w + extra q) (start prog img trees_at q x.1 x.2) (done prog img trees_at q x.1) (failed prog img trees_at q x.1) (meaning prog n q w) (sim q x.1 w x.2 x.4)))
+      (λ a u d h. follow_reaches n sim x.5 x.8 one d Q F (k a u) (x.10 a u d h)) (λ u d h. follow_reaches n sim x.5 x.8 one d Q F (f u) (x.11 u d h))
+  follow_reaches n sim r b up c Q F (Seek g w k) x =
+      let none : r ≤ 0 = x.0 in
+      absurd (omega (arith, up, none))

@@ -1,0 +1,9 @@
+-- Room: Worked cases, computed.
+pub mod Decks
+pub mod Statements
+pub mod Matches
+pub mod Objects
+pub mod Module
+pub mod Counts
+pub mod Flow
+pub mod Patterns

@@ -1,0 +1,70 @@
+-- All faults of well-formedness that an image has, in no order, and that the least of them is told.
+use Rattle.std.specs.Prelude.{◌≡◌, ℕ, ◌+◌, ◌≤◌, ◌<◌, List, ◌∷◌, ◌++◌, length, map, Option, Some, None, not, ◌&&◌, ◌||◌, ◌==◌, ◌⊎◌}
+use Rattle.std.specs.List.{sum}
+use Rattle.model.specs.declared.format.ModuleFault.{ModuleFault}
+use Rattle.model.specs.declared.format.ModuleRule.{ModuleRule}
+use Rattle.model.specs.declared.format.ModuleRule.TheVariants.{BadIndex, BadTarget, BadFlow, NoEnd}
+use Rattle.model.specs.declared.image.Image.{Image}
+use Rattle.model.specs.declared.image.PatInstr.{PatInstr}
+use Rattle.model.specs.declared.instr.Instr.{Instr}
+use Rattle.model.specs.Module.Images.{bytes, total}
+use Rattle.model.specs.Module.Flow.{BreaksFlow}
+use Rattle.model.specs.Module.WellFormed.{rule, entry_at, labels_at, statements_at, expressions_at, patterns_at, code_at, entry_rule, label_rule, statement_rule, expression_rule, pat_rule, pat_bytes, pattern_bytes, indices_fit, place_fits, is_last_instr, is_end, begins_last, number_of, IsWellFormed, IsTold}
+
+-- a broken rule, told at an offset
+abbrev pub IsAt : ℕ → Option ModuleRule → ModuleFault → Type 0
+IsAt at r f = (f.offset ≡ at) × (r ≡ Some f.rule)
+
+-- a fault of one of several parts, which stand one behind the other from a place on, each so many bytes wide
+abbrev pub Among : {A : Type 0} → (List A → ℕ → A → ModuleFault → Type 0) → (A → ℕ) → ℕ → List A → ModuleFault → Type 0
+Among {A} fault width at xs f = (front : List A) × (x : A) × (back : List A) × (xs ≡ front ++ x ∷ back) × fault front (at + sum (map width front)) x f
+
+-- an instruction may break several rules
+abbrev pub index_rule : Image → Instr → Option ModuleRule
+index_rule im i = rule BadIndex (indices_fit im i)
+
+abbrev pub target_rule : Image → ℕ → ℕ → Instr → Option ModuleRule
+target_rule im at next i = rule BadTarget (place_fits im at i && (is_last_instr i || not (next == total im.code)))
+
+abbrev pub end_rule : Image → ℕ → Instr → Option ModuleRule
+end_rule im at i = rule NoEnd (is_end i || not (begins_last im at))
+
+abbrev pub InInstr : Image → List Instr → ℕ → Instr → ModuleFault → Type 0
+InInstr im front at i f =
+    IsAt at (index_rule im i) f ⊎ (IsAt at (target_rule im (total front) (total front + bytes i) i) f ⊎ IsAt at (end_rule im (total front) i) f)
+
+abbrev pub InPattern : Image → List (List PatInstr) → ℕ → List PatInstr → ModuleFault → Type 0
+InPattern im front at is = Among (λ before place i. IsAt place (pat_rule im (length is) before i)) pat_bytes (at + 4) is
+
+-- a fault that the image has
+pub data Has (im : Image) (f : ModuleFault) : Type 0 where
+  InEntry : IsAt entry_at (entry_rule im) f → Has im f
+  InLabels : Among (λ front at l. IsAt at (label_rule im front l)) (λ l. 8) (labels_at im) im.labels f → Has im f
+  InStatements : Among (λ front at o. IsAt at (statement_rule im front o)) (λ o. 4) (statements_at im) im.statements f → Has im f
+  InExpressions : Among (λ front at o. IsAt at (expression_rule im front o)) (λ o. 4) (expressions_at im) im.expressions f → Has im f
+  InPatterns : Among (InPattern im) pattern_bytes (patterns_at im) im.patterns f → Has im f
+  InCode : Among (InInstr im) bytes (code_at im) im.code f → Has im f
+  InFlow : (at : ℕ) → BreaksFlow im at → f ≡ record { offset = code_at im + at; rule = BadFlow } → Has im f
+
+-- by offset, and by number at the same offset
+abbrev pub NotAfter : ModuleFault → ModuleFault → Type 0
+NotAfter f g = (f.offset < g.offset) ⊎ ((f.offset ≡ g.offset) × (number_of f.rule ≤ number_of g.rule))
+
+-- one of them before which there is none, or none
+abbrev pub IsLeastOf : (ModuleFault → Type 0) → Option ModuleFault → Type 0
+IsLeastOf P None = (f : ModuleFault) → P f → ⊥
+IsLeastOf P (Some f) = P f × ((g : ModuleFault) → P g → NotAfter f g)
+
+-- what is told is the least of all faults, and so is the only one that may be told
+abbrev pub LeastIsTold : Type 0
+LeastIsTold = (im : Image) (fault : Option ModuleFault) → IsTold im fault → IsLeastOf (Has im) fault
+
+abbrev pub OneIsTold : Type 0
+OneIsTold = (im : Image) (fault other : Option ModuleFault) → IsTold im fault → IsTold im other → fault ≡ other
+
+-- an image without any is well-formed, and no other is
+abbrev pub WellFormedHasNone : Type 0
+WellFormedHasNone = (im : Image) → IsWellFormed im → (f : ModuleFault) → Has im f → ⊥
+
+abbrev pub NoneIsWellFormed : Type 0
+NoneIsWellFormed = (im : Image) → ((f : ModuleFault) → Has im f → ⊥) → IsWellFormed im

@@ -1,0 +1,235 @@
+-- Well-formed images: what each part of one may be, and where it is told that it is not.
+use Rattle.std.specs.Prelude.{◌≡◌, ℕ, suc, ◌+◌, ◌*◌, List, [], ◌∷◌, ◌++◌, length, map, Option, Some, None, is_none, Bool, true, false, not, ◌&&◌, ◌||◌, ◌==◌, nat_lt, if◌then◌else◌, slice_get, ℤ, pos, negsuc}
+use Rattle.std.specs.Str.{bytes_eq}
+use Rattle.std.specs.List.{list_any, sum}
+use Rattle.model.specs.declared.format.ModuleFault.{ModuleFault}
+use Rattle.model.specs.declared.format.ModuleRule.{ModuleRule}
+use Rattle.model.specs.declared.format.ModuleRule.TheVariants.{BadIndex, BadTarget, BadFlow, BadJump, NoEnd}
+use Rattle.model.specs.declared.image.Image.{Image}
+use Rattle.model.specs.declared.image.Label.{Label}
+use Rattle.model.specs.declared.image.PatInstr.{PatInstr}
+use Rattle.model.specs.declared.image.PatInstr.TheVariants as pats
+use Rattle.model.specs.declared.instr.Instr.{Instr}
+use Rattle.model.specs.declared.instr.Instr.TheVariants as op
+use Rattle.model.specs.Machine.Steps.{Fetched, At}
+use Rattle.model.specs.Language.Calls.{return_of}
+use Rattle.model.specs.Module.Images.{bytes, total, fetch_from}
+use Rattle.model.specs.Language.Programs.{end_label}
+use Rattle.model.specs.Module.Spelling.{newest}
+use Rattle.model.specs.Language.Names.{is_protected, most_args}
+use Rattle.model.specs.Module.Flow.{begins_at, is_target, BreaksFlow, IsLeast}
+
+-- ---- places of a module
+
+-- the bytes of a string, and of a whole table
+abbrev pub string_bytes : List ℕ → ℕ
+string_bytes s = 4 + length s
+
+abbrev pub pat_bytes : PatInstr → ℕ
+pat_bytes (pats.Len n) = 9
+pat_bytes (pats.Pos n) = 9
+pat_bytes (pats.RPos n) = 9
+pat_bytes (pats.Tab n) = 9
+pat_bytes (pats.RTab n) = 9
+pat_bytes _ = 5
+
+abbrev pub pattern_bytes : List PatInstr → ℕ
+pattern_bytes is = 4 + sum (map pat_bytes is)
+
+-- where the entry stands, and the first entry of each table
+abbrev pub entry_at : ℕ
+entry_at = 6
+
+abbrev pub labels_at : Image → ℕ
+labels_at im = 10 + 4 + sum (map string_bytes im.strings) + 4
+
+abbrev pub statements_at : Image → ℕ
+statements_at im = labels_at im + 8 * length im.labels + 4
+
+abbrev pub expressions_at : Image → ℕ
+expressions_at im = statements_at im + 4 * length im.statements + 4
+
+abbrev pub patterns_at : Image → ℕ
+patterns_at im = expressions_at im + 4 * length im.expressions + 4
+
+abbrev pub code_at : Image → ℕ
+code_at im = patterns_at im + sum (map pattern_bytes im.patterns) + 4
+
+-- ---- what an index, a name and an offset may be
+
+abbrev pub is_statement : Image → ℕ → Bool
+is_statement im k = nat_lt 0 k && not (nat_lt (length im.statements) k)
+
+abbrev pub is_string : Image → ℕ → Bool
+is_string im k = nat_lt k (length im.strings)
+
+abbrev pub is_nonnull : Option (List ℕ) → Bool
+is_nonnull None = false
+is_nonnull (Some []) = false
+is_nonnull (Some (b ∷ bs)) = true
+
+abbrev pub is_name : Image → ℕ → Bool
+is_name im k = is_nonnull (slice_get im.strings k)
+
+abbrev pub is_begin : Fetched → Bool
+is_begin (At (op.Begin f) next) = true
+is_begin _ = false
+
+-- the names of END and of the returns are no labels
+abbrev pub is_label_name : Option (List ℕ) → Bool
+is_label_name None = false
+is_label_name (Some s) = is_nonnull (Some s) && not (bytes_eq s end_label) && is_none (return_of s)
+
+-- a jump leads to an instruction of its pattern, or to its end
+abbrev pub is_jump : ℕ → ℕ → ℤ → Bool
+is_jump len place (pos d) = not (nat_lt len (place + d))
+is_jump len place (negsuc d) = nat_lt d place
+
+-- what may stand last in the code
+abbrev pub is_last_instr : Instr → Bool
+is_last_instr op.End = true
+is_last_instr (op.Goto k) = true
+is_last_instr (op.Return r) = true
+is_last_instr op.GotoV = true
+is_last_instr op.NoLabel = true
+is_last_instr op.Fail = true
+is_last_instr op.Ret = true
+is_last_instr _ = false
+
+abbrev pub is_end : Instr → Bool
+is_end op.End = true
+is_end _ = false
+
+-- the last statement begins here
+abbrev pub begins_last : Image → ℕ → Bool
+begins_last im at = is_at (newest im.statements)
+  where
+    is_at : Option ℕ → Bool
+    is_at None = false
+    is_at (Some o) = o == at
+
+abbrev pub most_integer : ℕ
+most_integer = 9223372036854775807
+
+-- ---- the rules of each part; where a part breaks several, the least is told
+
+abbrev pub first : {A : Type 0} → Option A → Option A → Option A
+first None y = y
+first (Some x) y = Some x
+
+abbrev pub rule : ModuleRule → Bool → Option ModuleRule
+rule r true = None
+rule r false = Some r
+
+abbrev pub entry_rule : Image → Option ModuleRule
+entry_rule im = rule BadIndex (is_statement im im.entry)
+
+-- behind the labels before it
+abbrev pub label_rule : Image → List Label → Label → Option ModuleRule
+label_rule im front l = rule BadIndex (is_label_name (slice_get im.strings l.string) && is_statement im l.statement && not (list_any (λ e. e.string == l.string) front))
+
+-- each statement begins with BEGIN, but the last
+abbrev pub statement_rule : Image → List ℕ → ℕ → Option ModuleRule
+statement_rule im front at = if suc (length front) == length im.statements then rule NoEnd (begins_at im at) else rule BadTarget (is_begin (fetch_from 0 im.code at))
+
+abbrev pub expression_rule : Image → List ℕ → ℕ → Option ModuleRule
+expression_rule im front at = rule BadTarget (begins_at im at)
+
+-- of so many instructions, behind those before it
+abbrev pub pat_rule : Image → ℕ → List PatInstr → PatInstr → Option ModuleRule
+pat_rule im len front (pats.Lit k) = rule BadIndex (is_string im k)
+pat_rule im len front (pats.Split d) = rule BadJump (is_jump len (length front) d)
+pat_rule im len front (pats.Jmp d) = rule BadJump (is_jump len (length front) d)
+pat_rule im len front (pats.Len n) = rule BadIndex (not (nat_lt most_integer n))
+pat_rule im len front (pats.Pos n) = rule BadIndex (not (nat_lt most_integer n))
+pat_rule im len front (pats.RPos n) = rule BadIndex (not (nat_lt most_integer n))
+pat_rule im len front (pats.Tab n) = rule BadIndex (not (nat_lt most_integer n))
+pat_rule im len front (pats.RTab n) = rule BadIndex (not (nat_lt most_integer n))
+pat_rule im len front (pats.Any k) = rule BadIndex (is_name im k)
+pat_rule im len front (pats.NotAny k) = rule BadIndex (is_name im k)
+pat_rule im len front (pats.Span k) = rule BadIndex (is_name im k)
+pat_rule im len front (pats.Break k) = rule BadIndex (is_name im k)
+
+-- an instruction's numbers
+abbrev pub indices_fit : Image → Instr → Bool
+indices_fit im (op.Goto k) = is_statement im k
+indices_fit im (op.Str k) = is_string im k
+indices_fit im (op.Var k) = is_name im k
+indices_fit im (op.KeySet k) = not (is_protected k)
+indices_fit im (op.Expr k) = nat_lt k (length im.expressions)
+indices_fit im (op.CallV k n) = is_name im k
+indices_fit im (op.CallN k n) = is_name im k
+indices_fit im (op.PrimV p n) = not (nat_lt (most_args p) n)
+indices_fit im (op.PrimN p n) = not (nat_lt (most_args p) n)
+indices_fit im (op.Pat k) = nat_lt k (length im.patterns)
+indices_fit im _ = true
+
+-- its targets, and its own place
+abbrev pub place_fits : Image → ℕ → Instr → Bool
+place_fits im at (op.Begin f) = is_target im at f && list_any (λ o. o == at) im.statements
+place_fits im at (op.Try t) = is_target im at t
+place_fits im at _ = true
+
+-- of the instruction at an offset, with the offset after it
+abbrev pub instr_rule : Image → ℕ → ℕ → Instr → Option ModuleRule
+instr_rule im at next i =
+    first (rule BadIndex (indices_fit im i))
+    (first (rule BadTarget (place_fits im at i && (is_last_instr i || not (next == total im.code))))
+    (rule NoEnd (is_end i || not (begins_last im at))))
+
+-- ---- the first fault of the parts, in the order in which their bytes stand
+
+abbrev pub told : ℕ → Option ModuleRule → Option ModuleFault
+told at None = None
+told at (Some r) = Some (record { offset = at; rule = r })
+
+-- parts one behind the other from a place on, each behind those before it
+abbrev pub scan : {A : Type 0} → (List A → ℕ → A → Option ModuleFault) → (A → ℕ) → List A → ℕ → List A → Option ModuleFault
+scan fault width front at [] = None
+scan fault width front at (x ∷ xs) = first (fault front at x) (scan fault width (front ++ x ∷ []) (at + width x) xs)
+
+abbrev pub pattern_fault : Image → List (List PatInstr) → ℕ → List PatInstr → Option ModuleFault
+pattern_fault im front at is = scan (λ before place i. told place (pat_rule im (length is) before i)) pat_bytes [] (at + 4) is
+
+-- the code's offset counts from its own beginning
+abbrev pub instr_fault : Image → List Instr → ℕ → Instr → Option ModuleFault
+instr_fault im front at i = told at (instr_rule im (total front) (total front + bytes i) i)
+
+abbrev pub part_fault : Image → Option ModuleFault
+part_fault im =
+    first (told entry_at (entry_rule im))
+    (first (scan (λ front at l. told at (label_rule im front l)) (λ l. 8) [] (labels_at im) im.labels)
+    (first (scan (λ front at o. told at (statement_rule im front o)) (λ o. 4) [] (statements_at im) im.statements)
+    (first (scan (λ front at o. told at (expression_rule im front o)) (λ o. 4) [] (expressions_at im) im.expressions)
+    (first (scan (pattern_fault im) pattern_bytes [] (patterns_at im) im.patterns)
+    (scan (instr_fault im) bytes [] (code_at im) im.code)))))
+
+-- ---- all conditions
+
+abbrev pub flow_fault : Image → Option ℕ → Option ModuleFault
+flow_fault im None = None
+flow_fault im (Some at) = Some (record { offset = code_at im + at; rule = BadFlow })
+
+abbrev pub number_of : ModuleRule → ℕ
+number_of BadIndex = 1
+number_of BadTarget = 2
+number_of BadFlow = 3
+number_of BadJump = 4
+number_of NoEnd = 5
+
+-- the one of the lesser offset, or of the lesser number there
+abbrev pub comes_first : ModuleFault → ModuleFault → Bool
+comes_first f g = nat_lt f.offset g.offset || (f.offset == g.offset && nat_lt (number_of f.rule) (number_of g.rule))
+
+abbrev pub lesser : Option ModuleFault → Option ModuleFault → Option ModuleFault
+lesser None g = g
+lesser (Some f) None = Some f
+lesser (Some f) (Some g) = if comes_first g f then Some g else Some f
+
+pub record IsWellFormed (im : Image) : Type 0 where
+  pub parts : part_fault im ≡ None
+  pub flow : IsLeast (BreaksFlow im) None
+
+-- what is told of an image: its least fault, or none
+abbrev pub IsTold : Image → Option ModuleFault → Type 0
+IsTold im fault = (flow : Option ℕ) × IsLeast (BreaksFlow im) flow × (fault ≡ lesser (part_fault im) (flow_fault im flow))
