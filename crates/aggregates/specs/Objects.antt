@@ -2,7 +2,7 @@
 use Rattle.std.specs.Prelude.{ℕ, ℤ, List, Option, Some, None, Bool, true, false}
 use Rattle.model.specs.Language.Values.{Key, Object, ArrayOf, TableOf, RecordOf}
 use Rattle.model.specs.Deck.Trees.{Bytes}
-use Rattle.model.specs.Language.Aggregates.{place_from, place_of}
+use Rattle.model.specs.Language.Aggregates.{place_from, index_of}
 use Rattle.model.specs.Language.Operators.{element_of, with_element, with_value_for, with_item}
 use Rattle.aggregates.specs.Keys.{key_of, value_at}
 use Rattle.aggregates.specs.declared.place.Place.{Place}
@@ -38,7 +38,7 @@ module _ {V : Type 0} where
 
   -- the place of a record's field, by its name
   abbrev pub field_in : Bytes → Option (Object V) → Option ℕ
-  field_in f (Some (RecordOf t fs vs)) = place_of 0 f fs
+  field_in f (Some (RecordOf t fs vs)) = index_of 0 f fs
   field_in f _ = None
 
   -- the type of a record

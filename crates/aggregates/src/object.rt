@@ -2,7 +2,7 @@
 
 ghost use Rattle.std.specs.Prelude.{◌≡◌, Some, IfOk, OnErr, false};
 ghost use Rattle.std.specs.Option.{option_copied};
-ghost use Rattle.model.specs.Language.Aggregates.{place_of};
+ghost use Rattle.model.specs.Language.Aggregates.{index_of};
 ghost use Rattle.aggregates.specs.Objects.{held_at, stored_at, if_stored};
 ghost use Rattle.aggregates.specs.Made.{object_of, kind_of};
 
@@ -86,7 +86,7 @@ impl<V: Element> Object<V> {
 
 /// Where a name stands among the names of fields.
 pub(crate) fn place_among(name: &Text, fields: &[Text]) -> Option<usize>
-    ensures { result ≡ place_of 0 name.now fields.now }
+    ensures { result ≡ index_of 0 name.now fields.now }
 {
     for (k, field) in fields.iter().enumerate() {
         if name == field {

@@ -9,7 +9,7 @@ use Rattle.model.specs.declared.cards.CardFault.{CardFault}
 use Rattle.model.specs.declared.cards.CardRule.{CardRule}
 use Rattle.model.specs.declared.cards.CardRule.TheVariants as rule
 use Rattle.model.specs.declared.cards.Deck.{Deck}
-use Rattle.model.specs.Deck.Cards.{Card, CardKind, Comment, Control, UnknownControl, Continuation, Start, Column, cards, kind_of, kind_of_columns, pieces_of, ended, kept, bad_bytes, before_lost, lost_continuations, before_unknown, unknown_controls, long_statements, faults_of, fault, least, lesser, is_less, is_plain, verdict, deck_of, deck}
+use Rattle.model.specs.Deck.Cards.{Card, CardKind, Comment, Control, UnknownControl, Continuation, Start, Column, cards, kind_of, kind_of_columns, pieces_of, ended, kept, bad_bytes, before_lost, lost_continuations, before_unknown, unknown_controls, long_statements, faults_of, fault, least, lesser, is_less, is_plain, cards_verdict, deck_of, deck}
 use Rattle.card_reader.specs.declared.reader.Reader.{Reader}
 use Rattle.card_reader.specs.Parts.{Parts, parts_of}
 use Rattle.card_reader.specs.Reading.{merge, IsClosed, Waits, pieces_now}
@@ -108,7 +108,7 @@ least_memory (x ∷ xs) h f e = elim (cases_Bool (is_memory x.rule)) [
       subst (λ g. is_memory g.rule ≡ false) is (lesser_memory x (least xs) m (λ b k. least_memory xs rest b k)))
 ]
 
-verdict_memory : (cs : List Card) (o : Option CardFault) (f : CardFault) → ((b : CardFault) → o ≡ Some b → is_memory b.rule ≡ false) → verdict cs o ≡ Err f → is_memory f.rule ≡ false
+verdict_memory : (cs : List Card) (o : Option CardFault) (f : CardFault) → ((b : CardFault) → o ≡ Some b → is_memory b.rule ≡ false) → cards_verdict cs o ≡ Err f → is_memory f.rule ≡ false
 verdict_memory cs None f h e = absurd (cc)
 verdict_memory cs (Some b) f h e = let same : b ≡ f = cc in subst (λ g. is_memory g.rule ≡ false) same (h b refl)
 

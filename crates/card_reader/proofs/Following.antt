@@ -6,7 +6,7 @@ use Rattle.std.proofs.lemmas.Bool.{cases_Bool}
 use Rattle.model.specs.declared.cards.Statement.{Statement}
 use Rattle.model.specs.declared.cards.CardFault.{CardFault}
 use Rattle.model.specs.declared.cards.CardRule.TheVariants as rule
-use Rattle.model.specs.Deck.Cards.{Card, CardKind, Comment, Control, UnknownControl, Continuation, Start, lines, numbered_from, cards, kind_of, pieces_of, has_end, ended, kept, statements_from, statements_of, bad_bytes, before_lost, lost_continuations, before_unknown, unknown_controls, long_statements, faults_of, fault, least, is_plain, verdict, deck_of}
+use Rattle.model.specs.Deck.Cards.{Card, CardKind, Comment, Control, UnknownControl, Continuation, Start, lines, numbered_from, cards, kind_of, pieces_of, has_end, ended, kept, statements_from, statements_of, bad_bytes, before_lost, lost_continuations, before_unknown, unknown_controls, long_statements, faults_of, fault, least, is_plain, cards_verdict, deck_of}
 use Rattle.card_reader.specs.declared.reader.Reader.{Reader}
 use Rattle.card_reader.specs.Parts.{Parts, nothing, step}
 use Rattle.card_reader.specs.Reading.{merge, bad_byte, kind_fault, card_fault, Holds, Waits, pieces_now, IsCardRead}
@@ -162,7 +162,7 @@ faults_are used =
     ∙ ap (merge (least bad)) (least_append lost (unknown ++ long) ∙ ap (merge (least lost)) (least_append unknown long) ∙ sym (merge_shift (least lost) (least unknown) (least long)))
     ∙ sym (merge_shift (least bad) (merge (least lost) (least unknown)) (least long))
 
-verdict_is : (used : List Card) (f : Option CardFault) → verdict used f ≡ answer (statements_of used) f
+verdict_is : (used : List Card) (f : Option CardFault) → cards_verdict used f ≡ answer (statements_of used) f
 verdict_is used None = refl
 verdict_is used (Some f) = refl
 
@@ -199,7 +199,7 @@ ends_nowhere deck r n rest f s none told =
     least_append (faults_of s.before) (fault (length s.before + 1) rule.NoEnd ∷ [])
     ∙ ap (λ x. merge x (Some (fault (length s.before + 1) rule.NoEnd))) (faults_are s.before ∙ ap (λ x. merge (early s.before) (least (long_statements (kept x)))) (pieces_here s.before s.parts s.pieces))
     ∙ ap (λ m. merge (merge (early s.before) (least (long_statements (kept (pieces_now s.parts))))) (Some (fault m rule.NoEnd))) count ∙ sym told in
-    ap (deck_of (cards deck)) never ∙ ap (λ cs. verdict cs (least (faults_of cs ++ fault (length cs + 1) rule.NoEnd ∷ []))) all ∙ ap (verdict s.before) least_is
+    ap (deck_of (cards deck)) never ∙ ap (λ cs. cards_verdict cs (least (faults_of cs ++ fault (length cs + 1) rule.NoEnd ∷ []))) all ∙ ap (cards_verdict s.before) least_is
 
 -- before the first card
 pub nothing_read : (deck : List ℕ) (r : Reader) → Holds r nothing None → r.begun ≡ false → Reached deck r 1 deck

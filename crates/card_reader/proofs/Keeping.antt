@@ -6,7 +6,7 @@ use Rattle.std.proofs.lemmas.Bool.Decides.{nat_tests}
 use Rattle.std.proofs.lemmas.List.{map-append}
 use Rattle.model.specs.declared.cards.CardFault.{CardFault}
 use Rattle.model.specs.declared.cards.CardRule.TheVariants as rule
-use Rattle.model.specs.Deck.Cards.{Column, placed, bytes, is_end, has_end, kept, first_card, is_blank_text, is_word_first, statements_from, long_statements, least, fault}
+use Rattle.model.specs.Deck.Cards.{Column, placed, column_bytes, is_end, has_end, kept, first_card, is_blank_text, is_word_first, statements_from, long_statements, least, fault}
 use Rattle.card_reader.specs.declared.reader.Reader.{Reader}
 use Rattle.card_reader.specs.Parts.{Parts, parts, parts_of}
 use Rattle.card_reader.specs.Reading.{merge, when, Holds, Ends, Others, IsClosed, IsPieceEnd, IsRead, Waits, statement_of, too_long}
@@ -24,13 +24,13 @@ kept_append [] ys h = refl
 kept_append (x ∷ xs) ys h = elim (cases_Bool (is_end x)) [
   | inl e ↦ absurd (let g : true ≡ false = rw e at h in cc)
   | inr e ↦ (let rest : has_end xs ≡ false = rw e at h in
-      rw e (elim (cases_Bool (is_blank_text (bytes x))) [ inl b ↦ rw b (kept_append xs ys rest) | inr b ↦ rw b (ap (λ t. x ∷ t) (kept_append xs ys rest)) ]))
+      rw e (elim (cases_Bool (is_blank_text (column_bytes x))) [ inl b ↦ rw b (kept_append xs ys rest) | inr b ↦ rw b (ap (λ t. x ∷ t) (kept_append xs ys rest)) ]))
 ]
 
 pub kept_end : (x : List Column) (ys : List (List Column)) → is_end x ≡ true → kept (x ∷ ys) ≡ x ∷ []
 kept_end x ys e = rw e refl
 
-pub kept_one : (x : List Column) → is_end x ≡ false → kept (x ∷ []) ≡ (if is_blank_text (bytes x) then [] else x ∷ [])
+pub kept_one : (x : List Column) → is_end x ≡ false → kept (x ∷ []) ≡ (if is_blank_text (column_bytes x) then [] else x ∷ [])
 kept_one x e = rw e refl
 
 -- END is no blank text
@@ -45,7 +45,7 @@ statements_append : (n : ℕ) (xs ys : List (List Column)) → statements_from n
 statements_append n [] ys = let e : n + 0 ≡ n = omega arith in rw e refl
 statements_append n (x ∷ xs) ys =
     let e : (n + 1) + length xs ≡ n + suc (length xs) = omega arith in
-    ap (λ t. record { number = n; card = first_card x; text = bytes x } ∷ t) (statements_append (n + 1) xs ys ∙ ap (λ m. statements_from (n + 1) xs ++ statements_from m ys) e)
+    ap (λ t. record { number = n; card = first_card x; text = column_bytes x } ∷ t) (statements_append (n + 1) xs ys ∙ ap (λ m. statements_from (n + 1) xs ++ statements_from m ys) e)
 
 statements_length : (n : ℕ) (xs : List (List Column)) → length (statements_from n xs) ≡ length xs
 statements_length n [] = refl
@@ -59,30 +59,30 @@ long_append (x ∷ xs) ys = elim (cases_Bool (nat_lt 4000 (length x))) [ inl h �
 
 -- what a piece gives that isn't followed by others in the list
 abbrev given : List Column → List (List Column)
-given x = if is_blank_text (bytes x) then [] else x ∷ []
+given x = if is_blank_text (column_bytes x) then [] else x ∷ []
 
-bytes_length : (x : List Column) → length (bytes x) ≡ length x
+bytes_length : (x : List Column) → length (column_bytes x) ≡ length x
 bytes_length [] = refl
 bytes_length (c ∷ cs) = ap suc (bytes_length cs)
 
-no_bytes : (x : List Column) → is_blank_text (bytes x) ≡ false → 0 < length x
+no_bytes : (x : List Column) → is_blank_text (column_bytes x) ≡ false → 0 < length x
 no_bytes [] h = absurd (cc)
 no_bytes (c ∷ cs) h = omega arith
 
-given_statements : (n card : ℕ) (x : List Column) → (0 < length x → card ≡ first_card x) → statements_from n (given x) ≡ statement_of n card (bytes x)
-given_statements n card x first = elim (cases_Bool (is_blank_text (bytes x))) [
+given_statements : (n card : ℕ) (x : List Column) → (0 < length x → card ≡ first_card x) → statements_from n (given x) ≡ statement_of n card (column_bytes x)
+given_statements n card x first = elim (cases_Bool (is_blank_text (column_bytes x))) [
   | inl b ↦ rw b refl
-  | inr b ↦ rw b (ap (λ (m : ℕ). record { number = n; card = m; text = bytes x } ∷ []) (sym (first (no_bytes x b))))
+  | inr b ↦ rw b (ap (λ (m : ℕ). record { number = n; card = m; text = column_bytes x } ∷ []) (sym (first (no_bytes x b))))
 ]
 
-one_long : (card : ℕ) (x : List Column) → card ≡ first_card x → least (long_statements (x ∷ [])) ≡ when (nat_lt 4000 (length (bytes x))) card rule.StatementTooLong
+one_long : (card : ℕ) (x : List Column) → card ≡ first_card x → least (long_statements (x ∷ [])) ≡ when (nat_lt 4000 (length (column_bytes x))) card rule.StatementTooLong
 one_long card x first = elim (cases_Bool (nat_lt 4000 (length x))) [
   | inl h ↦ rw (bytes_length x, h) (ap (λ m. Some (fault m rule.StatementTooLong)) (sym first))
   | inr h ↦ rw (bytes_length x, h) refl
 ]
 
-given_long : (card : ℕ) (x : List Column) → (0 < length x → card ≡ first_card x) → least (long_statements (given x)) ≡ too_long card (bytes x)
-given_long card x first = elim (cases_Bool (is_blank_text (bytes x))) [
+given_long : (card : ℕ) (x : List Column) → (0 < length x → card ≡ first_card x) → least (long_statements (given x)) ≡ too_long card (column_bytes x)
+given_long card x first = elim (cases_Bool (is_blank_text (column_bytes x))) [
   | inl b ↦ rw b refl
   | inr b ↦ rw b (one_long card x (first (no_bytes x b)))
 ]
@@ -93,7 +93,7 @@ closed_statements r after p e ps h c k =
     let count : length r.statements + 1 ≡ 1 + length (kept p.whole) = omega (arith, ap length h.statements, statements_length 1 (kept p.whole)) in
     c.statements
     ∙ ap (λ (t : List ℕ). r.statements ++ statement_of (length r.statements + 1) r.piece_card t) h.piece
-    ∙ ap (λ m. r.statements ++ statement_of m r.piece_card (bytes p.last)) count
+    ∙ ap (λ m. r.statements ++ statement_of m r.piece_card (column_bytes p.last)) count
     ∙ ap (λ t. r.statements ++ t) (sym (given_statements (1 + length (kept p.whole)) r.piece_card p.last h.card))
     ∙ ap (λ t. t ++ statements_from (1 + length (kept p.whole)) (given p.last)) h.statements
     ∙ sym (statements_append 1 (kept p.whole) (given p.last))
@@ -144,7 +144,7 @@ closes r after p e h c goes =
 -- END, whatever follows it
 pub closes_end : (r after : Reader) (p : Parts) (e : Option CardFault) (more : List (List Column)) → Holds r p e → IsClosed r after → is_end p.last ≡ true → Ends after (p.whole ++ p.last ∷ more) e
 closes_end r after p e more h c stops =
-    let shows : is_blank_text (bytes p.last) ≡ false = end_shows (bytes p.last) stops in
+    let shows : is_blank_text (column_bytes p.last) ≡ false = end_shows (column_bytes p.last) stops in
     let alone : p.last ∷ [] ≡ given p.last = rw shows refl in
     let k : kept (p.whole ++ p.last ∷ more) ≡ kept p.whole ++ given p.last = kept_append p.whole (p.last ∷ more) h.no_end ∙ ap (λ t. kept p.whole ++ t) (kept_end p.last more stops ∙ alone) in
     record {
@@ -155,7 +155,7 @@ closes_end r after p e more h c stops =
 
 -- ---- a piece that goes on
 
-bytes_placed : (n : ℕ) (text : List ℕ) → bytes (placed n text) ≡ text
+bytes_placed : (n : ℕ) (text : List ℕ) → column_bytes (placed n text) ≡ text
 bytes_placed n [] = refl
 bytes_placed n (b ∷ bs) = ap (λ t. b ∷ t) (bytes_placed n bs)
 
@@ -171,7 +171,7 @@ extends r after p e n text h o grows card =
     record {
       no_end = h.no_end;
       statements = o.statements ∙ h.statements;
-      piece = grows ∙ ap (λ t. t ++ text) h.piece ∙ ap (λ t. bytes p.last ++ t) (sym (bytes_placed n text)) ∙ sym (map-append (λ (c : Column). c.byte) p.last (placed n text));
+      piece = grows ∙ ap (λ t. t ++ text) h.piece ∙ ap (λ t. column_bytes p.last ++ t) (sym (bytes_placed n text)) ∙ sym (map-append (λ (c : Column). c.byte) p.last (placed n text));
       card = λ lt. card ∙ ap (λ m. if nat_lt 0 m then r.piece_card else n) width ∙ first_of n p.last text r.piece_card h.card lt;
       quote = o.quote ∙ h.quote;
       fault = o.fault ∙ h.fault;

@@ -6,7 +6,7 @@ use Rattle.model.specs.declared.cards.Statement.{Statement}
 use Rattle.model.specs.declared.cards.CardFault.{CardFault}
 use Rattle.model.specs.declared.cards.CardRule.{CardRule}
 use Rattle.model.specs.declared.cards.CardRule.TheVariants as rule
-use Rattle.model.specs.Deck.Cards.{CardKind, Comment, Control, UnknownControl, Continuation, Start, Column, placed, bytes, split, is_end, has_end, kept, first_card, statements_from, is_blank_text, long_statements, least, lesser, fault, is_plain}
+use Rattle.model.specs.Deck.Cards.{CardKind, Comment, Control, UnknownControl, Continuation, Start, Column, placed, column_bytes, split, is_end, has_end, kept, first_card, statements_from, is_blank_text, long_statements, least, lesser, fault, is_plain}
 use Rattle.card_reader.specs.declared.kinds.Kind as declared
 use Rattle.card_reader.specs.declared.kinds.Kind.TheVariants as k
 use Rattle.card_reader.specs.declared.reader.Reader.{Reader}
@@ -56,7 +56,7 @@ card_fault begun kind n line = merge (bad_byte n line) (kind_fault begun kind n)
 pub record Holds (r : Reader) (p : Parts) (earlier : Option CardFault) : Type 0 where
   pub no_end : has_end p.whole ≡ false
   pub statements : r.statements ≡ statements_from 1 (kept p.whole)
-  pub piece : r.piece.items ≡ bytes p.last
+  pub piece : r.piece.items ≡ column_bytes p.last
   pub card : 0 < length p.last → r.piece_card ≡ first_card p.last
   pub quote : r.quote ≡ p.quote
   pub fault : r.fault ≡ merge earlier (least (long_statements (kept p.whole)))

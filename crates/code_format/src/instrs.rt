@@ -46,7 +46,7 @@ fn choice(code: u8, bytes: &[u8]) -> Option<(Instr, &[u8])>
 }
 
 /// The call that has this code, and what is behind it.
-#[tactic(auto, unfolding(model::specs::Module::Reading::readers, model::specs::Module::Reading::call))]
+#[tactic(auto, unfolding(model::specs::Module::Reading::readers, model::specs::Module::Reading::call_operands))]
 fn call(code: u8, bytes: &[u8]) -> Option<(Instr, &[u8])>
     requires { (code ≡ 19) ⊎ (code ≡ 20) }
     ensures { Finds (λ x. (x.0, x.1.now)) result (slice_get readers code >>> λ r. r bytes.now) }
@@ -75,7 +75,7 @@ fn prim(code: u8, bytes: &[u8]) -> Option<(Instr, &[u8])>
 }
 
 /// The instruction in front, and what is behind it; none if it is in no table or is cut.
-#[tactic(auto, unfolding(model::specs::Module::Reading::instr_of, model::specs::Module::Reading::readers, model::specs::Module::Reading::alone, model::specs::Module::Reading::short, model::specs::Module::Reading::whole))]
+#[tactic(auto, unfolding(model::specs::Module::Reading::instr_of, model::specs::Module::Reading::readers, model::specs::Module::Reading::alone, model::specs::Module::Reading::short, model::specs::Module::Reading::whole_number))]
 pub fn first_instr(bytes: &[u8]) -> Option<(Instr, &[u8])>
     ensures { Finds (λ x. (x.0, x.1.now)) result (instr_of bytes.now) }
 {

@@ -7,10 +7,10 @@ use Rattle.model.specs.declared.trees.Binary.TheVariants as b
 use Rattle.model.specs.Deck.Trees.{Bytes, Expr, Name, Literal, Apply, Combine, Label, Goto, Next, OnSuccess, OnFailure, Body, Assign, Replace, Stmt, Plain, End}
 use Rattle.model.specs.Language.Names.{named, key_named, prim_named}
 use Rattle.expr_codegen.specs.Code.{nothing, one, with_string, unevaluated, ◌>>◌, handled}
-use Rattle.codegen.specs.Layout.{image_of}
+use Rattle.codegen.specs.Layout.{generated_image}
 
 -- ` OUTPUT = 'HI'`, `END`: 18 bytes of code
-hi : image_of (Plain None (Assign (Name (codes "OUTPUT")) (Some (Literal (codes "HI")))) Next ∷ End None ∷ []) ≡ record {
+hi : generated_image (Plain None (Assign (Name (codes "OUTPUT")) (Some (Literal (codes "HI")))) Next ∷ End None ∷ []) ≡ record {
   entry = 1;
   strings = codes "OUTPUT" ∷ codes "HI" ∷ [];
   labels = [];
@@ -23,7 +23,7 @@ unfolding nothing one with_string ◌>>◌ handled
 hi = refl
 
 -- `L X 'A' = *B :S(L)`, ` OUTPUT = ~Y :F(NONE)`, `END L`
-ways : image_of (
+ways : generated_image (
     Plain (Some (codes "L")) (Replace (Name (codes "X")) (Literal (codes "A")) (Some (Apply u.Unevaluated (Name (codes "B"))))) (OnSuccess (Label (codes "L")))
     ∷ Plain None (Assign (Name (codes "OUTPUT")) (Some (Apply u.Negate (Name (codes "Y"))))) (OnFailure (Label (codes "NONE")))
     ∷ End (Some (codes "L")) ∷ []) ≡ record {
@@ -43,7 +43,7 @@ unfolding nothing one with_string unevaluated ◌>>◌ handled
 ways = refl
 
 -- ` X = **A *B`, `END`: the expression inside the first has its number behind the second
-queue : image_of (
+queue : generated_image (
     Plain None (Assign (Name (codes "X")) (Some (Combine b.Concatenate (Apply u.Unevaluated (Apply u.Unevaluated (Name (codes "A")))) (Apply u.Unevaluated (Name (codes "B")))))) Next
     ∷ End None ∷ []) ≡ record {
       entry = 1;

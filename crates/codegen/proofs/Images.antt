@@ -4,12 +4,12 @@ use Rattle.std.specs.List.{AllByRecursion}
 use Rattle.model.specs.declared.image.Image.{Image}
 use Rattle.model.specs.declared.image.Label as image
 use Rattle.model.specs.declared.trees.Stmt.{Stmt as Statement}
-use Rattle.model.specs.Module.Images.{total}
+use Rattle.model.specs.Module.Images.{code_size}
 use Rattle.model.specs.Language.Programs.{labelled_from, entry_label, entry_in}
 use Rattle.model.specs.Deck.Trees.{Bytes, Expr, Stmt, Plain, End}
 use Rattle.model.specs.Deck.TreeViews.{stmt_of}
 use Rattle.model.specs.Deck.Weights as weights
-use Rattle.expr_codegen.specs.Texts.{place_of, with_text, with_texts}
+use Rattle.expr_codegen.specs.Texts.{number_of_text, with_text, with_texts}
 use Rattle.expr_codegen.specs.Code.{Part}
 use Rattle.expr_codegen.specs.Emitting.{Gen, Emits, Longer, Countable, Extends, Numbered, size}
 use Rattle.expr_codegen.proofs.Extensions.{extends_same, extends_trans}
@@ -19,7 +19,7 @@ use Rattle.codegen.specs.Countable.{CountableStmt, Fits}
 use Rattle.codegen.specs.Labels.{own_label, entry_by}
 use Rattle.codegen.specs.Laying.{Laid, left, retaken}
 use Rattle.codegen.specs.Layout as layout
-use Rattle.codegen.specs.Layout.{joined, statements_of, expressions_of, code_of, texts_of, image_of, label_texts}
+use Rattle.codegen.specs.Layout.{joined_parts, program_parts, expressions_of, code_of, texts_of, generated_image, label_texts}
 use Rattle.codegen.proofs.Laying.{still_put, next}
 use Rattle.codegen.proofs.Unevaluated.{Later, statements_later}
 
@@ -32,9 +32,9 @@ size_empty = refl
 
 -- ---- what statements leave to do
 
-pub left_is : (ss : List Stmt) (f : Bytes → Option ℕ) (os : List ℕ) (g0 g1 : Gen) → g0 ≡ empty → Laid (layout.statements f 1 ss) os g0 g1 → g1.taken ≡ g0.taken → left g1 ≡ (joined (layout.statements f 1 ss)).later
+pub left_is : (ss : List Stmt) (f : Bytes → Option ℕ) (os : List ℕ) (g0 g1 : Gen) → g0 ≡ empty → Laid (layout.statements f 1 ss) os g0 g1 → g1.taken ≡ g0.taken → left g1 ≡ (joined_parts (layout.statements f 1 ss)).later
 left_is ss f os g0 g1 begin laid taken =
-    ap (λ n. drop n g1.waiting) (taken ∙ ap (λ (g : Gen). g.taken) begin) ∙ laid.parts.waiting ∙ ap (λ (g : Gen). g.waiting ++ (joined (layout.statements f 1 ss)).later) begin
+    ap (λ n. drop n g1.waiting) (taken ∙ ap (λ (g : Gen). g.taken) begin) ∙ laid.parts.waiting ∙ ap (λ (g : Gen). g.waiting ++ (joined_parts (layout.statements f 1 ss)).later) begin
 
 pub left_countable : (ss : List Stmt) (f : Bytes → Option ℕ) (os : List ℕ) (g0 g1 : Gen) → g0 ≡ empty → Laid (layout.statements f 1 ss) os g0 g1 → g1.taken ≡ g0.taken → Fits ss → AllByRecursion Countable (left g1)
 left_countable ss f os g0 g1 begin laid taken fits = subst (AllByRecursion Countable) (sym (left_is ss f os g0 g1 begin laid taken)) (statements_later f 1 ss fits.countable).countable
@@ -49,7 +49,7 @@ Kept xs i n done g h =
     (n ≡ 1 + i)
     × (h.code ≡ g.code)
     × (with_texts (label_texts (map stmt_of (drop i xs))) h.texts ≡ with_texts (label_texts (map stmt_of xs)) g.texts)
-    × ((texts : List Bytes) → Longer h.texts texts → layout.labels texts 1 (map stmt_of xs) ≡ done ++ layout.labels texts n (map stmt_of (drop i xs)))
+    × ((texts : List Bytes) → Longer h.texts texts → layout.label_entries texts 1 (map stmt_of xs) ≡ done ++ layout.label_entries texts n (map stmt_of (drop i xs)))
     × (size h + length (drop i xs) ≤ size g + length xs)
     × Extends g h
 
@@ -57,16 +57,16 @@ pub begins : (xs : List Statement) (g : Gen) → Kept xs 0 1 [] g g
 begins xs g = (refl, refl, refl, (λ texts l. refl), omega arith, extends_same g g refl)
 
 abbrev entry_for : List Bytes → ℕ → Bytes → image.Label
-entry_for texts n l = record { string = place_of l texts; statement = n }
+entry_for texts n l = record { string = number_of_text l texts; statement = n }
 
 with_own : (s : Stmt) (l : Bytes) (ss : List Stmt) → own_label s ≡ Some l → label_texts (s ∷ ss) ≡ l ∷ label_texts ss
 with_own (Plain None b g) l ss h = cc
 with_own (Plain (Some m) b g) l ss h = let z : m ≡ l = cc in ap (λ m. m ∷ label_texts ss) z
 with_own (End e) l ss h = cc
 
-labels_own : (texts : List Bytes) (n : ℕ) (s : Stmt) (l : Bytes) (ss : List Stmt) → own_label s ≡ Some l → layout.labels texts n (s ∷ ss) ≡ entry_for texts n l ∷ layout.labels texts (suc n) ss
+labels_own : (texts : List Bytes) (n : ℕ) (s : Stmt) (l : Bytes) (ss : List Stmt) → own_label s ≡ Some l → layout.label_entries texts n (s ∷ ss) ≡ entry_for texts n l ∷ layout.label_entries texts (suc n) ss
 labels_own texts n (Plain None b g) l ss h = cc
-labels_own texts n (Plain (Some m) b g) l ss h = let z : m ≡ l = cc in ap (λ m. entry_for texts n m ∷ layout.labels texts (suc n) ss) z
+labels_own texts n (Plain (Some m) b g) l ss h = let z : m ≡ l = cc in ap (λ m. entry_for texts n m ∷ layout.label_entries texts (suc n) ss) z
 labels_own texts n (End e) l ss h = cc
 
 without_own : (s : Stmt) (ss : List Stmt) → own_label s ≡ None → label_texts (s ∷ ss) ≡ label_texts ss
@@ -74,7 +74,7 @@ without_own (Plain None b g) ss h = refl
 without_own (Plain (Some m) b g) ss h = cc
 without_own (End e) ss h = refl
 
-labels_none : (texts : List Bytes) (n : ℕ) (s : Stmt) (ss : List Stmt) → own_label s ≡ None → layout.labels texts n (s ∷ ss) ≡ layout.labels texts (suc n) ss
+labels_none : (texts : List Bytes) (n : ℕ) (s : Stmt) (ss : List Stmt) → own_label s ≡ None → layout.label_entries texts n (s ∷ ss) ≡ layout.label_entries texts (suc n) ss
 labels_none texts n (Plain None b g) ss h = refl
 labels_none texts n (Plain (Some m) b g) ss h = cc
 labels_none texts n (End e) ss h = refl
@@ -90,12 +90,12 @@ step_own xs i n m k x l done now g h j less is number own numbered s more_put pu
       numbered.code ∙ code,
       ap (with_texts (label_texts (map stmt_of rest))) numbered.texts ∙ ap (λ t. with_texts t h.texts) (sym (ap (λ r. label_texts (map stmt_of r)) more ∙ with_own (stmt_of x) l (map stmt_of rest) own)) ∙ texts,
       (λ t longer.
-          let place : place_of l t ≡ k = ap (place_of l) (longer.1 ∙ ap (λ z. z ++ longer.0) numbered.texts) ∙ place_stays l h.texts longer.0 ∙ ap (place_of l) (sym numbered.texts) ∙ sym numbered.at in
+          let place : number_of_text l t ≡ k = ap (number_of_text l) (longer.1 ∙ ap (λ z. z ++ longer.0) numbered.texts) ∙ place_stays l h.texts longer.0 ∙ ap (number_of_text l) (sym numbered.texts) ∙ sym numbered.at in
           let before : Longer h.texts t = longer_trans h.texts j.texts t (subst (λ z. Longer h.texts z) (sym numbered.texts) (longer_texts (l ∷ []) h.texts)) longer in
-          all t before ∙ ap (λ r. done ++ layout.labels t n (map stmt_of r)) more ∙ ap (λ r. done ++ r) (labels_own t n (stmt_of x) l (map stmt_of rest) own)
-          ∙ ap (λ p. done ++ record { string = p; statement = n } ∷ layout.labels t (suc n) (map stmt_of rest)) place
-          ∙ ap (λ q. done ++ record { string = k; statement = n } ∷ layout.labels t q (map stmt_of rest)) m1
-          ∙ sym (ap (λ d. d ++ layout.labels t m (map stmt_of rest)) put ∙ append_assoc done (record { string = k; statement = n } ∷ []) (layout.labels t m (map stmt_of rest)))),
+          all t before ∙ ap (λ r. done ++ layout.label_entries t n (map stmt_of r)) more ∙ ap (λ r. done ++ r) (labels_own t n (stmt_of x) l (map stmt_of rest) own)
+          ∙ ap (λ p. done ++ record { string = p; statement = n } ∷ layout.label_entries t (suc n) (map stmt_of rest)) place
+          ∙ ap (λ q. done ++ record { string = k; statement = n } ∷ layout.label_entries t q (map stmt_of rest)) m1
+          ∙ sym (ap (λ d. d ++ layout.label_entries t m (map stmt_of rest)) put ∙ append_assoc done (record { string = k; statement = n } ∷ []) (layout.label_entries t m (map stmt_of rest)))),
       omega (arith, room, len, s),
       extends_trans stands more_put,
     )
@@ -109,7 +109,7 @@ step_none xs i n m x done g h less is number own (counted, code, texts, all, roo
       omega (arith, counted, number),
       code,
       ap (λ t. with_texts t h.texts) (sym (ap (λ r. label_texts (map stmt_of r)) more ∙ without_own (stmt_of x) (map stmt_of rest) own)) ∙ texts,
-      (λ t longer. all t longer ∙ ap (λ r. done ++ layout.labels t n (map stmt_of r)) more ∙ ap (λ r. done ++ r) (labels_none t n (stmt_of x) (map stmt_of rest) own) ∙ ap (λ q. done ++ layout.labels t q (map stmt_of rest)) m1),
+      (λ t longer. all t longer ∙ ap (λ r. done ++ layout.label_entries t n (map stmt_of r)) more ∙ ap (λ r. done ++ r) (labels_none t n (stmt_of x) (map stmt_of rest) own) ∙ ap (λ q. done ++ layout.label_entries t q (map stmt_of rest)) m1),
       omega (arith, room, len),
       stands,
     )
@@ -117,8 +117,8 @@ step_none xs i n m x done g h less is number own (counted, code, texts, all, roo
 pub ends_texts : (xs : List Statement) (i n : ℕ) (done : List image.Label) (g h : Gen) → drop i xs ≡ [] → Kept xs i n done g h → h.texts ≡ with_texts (label_texts (map stmt_of xs)) g.texts
 ends_texts xs i n done g h none (counted, code, texts, all, room, stands) = ap (λ r. with_texts (label_texts (map stmt_of r)) h.texts) (sym none) ∙ texts
 
-pub ends_labels : (xs : List Statement) (i n : ℕ) (done : List image.Label) (g h : Gen) → drop i xs ≡ [] → Kept xs i n done g h → done ≡ layout.labels h.texts 1 (map stmt_of xs)
-ends_labels xs i n done g h none (counted, code, texts, all, room, stands) = sym (all h.texts ([], sym (append-nil h.texts)) ∙ ap (λ r. done ++ layout.labels h.texts n (map stmt_of r)) none ∙ append-nil done)
+pub ends_labels : (xs : List Statement) (i n : ℕ) (done : List image.Label) (g h : Gen) → drop i xs ≡ [] → Kept xs i n done g h → done ≡ layout.label_entries h.texts 1 (map stmt_of xs)
+ends_labels xs i n done g h none (counted, code, texts, all, room, stands) = sym (all h.texts ([], sym (append-nil h.texts)) ∙ ap (λ r. done ++ layout.label_entries h.texts n (map stmt_of r)) none ∙ append-nil done)
 
 -- ---- the image
 
@@ -128,21 +128,21 @@ entry_is ss (Some l) = refl
 
 pub image_is : (ss : List Stmt) (f : Bytes → Option ℕ) (os es : List ℕ) (ls : List image.Label) (entry : ℕ) (strings : List Bytes) (g0 g1 g2 g3 : Gen) → ((l : Bytes) → f l ≡ labelled_from 1 ss l) → g0 ≡ empty
     → Laid (layout.statements f 1 ss) os g0 g1 → g1.taken ≡ g0.taken → ((fuel : ℕ) → weights.total weights.of_expr (left g1) ≤ fuel → Laid (layout.expressions fuel (left g1)) es g1 g2) → Fits ss
-    → g3.texts ≡ with_texts (label_texts ss) g2.texts → g3.code ≡ g2.code → ls ≡ layout.labels g3.texts 1 ss → entry ≡ entry_by f (entry_label ss) → strings ≡ g3.texts
-    → record { entry = entry; strings = strings; labels = ls; statements = os; expressions = es; patterns = []; code = g3.code } ≡ image_of ss
+    → g3.texts ≡ with_texts (label_texts ss) g2.texts → g3.code ≡ g2.code → ls ≡ layout.label_entries g3.texts 1 ss → entry ≡ entry_by f (entry_label ss) → strings ≡ g3.texts
+    → record { entry = entry; strings = strings; labels = ls; statements = os; expressions = es; patterns = []; code = g3.code } ≡ generated_image ss
 image_is ss f os es ls entry strings g0 g1 g2 g3 known begin laid taken work fits named same labels enters all =
     let fe : f ≡ labelled_from 1 ss = λ j l. known l j in
-    let laid1 : Laid (statements_of ss) os empty g1 = subst (λ g. Laid (statements_of ss) os g g1) begin (subst (λ f. Laid (layout.statements f 1 ss) os g0 g1) fe laid) in
-    let left1 : left g1 ≡ (joined (statements_of ss)).later = left_is ss (labelled_from 1 ss) os empty g1 refl laid1 (taken ∙ ap (λ (g : Gen). g.taken) begin) in
+    let laid1 : Laid (program_parts ss) os empty g1 = subst (λ g. Laid (program_parts ss) os g g1) begin (subst (λ f. Laid (layout.statements f 1 ss) os g0 g1) fe laid) in
+    let left1 : left g1 ≡ (joined_parts (program_parts ss)).later = left_is ss (labelled_from 1 ss) os empty g1 refl laid1 (taken ∙ ap (λ (g : Gen). g.taken) begin) in
     let x : Laid (expressions_of ss) es g1 g2 = subst (λ l. Laid (layout.expressions (weights.total weights.weight ss) l) es g1 g2) left1 (work (weights.total weights.weight ss) (left_weight ss f os g0 g1 begin laid taken fits)) in
-    let whole : Emits (code_of ss) (retaken g2.taken empty) g2 = both (still_put (joined (statements_of ss)) g2.taken laid1.parts) x.parts in
+    let whole : Emits (code_of ss) (retaken g2.taken empty) g2 = both (still_put (joined_parts (program_parts ss)) g2.taken laid1.parts) x.parts in
     let t : g3.texts ≡ texts_of ss = named ∙ ap (with_texts (label_texts ss)) whole.texts in
     let l2 : Longer g2.texts (texts_of ss) = subst (λ u. Longer g2.texts u) (ap (with_texts (label_texts ss)) whole.texts) (longer_texts (label_texts ss) g2.texts) in
-    let l1 : Longer g1.texts (texts_of ss) = longer_trans g1.texts g2.texts (texts_of ss) (subst (λ u. Longer g1.texts u) (sym x.parts.texts) (longer_texts (joined (expressions_of ss)).texts g1.texts)) l2 in
-    let s : os ≡ (image_of ss).statements = laid1.offsets (texts_of ss) l1 in
-    let e : es ≡ (image_of ss).expressions = x.offsets (texts_of ss) l2 ∙ ap (λ w. layout.offsets (expressions_of ss) (texts_of ss) (length w) (total g1.code)) laid1.parts.waiting ∙ ap (λ c. layout.offsets (expressions_of ss) (texts_of ss) (length (joined (statements_of ss)).later) (total c)) (laid1.parts.code (texts_of ss) l1) in
-    let c : g3.code ≡ (image_of ss).code = same ∙ whole.code (texts_of ss) l2 in
-    let n : entry ≡ (image_of ss).entry = enters ∙ ap (λ f. entry_by f (entry_label ss)) fe ∙ entry_is ss (entry_label ss) in
-    let l : ls ≡ (image_of ss).labels = labels ∙ ap (λ u. layout.labels u 1 ss) t in
-    let u : strings ≡ (image_of ss).strings = all ∙ t in
+    let l1 : Longer g1.texts (texts_of ss) = longer_trans g1.texts g2.texts (texts_of ss) (subst (λ u. Longer g1.texts u) (sym x.parts.texts) (longer_texts (joined_parts (expressions_of ss)).texts g1.texts)) l2 in
+    let s : os ≡ (generated_image ss).statements = laid1.offsets (texts_of ss) l1 in
+    let e : es ≡ (generated_image ss).expressions = x.offsets (texts_of ss) l2 ∙ ap (λ w. layout.offsets (expressions_of ss) (texts_of ss) (length w) (code_size g1.code)) laid1.parts.waiting ∙ ap (λ c. layout.offsets (expressions_of ss) (texts_of ss) (length (joined_parts (program_parts ss)).later) (code_size c)) (laid1.parts.code (texts_of ss) l1) in
+    let c : g3.code ≡ (generated_image ss).code = same ∙ whole.code (texts_of ss) l2 in
+    let n : entry ≡ (generated_image ss).entry = enters ∙ ap (λ f. entry_by f (entry_label ss)) fe ∙ entry_is ss (entry_label ss) in
+    let l : ls ≡ (generated_image ss).labels = labels ∙ ap (λ u. layout.label_entries u 1 ss) t in
+    let u : strings ≡ (generated_image ss).strings = all ∙ t in
     λ j. record { entry = n j; strings = u j; labels = l j; statements = s j; expressions = e j; patterns = []; code = c j }

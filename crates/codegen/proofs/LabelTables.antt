@@ -8,7 +8,7 @@ use Rattle.std.specs.Map.{lookup}
 use Rattle.std.proofs.lemmas.Slice.Eq.{bytes_eq-Decides}
 use Rattle.indexmap.specs.IndexMap.{insert_entry}
 use Rattle.model.specs.Deck.Trees.{Bytes}
-use Rattle.model.specs.Language.Programs.{is_text, label_of, labelled_from}
+use Rattle.model.specs.Language.Programs.{is_text, label_of_stmt, labelled_from}
 use Rattle.model.specs.declared.trees.Stmt.{Stmt as Statement}
 use Rattle.model.specs.Deck.TreeViews.{stmt_of}
 use Rattle.codegen.specs.Labels.{entry_of, number_in, with_label}
@@ -90,13 +90,13 @@ abbrev pub Kept : List Statement → ℕ → ℕ → List (List ℕ × ℕ) → 
 Kept xs i n es = (n ≡ 1 + i) × ((t : Bytes) → or_else (number_in es t) (labelled_from n (map stmt_of (drop i xs)) t) ≡ labelled_from 1 (map stmt_of xs) t)
 
 next_label : (xs : List Statement) (i n : ℕ) (x : Statement) (t : Bytes) → i < length xs → x ≡ get_or xs i x
-    → labelled_from n (map stmt_of (drop i xs)) t ≡ (if is_text t (label_of (stmt_of x)) then Some n else labelled_from (n + 1) (map stmt_of (drop (i + 1) xs)) t)
+    → labelled_from n (map stmt_of (drop i xs)) t ≡ (if is_text t (label_of_stmt (stmt_of x)) then Some n else labelled_from (n + 1) (map stmt_of (drop (i + 1) xs)) t)
 next_label xs i n x t h e =
     at_drop_more (λ l. labelled_from n (map stmt_of l) t) xs i x h
-    ∙ ap (λ y. if is_text t (label_of (stmt_of y)) then Some n else labelled_from (suc n) (map stmt_of (drop (i + 1) xs)) t) (sym e)
-    ∙ ap (λ m. if is_text t (label_of (stmt_of x)) then Some n else labelled_from m (map stmt_of (drop (i + 1) xs)) t) (let z : suc n ≡ n + 1 = omega arith in z)
+    ∙ ap (λ y. if is_text t (label_of_stmt (stmt_of y)) then Some n else labelled_from (suc n) (map stmt_of (drop (i + 1) xs)) t) (sym e)
+    ∙ ap (λ m. if is_text t (label_of_stmt (stmt_of x)) then Some n else labelled_from m (map stmt_of (drop (i + 1) xs)) t) (let z : suc n ≡ n + 1 = omega arith in z)
 
-pub step_labelled : (xs : List Statement) (i n m : ℕ) (x : Statement) (l : Bytes) (es now : List (List ℕ × ℕ)) → i < length xs → x ≡ get_or xs i x → label_of (stmt_of x) ≡ Some l → m ≡ n + 1 → now ≡ with_label l n es → Kept xs i n es → Kept xs (i + 1) m now
+pub step_labelled : (xs : List Statement) (i n m : ℕ) (x : Statement) (l : Bytes) (es now : List (List ℕ × ℕ)) → i < length xs → x ≡ get_or xs i x → label_of_stmt (stmt_of x) ≡ Some l → m ≡ n + 1 → now ≡ with_label l n es → Kept xs i n es → Kept xs (i + 1) m now
 step_labelled xs i n m x l es now h e label is put (number, all) = (
   omega (arith, number, is),
   λ t.
@@ -105,7 +105,7 @@ step_labelled xs i n m x l es now h e label is put (number, all) = (
       ∙ ap (λ o. or_else (number_in es t) (if is_text t o then Some n else rest)) (sym label) ∙ ap (or_else (number_in es t)) (sym (next_label xs i n x t h e)) ∙ all t,
 )
 
-pub step_unlabelled : (xs : List Statement) (i n m : ℕ) (x : Statement) (es : List (List ℕ × ℕ)) → i < length xs → x ≡ get_or xs i x → label_of (stmt_of x) ≡ None → m ≡ n + 1 → Kept xs i n es → Kept xs (i + 1) m es
+pub step_unlabelled : (xs : List Statement) (i n m : ℕ) (x : Statement) (es : List (List ℕ × ℕ)) → i < length xs → x ≡ get_or xs i x → label_of_stmt (stmt_of x) ≡ None → m ≡ n + 1 → Kept xs i n es → Kept xs (i + 1) m es
 step_unlabelled xs i n m x es h e label is (number, all) = (
   omega (arith, number, is),
   λ t.

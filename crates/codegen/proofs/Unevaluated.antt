@@ -146,7 +146,7 @@ body_later (Replace x f o) h = more (then (as_name x h.0) (then (an_instr op.Fet
 
 module _ (number_of : Bytes → Option ℕ) where
   place_later : (p : Place) → CountablePlace p → Later (of_place p) (layout.place number_of p)
-  place_later (Label l) h = more (an_instr (layout.to_label (return_of l) (number_of l))) (omega arith)
+  place_later (Label l) h = more (an_instr (layout.goto_label (return_of l) (number_of l))) (omega arith)
   place_later (Computed e) h = more (then (as_later e h) (an_instr op.GotoV)) (omega arith)
 
   goto_later : (n : ℕ) (g : Goto) → CountableGoto g → (j : ℕ) × (k : ℕ) × Later j (layout.after_success number_of n g) × Later k (layout.after_failure number_of g) × (j + k ≤ of_goto g)
@@ -163,6 +163,6 @@ module _ (number_of : Bytes → Option ℕ) where
       more (within op.Begin (then (body_later b h.0) (then (an_instr op.Body) a.2)) a.3) (omega (arith, w))
   statement_later n (End entry) h = more (an_instr op.End) (omega arith)
 
-  pub statements_later : (n : ℕ) (ss : List Stmt) → AllByRecursion CountableStmt ss → Later (weights.total weight ss) (layout.joined (layout.statements number_of n ss))
+  pub statements_later : (n : ℕ) (ss : List Stmt) → AllByRecursion CountableStmt ss → Later (weights.total weight ss) (layout.joined_parts (layout.statements number_of n ss))
   statements_later n [] h = no_part
   statements_later n (s ∷ ss) h = then (statement_later n s h.0) (statements_later (suc n) ss h.1)

@@ -10,9 +10,9 @@ use Rattle.model.specs.Language.Names.{key_named}
 use Rattle.model.specs.Language.Calls.{return_of}
 use Rattle.model.specs.Language.Meaning.{key_target}
 use Rattle.model.specs.Language.Programs.{labelled_from, entry_in, entry_label}
-use Rattle.model.specs.Module.Images.{total}
+use Rattle.model.specs.Module.Images.{code_size}
 use Rattle.model.specs.Deck.Weights as weights
-use Rattle.expr_codegen.specs.Texts.{place_of, with_texts}
+use Rattle.expr_codegen.specs.Texts.{number_of_text, with_texts}
 use Rattle.expr_codegen.specs.Code.{Part, nothing, one, ◌>>◌, handled, with_key, value, name}
 
 -- ---- bodies
@@ -37,19 +37,19 @@ body (Replace x f o) = name x >> one op.FetchK >> value f >> one op.MatchR >> ob
 -- ---- gotos
 
 -- to a statement, or to none
-abbrev pub to_known : Option ℕ → Instr
-to_known (Some n) = op.Goto n
-to_known None = op.NoLabel
+abbrev pub goto_known : Option ℕ → Instr
+goto_known (Some n) = op.Goto n
+goto_known None = op.NoLabel
 
 -- to a label's statement, unless the label leaves a function
-abbrev pub to_label : Option ReturnKind → Option ℕ → Instr
-to_label (Some r) n = op.Return r
-to_label None n = to_known n
+abbrev pub goto_label : Option ReturnKind → Option ℕ → Instr
+goto_label (Some r) n = op.Return r
+goto_label None n = goto_known n
 
 -- number_of: the statements of labels
 module _ (number_of : Bytes → Option ℕ) where
   abbrev pub place : Place → Part
-  place (Label l) = one (to_label (return_of l) (number_of l))
+  place (Label l) = one (goto_label (return_of l) (number_of l))
   place (Computed e) = value e >> one op.GotoV
 
   -- after statement n: what stands before the offset at which a failed statement goes on
@@ -95,14 +95,14 @@ expressions (suc fuel) (e ∷ es) = expression e ∷ expressions fuel (es ++ (ex
 -- ---- the image
 
 -- one part behind the other
-abbrev pub joined : List Part → Part
-joined [] = nothing
-joined (p ∷ ps) = p >> joined ps
+abbrev pub joined_parts : List Part → Part
+joined_parts [] = nothing
+joined_parts (p ∷ ps) = p >> joined_parts ps
 
 -- the offset of each part
 abbrev pub offsets : List Part → (texts : List Bytes) → (k at : ℕ) → List ℕ
 offsets [] texts k at = []
-offsets (p ∷ ps) texts k at = at ∷ offsets ps texts (k + length p.later) (at + total (p.code texts k at))
+offsets (p ∷ ps) texts k at = at ∷ offsets ps texts (k + length p.later) (at + code_size (p.code texts k at))
 
 -- the labels but END
 abbrev pub label_texts : List Stmt → List Bytes
@@ -111,35 +111,35 @@ label_texts (Plain (Some l) b g ∷ ss) = l ∷ label_texts ss
 label_texts (_ ∷ ss) = label_texts ss
 
 -- with the numbers of their statements, from statement n on
-abbrev pub labels : List Bytes → ℕ → List Stmt → List image.Label
-labels texts n [] = []
-labels texts n (Plain (Some l) b g ∷ ss) = record { string = place_of l texts; statement = n } ∷ labels texts (suc n) ss
-labels texts n (_ ∷ ss) = labels texts (suc n) ss
+abbrev pub label_entries : List Bytes → ℕ → List Stmt → List image.Label
+label_entries texts n [] = []
+label_entries texts n (Plain (Some l) b g ∷ ss) = record { string = number_of_text l texts; statement = n } ∷ label_entries texts (suc n) ss
+label_entries texts n (_ ∷ ss) = label_entries texts (suc n) ss
 
 -- the parts of a program: statements, then unevaluated expressions
-abbrev pub statements_of : List Stmt → List Part
-statements_of ss = statements (labelled_from 1 ss) 1 ss
+abbrev pub program_parts : List Stmt → List Part
+program_parts ss = statements (labelled_from 1 ss) 1 ss
 
 abbrev pub expressions_of : List Stmt → List Part
-expressions_of ss = expressions (weights.total weights.weight ss) (joined (statements_of ss)).later
+expressions_of ss = expressions (weights.total weights.weight ss) (joined_parts (program_parts ss)).later
 
 abbrev pub code_of : List Stmt → Part
-code_of ss = joined (statements_of ss) >> joined (expressions_of ss)
+code_of ss = joined_parts (program_parts ss) >> joined_parts (expressions_of ss)
 
 -- the strings by first use in the code; labels that it doesn't use stand last
 abbrev pub texts_of : List Stmt → List Bytes
 texts_of ss = with_texts (label_texts ss) (with_texts (code_of ss).texts [])
 
-abbrev pub image_of : List Stmt → Image
-image_of ss =
+abbrev pub generated_image : List Stmt → Image
+generated_image ss =
     let texts : List Bytes = texts_of ss in
-    let statements : Part = joined (statements_of ss) in
+    let statements : Part = joined_parts (program_parts ss) in
     record {
       entry = entry_in ss (entry_label ss);
       strings = texts;
-      labels = labels texts 1 ss;
-      statements = offsets (statements_of ss) texts 0 0;
-      expressions = offsets (expressions_of ss) texts (length statements.later) (total (statements.code texts 0 0));
+      labels = label_entries texts 1 ss;
+      statements = offsets (program_parts ss) texts 0 0;
+      expressions = offsets (expressions_of ss) texts (length statements.later) (code_size (statements.code texts 0 0));
       patterns = [];
       code = (code_of ss).code texts 0 0;
     }

@@ -71,7 +71,7 @@ fn put_labels<'a>(
     ensures texts { OnOk result ((gen_of g.new).texts ≡ with_texts (layout.label_texts (map stmt_of statements.now)) (gen_of g.old).texts) }
     ensures code { OnOk result ((gen_of g.new).code ≡ (gen_of g.old).code) }
     ensures extends { Extends (gen_of g.old) (gen_of g.new) }
-    ensures labels { IfOk result (λ ls. ls.items ≡ layout.labels (gen_of g.new).texts 1 (map stmt_of statements.now)) }
+    ensures labels { IfOk result (λ ls. ls.items ≡ layout.label_entries (gen_of g.new).texts 1 (map stmt_of statements.now)) }
 {
     let mut labels = Vec::new(alloc);
     let mut number = 1;
@@ -91,7 +91,7 @@ fn put_labels<'a>(
 /// The image of a program.
 pub fn generate(alloc: Global, program: &Program) -> Result<Image, AllocError>
     requires { Fits (program_of program.now) }
-    ensures image { IfOk result (λ image. image ≡ layout.image_of (program_of program.now)) }
+    ensures image { IfOk result (λ image. image ≡ layout.generated_image (program_of program.now)) }
 {
     let statements = program.statements.as_slice();
     let labels = labels_of(alloc, statements)?;

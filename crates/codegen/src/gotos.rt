@@ -33,7 +33,7 @@ fn return_of(label: &[u8]) -> Option<ReturnKind>
 
 // The instruction that goes to a label.
 fn to_label(labels: &Labels, label: &[u8]) -> Instr
-    ensures { result ≡ layout.to_label (calls.return_of label.now) (number_in labels.now label.now) }
+    ensures { result ≡ layout.goto_label (calls.return_of label.now) (number_in labels.now label.now) }
 {
     match return_of(label) {
         Some(kind) => Instr::Return(kind),

@@ -93,7 +93,7 @@ pub fn entry_number(labels: &Labels, statements: &[Stmt]) -> u32
 
 // The label that a statement gives.
 fn label_of(statement: &Stmt) -> Option<&[u8]>
-    ensures { option_map (λ l. l.now) result ≡ programs.label_of (stmt_of statement.now) }
+    ensures { option_map (λ l. l.now) result ≡ programs.label_of_stmt (stmt_of statement.now) }
 {
     match statement {
         Stmt::Plain { label, .. } => label.as_deref(),

@@ -9,7 +9,7 @@ use Rattle.model.specs.declared.keys.KeyId.{KeyId}
 use Rattle.model.specs.Language.Calls.{return_of}
 use Rattle.model.specs.Deck.Cards.{deck}
 use Rattle.model.specs.Laws.Decks.{IsPlain}
-use Rattle.model.specs.Deck.Faults.{everywhere, in_args, in_place, in_goto, in_object, in_body, throughout, count, at_most, call_fits, keyword_known, operand_fits, subject_fits, targets_fit, label_given, is_among, returns, is_taken, rule_broken, cause_of, told, faults, faults_after, labels, labels_of_read, trees, Accepted, verdict, verdict_of_cards, verdict_of_faults}
+use Rattle.model.specs.Deck.Faults.{everywhere, in_args, in_place, in_goto, in_object, in_body, throughout, count, at_most, call_fits, keyword_known, operand_fits, subject_fits, targets_fit, label_given, is_one_of, returns, is_taken, rule_broken, cause_of, fault_of, faults, faults_after, labels_given, labels_of_read, deck_trees, Accepted, verdict, verdict_of_cards, verdict_of_faults}
 use Rattle.model.specs.Language.Names.{key_named, prim_named}
 use Rattle.model.specs.Language.Programs.{end_label}
 use Rattle.model.specs.Deck.Statements.{end_word}
@@ -154,27 +154,27 @@ other_text s t n = elim (bytes_eq s t) as (λ b. bytes_eq s t ≡ b → b ≡ fa
   | false ↦ λ e. refl
 ] refl
 
-no_return : (l : Bytes) → is_among l returns ≡ false → is_none (return_of l) ≡ true
+no_return : (l : Bytes) → is_one_of l returns ≡ false → is_none (return_of l) ≡ true
 no_return l h =
     let a = or_false (bytes_eq l (codes "RETURN")) _ h in
     let b = or_false (bytes_eq l (codes "FRETURN")) _ a.1 in
     let c = or_false (bytes_eq l (codes "NRETURN")) _ b.1 in
     rw (a.0, b.0, c.0) refl
 
-label_name : (l : Bytes) → Named l → l ≢ end_word → is_among l returns ≡ false → is_label_name (Some l) ≡ true
+label_name : (l : Bytes) → Named l → l ≢ end_word → is_one_of l returns ≡ false → is_label_name (Some l) ≡ true
 label_name l n e r = let a = other_text l end_label e in let b = no_return l r in rw (n, a, b) refl
 
 -- what isn't among the earlier labels isn't among these
 abbrev Covers : List Bytes → List Bytes → Type 0
-Covers earlier front = (l : Bytes) → is_among l earlier ≡ false → list_any (λ m. bytes_eq m l) front ≡ false
+Covers earlier front = (l : Bytes) → is_one_of l earlier ≡ false → list_any (λ m. bytes_eq m l) front ≡ false
 
-among_left : (l : Bytes) (xs ys : List Bytes) → is_among l (xs ++ ys) ≡ false → is_among l xs ≡ false
+among_left : (l : Bytes) (xs ys : List Bytes) → is_one_of l (xs ++ ys) ≡ false → is_one_of l xs ≡ false
 among_left l [] ys h = refl
-among_left l (x ∷ xs) ys h = let a = or_false (bytes_eq l x) (is_among l (xs ++ ys)) h in rw a.0 (among_left l xs ys a.1)
+among_left l (x ∷ xs) ys h = let a = or_false (bytes_eq l x) (is_one_of l (xs ++ ys)) h in rw a.0 (among_left l xs ys a.1)
 
-among_right : (l : Bytes) (xs ys : List Bytes) → is_among l (xs ++ ys) ≡ false → is_among l ys ≡ false
+among_right : (l : Bytes) (xs ys : List Bytes) → is_one_of l (xs ++ ys) ≡ false → is_one_of l ys ≡ false
 among_right l [] ys h = h
-among_right l (x ∷ xs) ys h = among_right l xs ys (or_false (bytes_eq l x) (is_among l (xs ++ ys)) h).1
+among_right l (x ∷ xs) ys h = among_right l xs ys (or_false (bytes_eq l x) (is_one_of l (xs ++ ys)) h).1
 
 any_snoc : (l m : Bytes) (front : List Bytes) → list_any (λ m. bytes_eq m l) front ≡ false → bytes_eq m l ≡ false → list_any (λ m. bytes_eq m l) (front ++ m ∷ []) ≡ false
 any_snoc l m [] h e = rw e refl
@@ -185,7 +185,7 @@ covers_more earlier front more c l h = c l (among_left l earlier more h)
 
 covers_snoc : (earlier front : List Bytes) (m : Bytes) → Covers earlier front → Covers (earlier ++ m ∷ []) (front ++ m ∷ [])
 covers_snoc earlier front m c l h =
-    let a = or_false (bytes_eq l m) (is_among l []) (among_right l earlier (m ∷ []) h) in
+    let a = or_false (bytes_eq l m) (is_one_of l []) (among_right l earlier (m ∷ []) h) in
     any_snoc l m front (c l (among_left l earlier (m ∷ []) h)) (differs_back l m a.0)
 
 -- ---- decks
@@ -200,11 +200,11 @@ kept_all earlier all [] [] have h = tt
 kept_all earlier all [] (t ∷ ts) have h = absurd have
 kept_all earlier all (s ∷ more) [] have h = absurd have
 kept_all earlier all (s ∷ more) (t ∷ ts) (e, have) h =
-    let h' : told s.number (cause_of earlier all (Ok t)) ++ faults_after (earlier ++ label_given t) all more ≡ [] =
-    subst (λ r. told s.number (cause_of earlier all r) ++ faults_after (earlier ++ labels_of_read r) all more ≡ []) e h in
+    let h' : fault_of s.number (cause_of earlier all (Ok t)) ++ faults_after (earlier ++ label_given t) all more ≡ [] =
+    subst (λ r. fault_of s.number (cause_of earlier all r) ++ faults_after (earlier ++ labels_of_read r) all more ≡ []) e h in
     (keeps earlier all t (untold s.number (rule_broken earlier all t) (none_left _ _ h')), kept_all (earlier ++ label_given t) all more ts have (none_right _ _ h'))
   where
-    untold : (n : ℕ) (c : Option Cause) → told n c ≡ [] → c ≡ None
+    untold : (n : ℕ) (c : Option Cause) → fault_of n c ≡ [] → c ≡ None
     untold n None h = refl
     untold n (Some c) h = absurd (cc)
 
@@ -214,7 +214,7 @@ by_faults (f ∷ fs) ts ss h = absurd (cc)
 
 without_faults : (text : List ℕ) (ss : List Stmt) → verdict text ≡ Accepted ss → (statements : List Statement) → deck text ≡ Ok statements → faults statements ≡ []
 unfolding verdict
-without_faults text ss h statements e = by_faults (faults statements) (trees statements) ss (subst (λ r. verdict_of_cards r ≡ Accepted ss) e h)
+without_faults text ss h statements e = by_faults (faults statements) (deck_trees statements) ss (subst (λ r. verdict_of_cards r ≡ Accepted ss) e h)
 
 spelt_all : (statements : List Statement) (ss : List Stmt) → Have statements ss → AllByRecursion SpeltStmt ss
 spelt_all [] [] have = tt
@@ -231,7 +231,7 @@ new_labels earlier all [] k s front c = tt
 new_labels earlier all (End e ∷ ss) (k, ks) (s, more) front c = new_labels (earlier ++ end_word ∷ []) all ss ks more front (covers_more earlier front (end_word ∷ []) c)
 new_labels earlier all (Plain None b g ∷ ss) (k, ks) (s, more) front c = new_labels (earlier ++ []) all ss ks more front (covers_more earlier front [] c)
 new_labels earlier all (Plain (Some l) b g ∷ ss) (k, ks) ((n, b1, g1), more) front c =
-    let a = or_false (is_among l returns) (is_among l earlier) k.new in
+    let a = or_false (is_one_of l returns) (is_one_of l earlier) k.new in
     (label_name l n.0 n.1 a.0, c l a.1, new_labels (earlier ++ l ∷ []) all ss ks more (front ++ l ∷ []) (covers_snoc earlier front l c))
 
 ends_in_end : (before : List Stmt) (e : Option Bytes) → AllByRecursion IsPlain before → EndsInEnd (before ++ End e ∷ [])
@@ -244,7 +244,7 @@ unfolding faults
 accepted_is_fit text ss h =
     let a = accepts text ss h in
     let none = without_faults text ss h a.statements a.given in
-    let all = labels a.statements in
+    let all = labels_given a.statements in
     let keep = kept_all [] all a.statements ss a.have none in
     let spelt = spelt_all a.statements ss a.have in
     let sizes = accepted_fit text ss h in

@@ -12,7 +12,7 @@ use Rattle.model.specs.declared.primitives.PrimId.{PrimId}
 use Rattle.model.specs.declared.trees.Unary.TheVariants as u
 use Rattle.model.specs.declared.trees.Binary.TheVariants as b
 use Rattle.model.specs.Deck.Faults.{count, is_target, at_most}
-use Rattle.model.specs.Module.Flow.{Kind, V, N, Shape, shape, Asks, Above, floor_of}
+use Rattle.model.specs.Module.Flow.{OperandKind, V, N, Shape, shape, Asks, Above, floor_of}
 use Rattle.model.specs.Language.Names.{key_named, prim_named, most_args}
 use Rattle.model.specs.Deck.Trees.{Bytes, Expr, Name, Integer, Literal, Keyword, Call, Reference, Apply, Combine, Args, Nil, More, Absent, Given}
 use Rattle.model.specs.Module.WellFormed.{is_nonnull, indices_fit}
@@ -26,17 +26,17 @@ use Rattle.codegen_laws.proofs.Shapes.{next_shape, Targets}
 abbrev pub Floors : Shape → Type 0
 Floors s = floor_of s.handlers ≤ length s.kinds
 
-up : (k : Kind) (s : Shape) → Floors s → Floors (push k s)
+up : (k : OperandKind) (s : Shape) → Floors s → Floors (push k s)
 up k s f = omega (arith, f)
 
 abbrev pushes : ℕ → Shape → Shape
 pushes n s = shape s.mode (replicate n V ++ s.kinds) s.handlers
 
-vs_snoc : (n : ℕ) (ks : List Kind) → replicate n V ++ (V ∷ ks) ≡ V ∷ (replicate n V ++ ks)
+vs_snoc : (n : ℕ) (ks : List OperandKind) → replicate n V ++ (V ∷ ks) ≡ V ∷ (replicate n V ++ ks)
 vs_snoc zero ks = refl
 vs_snoc (suc n) ks = ap (λ x. V ∷ x) (vs_snoc n ks)
 
-vs_dropped : (n : ℕ) (ks : List Kind) → drop (length (replicate n V)) (replicate n V ++ ks) ≡ ks
+vs_dropped : (n : ℕ) (ks : List OperandKind) → drop (length (replicate n V)) (replicate n V ++ ks) ≡ ks
 vs_dropped zero ks = refl
 vs_dropped (suc n) ks = vs_dropped n ks
 
@@ -62,12 +62,12 @@ module _ (im : Image) where
   fetch_flows s f = flows_one im op.Fetch (refl, tt) (s.kinds, refl, f) (λ p. tt)
 
   -- from one operand to another
-  unary_flows : (i : Instr) (k l : Kind) → indices_fit im i ≡ true → Small i → ((s : Shape) → Asks i s ≡ Above (k ∷ []) s) → ((p : ℕ) (s : Shape) → Targets im.statements i p s [])
+  unary_flows : (i : Instr) (k l : OperandKind) → indices_fit im i ≡ true → Small i → ((s : Shape) → Asks i s ≡ Above (k ∷ []) s) → ((p : ℕ) (s : Shape) → Targets im.statements i p s [])
       → ((s : Shape) → next_shape i s ≡ shape s.mode (l ∷ drop 1 s.kinds) s.handlers) → (s : Shape) → Floors s → Flows im (push k s) (push l s) (one i)
   unary_flows i k l a b c t n s f = flows_as im (n (push k s)) (flows_one im i (a, b) (subst (λ T. T) (sym (c (push k s))) (s.kinds, refl, f)) (λ p. t p (push k s)))
 
   -- two operands to a value
-  binary_flows : (i : Instr) (k : Kind) → indices_fit im i ≡ true → Small i → ((s : Shape) → Asks i s ≡ Above (k ∷ V ∷ []) s) → ((p : ℕ) (s : Shape) → Targets im.statements i p s [])
+  binary_flows : (i : Instr) (k : OperandKind) → indices_fit im i ≡ true → Small i → ((s : Shape) → Asks i s ≡ Above (k ∷ V ∷ []) s) → ((p : ℕ) (s : Shape) → Targets im.statements i p s [])
       → ((s : Shape) → next_shape i s ≡ shape s.mode (V ∷ drop 2 s.kinds) s.handlers) → (s : Shape) → Floors s → Flows im (push k (push V s)) (push V s) (one i)
   binary_flows i k a b c t n s f = flows_as im (n (push k (push V s))) (flows_one im i (a, b) (subst (λ T. T) (sym (c (push k (push V s)))) (s.kinds, refl, f)) (λ p. t p (push k (push V s))))
 
@@ -110,7 +110,7 @@ module _ (im : Image) where
   -- ---- expressions
 
   -- after both operands
-  pub after_both : {s : Shape} {a b c : Part} (k : Kind) → Flows im s (push V s) a → Flows im (push V s) (push k (push V s)) b → Flows im (push k (push V s)) (push V s) c → Flows im s (push V s) (a >> b >> c)
+  pub after_both : {s : Shape} {a b c : Part} (k : OperandKind) → Flows im s (push V s) a → Flows im (push V s) (push k (push V s)) b → Flows im (push k (push V s)) (push V s) c → Flows im s (push V s) (a >> b >> c)
   after_both {s} {a} {b} {c} k x y z = flows_join im x (flows_join im y z)
 
   mutual

@@ -6,12 +6,12 @@ use Rattle.std.specs.Int.RustNames.{FitsSigned}
 use Rattle.model.specs.declared.image.Image.{Image}
 use Rattle.model.specs.declared.instr.Instr.{Instr}
 use Rattle.model.specs.declared.instr.Instr.TheVariants as op
-use Rattle.model.specs.Module.Flow.{Kind, V, Shape, shape, Asks, floor_of}
+use Rattle.model.specs.Module.Flow.{OperandKind, V, Shape, shape, Asks, floor_of}
 use Rattle.model.specs.Machine.Steps.{OnTry}
-use Rattle.model.specs.Module.Images.{bytes, total}
+use Rattle.model.specs.Module.Images.{instr_size, code_size}
 use Rattle.model.specs.Deck.Trees.{Bytes, Expr}
 use Rattle.model.specs.Module.WellFormed.{indices_fit}
-use Rattle.expr_codegen.specs.Texts.{place_of}
+use Rattle.expr_codegen.specs.Texts.{number_of_text}
 use Rattle.expr_codegen.specs.Code.{Part, nothing, one, with_string, unevaluated, ◌>>◌, handled}
 use Rattle.codegen_laws.proofs.Shapes.{next_shape, after, shape_from, Targets, Sound, after_join, sound_join, some_bytes}
 use Rattle.codegen_laws.proofs.Standing.{Held, AllHeld, all_left, all_right}
@@ -29,15 +29,15 @@ abbrev pub Fits : Image → Instr → Type 0
 Fits im i = (indices_fit im i ≡ true) × Small i
 
 -- the shape at the end of the first part, where there is a second
-pub shape_past : (p : ℕ) (s : Shape) (xs ys : List Instr) (at : ℕ) → p + total xs ≤ at → shape_from p s (xs ++ ys) at ≡ shape_from (p + total xs) (after xs s) ys at
+pub shape_past : (p : ℕ) (s : Shape) (xs ys : List Instr) (at : ℕ) → p + code_size xs ≤ at → shape_from p s (xs ++ ys) at ≡ shape_from (p + code_size xs) (after xs s) ys at
 shape_past p s [] ys at h = ap (λ n. shape_from n s ys at) (let e : p ≡ p + 0 = omega arith in e)
 shape_past p s (x ∷ xs) ys at h =
     let y = some_bytes x in
     let e : (p == at) ≡ false = grind (arith, h, y) in
-    rw e (shape_past (p + bytes x) (next_shape x s) xs ys at (omega (arith, h))
-    ∙ ap (λ n. shape_from n (after xs (next_shape x s)) ys at) (let f : p + bytes x + total xs ≡ p + (bytes x + total xs) = omega arith in f))
+    rw e (shape_past (p + instr_size x) (next_shape x s) xs ys at (omega (arith, h))
+    ∙ ap (λ n. shape_from n (after xs (next_shape x s)) ys at) (let f : p + instr_size x + code_size xs ≡ p + (instr_size x + code_size xs) = omega arith in f))
 
-abbrev pub push : Kind → Shape → Shape
+abbrev pub push : OperandKind → Shape → Shape
 push k s = shape s.mode (k ∷ s.kinds) s.handlers
 
 -- with TRY's handler
@@ -61,8 +61,8 @@ module _ (im : Image) where
       → ((k : ℕ) → next_shape (i k) s ≡ u) → Flows s u (with_string i t)
   unfolding with_string
   flows_string {s} {u} i t f a g n = record {
-    sound = λ k p h r. (f (place_of t im.strings) h.0, a (place_of t im.strings), g (place_of t im.strings) p, tt);
-    leaves = λ k p. n (place_of t im.strings);
+    sound = λ k p h r. (f (number_of_text t im.strings) h.0, a (number_of_text t im.strings), g (number_of_text t im.strings) p, tt);
+    leaves = λ k p. n (number_of_text t im.strings);
   }
 
   pub flows_later : {s : Shape} (e : Expr) → floor_of s.handlers ≤ length s.kinds → Flows s (push V s) (unevaluated e)
@@ -78,14 +78,14 @@ module _ (im : Image) where
     sound = λ k p h r.
         let j = length-append a.later b.later in
         let xs = a.code im.strings k p in
-        sound_join (Fits im) im.statements p s xs (b.code im.strings (k + length a.later) (p + total xs))
+        sound_join (Fits im) im.statements p s xs (b.code im.strings (k + length a.later) (p + code_size xs))
         (m.sound k p (all_left (Held im.strings) a.texts b.texts h) (omega (arith, j, r)))
-        (subst (λ x. Sound (Fits im) im.statements (p + total xs) x (b.code im.strings (k + length a.later) (p + total xs))) (sym (m.leaves k p))
-        (n.sound (k + length a.later) (p + total xs) (all_right (Held im.strings) a.texts b.texts h) (omega (arith, j, r))));
+        (subst (λ x. Sound (Fits im) im.statements (p + code_size xs) x (b.code im.strings (k + length a.later) (p + code_size xs))) (sym (m.leaves k p))
+        (n.sound (k + length a.later) (p + code_size xs) (all_right (Held im.strings) a.texts b.texts h) (omega (arith, j, r))));
     leaves = λ k p.
         let xs = a.code im.strings k p in
-        let ys = b.code im.strings (k + length a.later) (p + total xs) in
-        after_join xs ys s ∙ ap (after ys) (m.leaves k p) ∙ n.leaves (k + length a.later) (p + total xs);
+        let ys = b.code im.strings (k + length a.later) (p + code_size xs) in
+        after_join xs ys s ∙ ap (after ys) (m.leaves k p) ∙ n.leaves (k + length a.later) (p + code_size xs);
   }
 
   pub flows_as : {s t u : Shape} {a : Part} → t ≡ u → Flows s t a → Flows s u a
@@ -98,7 +98,7 @@ module _ (im : Image) where
     sound = λ k p h r.
         let j = length-append a.later [] in
         let xs = a.code im.strings k (p + 5) in
-        let t : ℕ = p + 5 + total xs in
+        let t : ℕ = p + 5 + code_size xs in
         let first = next_shape (op.Try t) s in
         let same : after xs first ≡ s = (m t).leaves k (p + 5) in
         let here : (t == t) ≡ true = grind arith in (
@@ -111,6 +111,6 @@ module _ (im : Image) where
         );
     leaves = λ k p.
         let xs = a.code im.strings k (p + 5) in
-        let t : ℕ = p + 5 + total xs in
+        let t : ℕ = p + 5 + code_size xs in
         after_join xs (op.Null ∷ []) (next_shape (op.Try t) s) ∙ ap (after (op.Null ∷ [])) ((m t).leaves k (p + 5));
   }

@@ -2,7 +2,7 @@
 use Rattle.std.proofs.Common.{slice_get}
 use Rattle.model.proofs.Machine.Agreement.{agrees_where_placed}
 use Rattle.model.proofs.Machine.RunsBounded.{run_steps_law}
-use Rattle.codegen.specs.Layout.{image_of}
+use Rattle.codegen.specs.Layout.{generated_image}
 use Rattle.codegen_laws.specs.CodegenLaws.{AreFit, AreCountable, IsPlaced, IsSpelt, IsSound, IsSmall, DoesAsMeant, IsInTime}
 use Rattle.codegen_laws.proofs.Accepted.{accepted_is_fit}
 use Rattle.codegen_laws.proofs.Counting.{all_statements}
@@ -30,7 +30,7 @@ pub small : IsSmall
 small text ss h = Limits.code_small ss (are_fit text ss h)
 
 pub agrees : DoesAsMeant
-agrees text ss h = let p = placed text ss h in agrees_where_placed ss (image_of ss) p.0 p.1
+agrees text ss h = let p = placed text ss h in agrees_where_placed ss (generated_image ss) p.0 p.1
 
 pub in_time : IsInTime
-in_time text ss h = let p = placed text ss h in run_steps_law ss (image_of ss) p.0 p.1
+in_time text ss h = let p = placed text ss h in run_steps_law ss (generated_image ss) p.0 p.1

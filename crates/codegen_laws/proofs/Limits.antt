@@ -12,17 +12,17 @@ use Rattle.model.specs.declared.instr.Instr.TheVariants as op
 use Rattle.model.specs.declared.primitives.PrimId.{PrimId}
 use Rattle.model.specs.declared.primitives.PrimId.TheVariants as prim
 use Rattle.model.specs.Module.Flow.{Shape, bare}
-use Rattle.model.specs.Module.Images.{bytes, total}
+use Rattle.model.specs.Module.Images.{instr_size, code_size}
 use Rattle.model.specs.Language.Names.{most_args}
 use Rattle.model.specs.Language.Programs.{labelled_from, entry_in, entry_label}
 use Rattle.model.specs.Module.Spelling.{u16, u32, u64, instr, code_bytes, InstrFits, most, most_code, Follow, is_new, newest, rises, statement_of, StringFits, LabelFits, StatementFits, OffsetFits, IsImage}
 use Rattle.model.specs.Deck.Trees.{Bytes, Expr, Stmt, Plain, End}
-use Rattle.model.specs.Module.WellFormed.{is_nonnull, is_statement, is_name}
+use Rattle.model.specs.Module.WellFormed.{is_nonnull, is_statement, is_nonnull_string}
 use Rattle.model.specs.Deck.Weights as weights
 use Rattle.model.specs.Deck.Weights.{of_name, weight}
-use Rattle.expr_codegen.specs.Texts.{place_of, with_text, with_texts}
+use Rattle.expr_codegen.specs.Texts.{number_of_text, with_text, with_texts}
 use Rattle.expr_codegen.specs.Code.{Part, ◌>>◌}
-use Rattle.codegen.specs.Layout.{statements_of, expressions_of, joined, offsets, labels, label_texts, code_of, image_of}
+use Rattle.codegen.specs.Layout.{program_parts, expressions_of, joined_parts, offsets, label_entries, label_texts, code_of, generated_image}
 use Rattle.codegen_laws.specs.Fit.{IsFit}
 use Rattle.codegen_laws.proofs.Flows.{Fits}
 use Rattle.codegen_laws.proofs.Offsets.{HasCode, full_some, offsets_length, statements_full}
@@ -63,9 +63,9 @@ few_strings : (ts ss : List Bytes) → length (with_texts ts ss) ≤ length ss +
 few_strings [] ss = omega arith
 few_strings (t ∷ ts) ss = let a = few_strings ts (with_text t ss) in let b = one_more t ss in omega (arith, a, b)
 
-place_within : (t : Bytes) (ts : List Bytes) → place_of t ts ≤ length ts
+place_within : (t : Bytes) (ts : List Bytes) → number_of_text t ts ≤ length ts
 place_within t [] = omega arith
-place_within t (s ∷ ss) = elim (bytes_eq t s) as (λ b. (if b then 0 else suc (place_of t ss)) ≤ suc (length ss)) [
+place_within t (s ∷ ss) = elim (bytes_eq t s) as (λ b. (if b then 0 else suc (number_of_text t ss)) ≤ suc (length ss)) [
   | true ↦ omega arith
   | false ↦ let h = place_within t ss in omega (arith, h)
 ]
@@ -80,56 +80,56 @@ newest_snoc : {A : Type 0} (xs : List A) (x : A) → newest (xs ++ x ∷ []) ≡
 newest_snoc xs x = ap (slice_get (xs ++ x ∷ [])) (let h = length-append xs (x ∷ []) in let e : length (xs ++ x ∷ []) - 1 ≡ length xs = omega (arith, h) in e) ∙ get_snoc xs x
 
 labels_follow : (texts : List Bytes) → length texts < 2 ^ 32 → (n : ℕ) (ss : List Stmt) → n + length ss < 2 ^ 32 → (front : List Label)
-    → ((m : ℕ) → n ≤ m → rises (option_map statement_of (newest front)) m ≡ true) → Follow LabelFits front (labels texts n ss)
+    → ((m : ℕ) → n ≤ m → rises (option_map statement_of (newest front)) m ≡ true) → Follow LabelFits front (label_entries texts n ss)
 labels_follow texts few n [] h front r = tt
 labels_follow texts few n (End e ∷ ss) h front r = labels_follow texts few (suc n) ss (omega (arith, h)) front (λ m l. r m (omega (arith, l)))
 labels_follow texts few n (Plain None b g ∷ ss) h front r = labels_follow texts few (suc n) ss (omega (arith, h)) front (λ m l. r m (omega (arith, l)))
 labels_follow texts few n (Plain (Some l) b g ∷ ss) h front r =
-    let here : Label = record { string = place_of l texts; statement = n } in
+    let here : Label = record { string = number_of_text l texts; statement = n } in
     let p = place_within l texts in (
-      (let x : place_of l texts < 2 ^ 32 = omega (arith, p, few) in x, let x : n < 2 ^ 32 = omega (arith, h) in x, r n (omega arith)),
+      (let x : number_of_text l texts < 2 ^ 32 = omega (arith, p, few) in x, let x : n < 2 ^ 32 = omega (arith, h) in x, r n (omega arith)),
       labels_follow texts few (suc n) ss (omega (arith, h)) (front ++ here ∷ [])
           (λ m l. ap (λ e. rises (option_map statement_of e) m) (newest_snoc front here) ∙ (let x : nat_lt n m ≡ true = grind (arith, l) in x)),
     )
 
-labels_count : (texts : List Bytes) (n : ℕ) (ss : List Stmt) → length (labels texts n ss) ≤ length ss
+labels_count : (texts : List Bytes) (n : ℕ) (ss : List Stmt) → length (label_entries texts n ss) ≤ length ss
 labels_count texts n [] = omega arith
 labels_count texts n (End e ∷ ss) = let h = labels_count texts (suc n) ss in omega (arith, h)
 labels_count texts n (Plain None b g ∷ ss) = let h = labels_count texts (suc n) ss in omega (arith, h)
 labels_count texts n (Plain (Some l) b g ∷ ss) = let h = labels_count texts (suc n) ss in omega (arith, h)
 
-statements_follow : (texts : List Bytes) (ps : List Part) → AllByRecursion HasCode ps → (k at : ℕ) (front : List ℕ) → rises (newest front) at ≡ true → at + total ((joined ps).code texts k at) < 2 ^ 32
+statements_follow : (texts : List Bytes) (ps : List Part) → AllByRecursion HasCode ps → (k at : ℕ) (front : List ℕ) → rises (newest front) at ≡ true → at + code_size ((joined_parts ps).code texts k at) < 2 ^ 32
     → Follow StatementFits front (offsets ps texts k at)
 unfolding ◌>>◌
 statements_follow texts [] f k at front r small = tt
 statements_follow texts (p ∷ ps) f k at front r small =
     let xs = p.code texts k at in
-    let q : ℕ = at + total xs in
-    let ys = (joined ps).code texts (k + length p.later) q in
+    let q : ℕ = at + code_size xs in
+    let ys = (joined_parts ps).code texts (k + length p.later) q in
     let t = total_join xs ys in
     let some = full_some xs (f.0 texts k at) in
     let up : nat_lt at q ≡ true = grind (arith, some) in (
       (let h : at < 2 ^ 32 = omega (arith, small) in h, r),
-      statements_follow texts ps f.1 (k + length p.later) q (front ++ at ∷ []) (ap (λ e. rises e q) (newest_snoc front at) ∙ up) (let h : q + total ys < 2 ^ 32 = omega (arith, small, t) in h),
+      statements_follow texts ps f.1 (k + length p.later) q (front ++ at ∷ []) (ap (λ e. rises e q) (newest_snoc front at) ∙ up) (let h : q + code_size ys < 2 ^ 32 = omega (arith, small, t) in h),
     )
 
-expressions_follow : (texts : List Bytes) (ps : List Part) (k at : ℕ) (front : List ℕ) → at + total ((joined ps).code texts k at) < 2 ^ 32 → Follow OffsetFits front (offsets ps texts k at)
+expressions_follow : (texts : List Bytes) (ps : List Part) (k at : ℕ) (front : List ℕ) → at + code_size ((joined_parts ps).code texts k at) < 2 ^ 32 → Follow OffsetFits front (offsets ps texts k at)
 unfolding ◌>>◌
 expressions_follow texts [] k at front small = tt
 expressions_follow texts (p ∷ ps) k at front small =
     let xs = p.code texts k at in
-    let q : ℕ = at + total xs in
-    let ys = (joined ps).code texts (k + length p.later) q in
+    let q : ℕ = at + code_size xs in
+    let ys = (joined_parts ps).code texts (k + length p.later) q in
     let t = total_join xs ys in
-    ((let h : at < 2 ^ 32 = omega (arith, small) in h), expressions_follow texts ps (k + length p.later) q (front ++ at ∷ []) (let h : q + total ys < 2 ^ 32 = omega (arith, small, t) in h))
+    ((let h : at < 2 ^ 32 = omega (arith, small) in h), expressions_follow texts ps (k + length p.later) q (front ++ at ∷ []) (let h : q + code_size ys < 2 ^ 32 = omega (arith, small, t) in h))
 
 -- ---- instructions
 
-below : (p : ℕ) (s : Shape) (is : List Instr) (at : ℕ) (t : Shape) → shape_from p s is at ≡ Some t → at < p + total is
+below : (p : ℕ) (s : Shape) (is : List Instr) (at : ℕ) (t : Shape) → shape_from p s is at ≡ Some t → at < p + code_size is
 below p s [] at t h = absurd (cc)
-below p s (i ∷ is) at t h = elim (p == at) as (λ b. (p == at) ≡ b → (if b then Some s else shape_from (p + bytes i) (next_shape i s) is at) ≡ Some t → at < p + (bytes i + total is)) [
+below p s (i ∷ is) at t h = elim (p == at) as (λ b. (p == at) ≡ b → (if b then Some s else shape_from (p + instr_size i) (next_shape i s) is at) ≡ Some t → at < p + (instr_size i + code_size is)) [
   | true ↦ λ e f. let same : p ≡ at = grind (arith, e) in let y = some_bytes i in omega (arith, same, y)
-  | false ↦ λ e f. let x = below (p + bytes i) (next_shape i s) is at t f in omega (arith, x)
+  | false ↦ λ e f. let x = below (p + instr_size i) (next_shape i s) is at t f in omega (arith, x)
 ] refl h
 
 pub few_args : (p : PrimId) → most_args p < 2 ^ 8
@@ -183,10 +183,10 @@ record Few (im : Image) : Type 0 where
 statement_few : (im : Image) → Few im → (k : ℕ) → is_statement im k ≡ true → k < 2 ^ 32
 statement_few im few k h = let x = no_more (length im.statements) k (both_right (nat_lt 0 k) (not (nat_lt (length im.statements) k)) h) in let y = few.statements in omega (arith, x, y)
 
-string_few : (im : Image) → Few im → (k : ℕ) → is_name im k ≡ true → k < 2 ^ 32
+string_few : (im : Image) → Few im → (k : ℕ) → is_nonnull_string im k ≡ true → k < 2 ^ 32
 string_few im few k h = let x = name_within im.strings k h in let y = few.strings in omega (arith, x, y)
 
-instr_fits : (im : Image) → Few im → (os : List ℕ) (i : Instr) (p : ℕ) (s : Shape) (rest : List Instr) → p + (bytes i + total rest) < 2 ^ 32 → Fits im i → Targets os i p s rest → InstrFits i
+instr_fits : (im : Image) → Few im → (os : List ℕ) (i : Instr) (p : ℕ) (s : Shape) (rest : List Instr) → p + (instr_size i + code_size rest) < 2 ^ 32 → Fits im i → Targets os i p s rest → InstrFits i
 instr_fits im few os (op.Begin f) p s rest small (a, b) (t, o) = let x = below (p + 5) (next_shape (op.Begin f) s) rest f bare t in omega (arith, x, small)
 instr_fits im few os (op.Try f) p s rest small (a, b) t = let x = below (p + 5) (next_shape (op.Try f) s) rest f s t in omega (arith, x, small)
 instr_fits im few os (op.Goto k) p s rest small (a, b) t = statement_few im few k a
@@ -202,9 +202,9 @@ instr_fits im few os (op.PrimN f n) p s rest small (a, b) t = let x = no_more (m
 instr_fits im few os (op.Pat k) p s rest small (a, b) t = let x = less_of k (length im.patterns) a in let y = few.patterns in omega (arith, x, y)
 instr_fits im few os _ p s rest small f t = tt
 
-code_fits : (im : Image) → Few im → (os : List ℕ) (p : ℕ) (s : Shape) (is : List Instr) → p + total is < 2 ^ 32 → Sound (Fits im) os p s is → AllByRecursion InstrFits is
+code_fits : (im : Image) → Few im → (os : List ℕ) (p : ℕ) (s : Shape) (is : List Instr) → p + code_size is < 2 ^ 32 → Sound (Fits im) os p s is → AllByRecursion InstrFits is
 code_fits im few os p s [] small h = tt
-code_fits im few os p s (i ∷ is) small (f, a, t, h) = (instr_fits im few os i p s is small f t, code_fits im few os (p + bytes i) (next_shape i s) is (omega (arith, small)) h)
+code_fits im few os p s (i ∷ is) small (f, a, t, h) = (instr_fits im few os i p s is small f t, code_fits im few os (p + instr_size i) (next_shape i s) is (omega (arith, small)) h)
 
 length_u16 : (n : ℕ) → length (u16 n) ≡ 2
 unfolding u16
@@ -218,7 +218,7 @@ length_u64 : (n : ℕ) → length (u64 n) ≡ 8
 unfolding u64
 length_u64 n = refl
 
-instr_length : (i : Instr) → length (instr i) ≡ bytes i
+instr_length : (i : Instr) → length (instr i) ≡ instr_size i
 instr_length (op.Begin f) = let h = length_u32 f in omega (arith, h)
 instr_length (op.Goto k) = let h = length_u32 k in omega (arith, h)
 instr_length (op.Str k) = let h = length_u32 k in omega (arith, h)
@@ -239,7 +239,7 @@ instr_length (op.Sign o) = omega arith
 instr_length (op.Arith o) = omega arith
 instr_length _ = omega arith
 
-code_length : (is : List Instr) → length (code_bytes is) ≡ total is
+code_length : (is : List Instr) → length (code_bytes is) ≡ code_size is
 code_length [] = refl
 code_length (i ∷ is) = let x = instr_length i in let y = code_length is in let z = length-append (instr i) (code_bytes is) in omega (arith, x, y, z)
 
@@ -251,30 +251,30 @@ due_is (e ∷ es) = let h = due_is es in omega (arith, h)
 
 module _ (ss : List Stmt) (fit : IsFit ss) where
   abbrev im : Image
-  im = image_of ss
+  im = generated_image ss
 
   abbrev first : Part
-  first = joined (statements_of ss)
+  first = joined_parts (program_parts ss)
 
   abbrev second : Part
-  second = joined (expressions_of ss)
+  second = joined_parts (expressions_of ss)
 
   abbrev code_first : List Instr
   code_first = first.code im.strings 0 0
 
   abbrev code_second : List Instr
-  code_second = second.code im.strings (length first.later) (total code_first)
+  code_second = second.code im.strings (length first.later) (code_size code_first)
 
-  both_small : total code_first + total code_second ≤ 15728640
+  both_small : code_size code_first + code_size code_second ≤ 15728640
   both_small =
       let a = (statements_weigh (labelled_from 1 ss) 1 ss).code im.strings 0 0 in
-      let b = queue_code (weights.total weight ss) first.later im.strings (length first.later) (total code_first) in
+      let b = queue_code (weights.total weight ss) first.later im.strings (length first.later) (code_size code_first) in
       let c = fit.count in
       let d = fit.together in
       omega (arith, a, b, c, d)
 
-  pub code_small : total im.code ≤ 15728640
-  code_small = let a = both_small in let b = total_join code_first code_second in let c : total im.code ≡ total (code_first ++ code_second) = ap total (code_is ss fit.ends fit.statements) in omega (arith, a, b, c)
+  pub code_small : code_size im.code ≤ 15728640
+  code_small = let a = both_small in let b = total_join code_first code_second in let c : code_size im.code ≡ code_size (code_first ++ code_second) = ap code_size (code_is ss fit.ends fit.statements) in omega (arith, a, b, c)
 
   texts_small : of_texts (label_texts ss) + of_texts (code_of ss).texts ≤ 1048576
   unfolding ◌>>◌
@@ -298,7 +298,7 @@ module _ (ss : List Stmt) (fit : IsFit ss) where
 
   expressions_count : length im.expressions ≤ 1048576
   expressions_count =
-      let a = offsets_length (expressions_of ss) im.strings (length first.later) (total code_first) in
+      let a = offsets_length (expressions_of ss) im.strings (length first.later) (code_size code_first) in
       let b = queue_length (weights.total weight ss) first.later in
       let c = fit.together in
       omega (arith, a, b, c)
@@ -321,17 +321,17 @@ module _ (ss : List Stmt) (fit : IsFit ss) where
           let h = texts_small in
           texts_follow (label_texts ss) (with_texts (code_of ss).texts []) (omega (arith, h)) (texts_follow (code_of ss).texts [] (omega (arith, h)) tt);
     };
-    labels = record {
+    label_entries = record {
       count = (let h = labels_count im.strings 1 ss in let c = fit.count in let e : length im.labels ≤ most = omega (arith, h, c) in e);
       entries = labels_follow im.strings (few.strings) 1 ss (let c = fit.count in omega (arith, c)) [] (λ m h. refl);
     };
     statements = record {
       count = (let h = statements_count in let e : length im.statements ≤ most = omega (arith, h) in e);
-      entries = statements_follow im.strings (statements_of ss) (statements_full (labelled_from 1 ss) 1 ss) 0 0 [] refl (let h = both_small in omega (arith, h));
+      entries = statements_follow im.strings (program_parts ss) (statements_full (labelled_from 1 ss) 1 ss) 0 0 [] refl (let h = both_small in omega (arith, h));
     };
     expressions = record {
       count = (let h = expressions_count in let e : length im.expressions ≤ most = omega (arith, h) in e);
-      entries = expressions_follow im.strings (expressions_of ss) (length first.later) (total code_first) [] (let h = both_small in omega (arith, h));
+      entries = expressions_follow im.strings (expressions_of ss) (length first.later) (code_size code_first) [] (let h = both_small in omega (arith, h));
     };
     patterns = record { count = omega arith; entries = tt };
     code = code_fits im few im.statements 0 bare im.code (let h = code_small in omega (arith, h)) (is_sound ss fit.ends fit.statements).sound;

@@ -3,7 +3,7 @@ use Rattle.std.proofs.Common.{◌≡◌, ℕ, zero, suc, ◌+◌, ◌<◌, ◌�
 use Rattle.std.specs.List.{AllByRecursion}
 use Rattle.model.specs.declared.instr.Instr.{Instr}
 use Rattle.model.specs.declared.instr.Instr.TheVariants as op
-use Rattle.model.specs.Module.Images.{total, number_at}
+use Rattle.model.specs.Module.Images.{code_size, statement_number}
 use Rattle.model.specs.Deck.Trees.{Bytes, Expr, Stmt, Plain, End}
 use Rattle.expr_codegen.specs.Code.{Part, one, ◌>>◌, handled, value}
 use Rattle.codegen.specs.Layout.{statement, statements, expression, expressions, offsets}
@@ -16,7 +16,7 @@ Full (i ∷ is) = Unit {0}
 abbrev pub HasCode : Part → Type 0
 HasCode a = (texts : List Bytes) (k p : ℕ) → Full (a.code texts k p)
 
-pub full_some : (is : List Instr) → Full is → 1 ≤ total is
+pub full_some : (is : List Instr) → Full is → 1 ≤ code_size is
 full_some [] f = absurd f
 full_some (i ∷ is) f = let h = some_bytes i in omega (arith, h)
 
@@ -53,23 +53,23 @@ statements_length f n (s ∷ ss) = ap suc (statements_length f (suc n) ss)
 
 pub offsets_length : (ps : List Part) (texts : List Bytes) (k at : ℕ) → length (offsets ps texts k at) ≡ length ps
 offsets_length [] texts k at = refl
-offsets_length (p ∷ ps) texts k at = ap suc (offsets_length ps texts (k + length p.later) (at + total (p.code texts k at)))
+offsets_length (p ∷ ps) texts k at = ap suc (offsets_length ps texts (k + length p.later) (at + code_size (p.code texts k at)))
 
 module _ (texts : List Bytes) where
   pub above : (ps : List Part) (k at i o : ℕ) → slice_get (offsets ps texts k at) i ≡ Some o → at ≤ o
   above [] k at i o e = absurd (cc)
   above (p ∷ ps) k at zero o e = let z : at ≡ o = cc in omega (arith, z)
-  above (p ∷ ps) k at (suc i) o e = let h = above ps (k + length p.later) (at + total (p.code texts k at)) i o e in omega (arith, h)
+  above (p ∷ ps) k at (suc i) o e = let h = above ps (k + length p.later) (at + code_size (p.code texts k at)) i o e in omega (arith, h)
 
   -- so the number of an offset is its place
-  pub numbered : (ps : List Part) → AllByRecursion HasCode ps → (k at i o : ℕ) → slice_get (offsets ps texts k at) i ≡ Some o → number_at (offsets ps texts k at) o ≡ suc i
+  pub numbered : (ps : List Part) → AllByRecursion HasCode ps → (k at i o : ℕ) → slice_get (offsets ps texts k at) i ≡ Some o → statement_number (offsets ps texts k at) o ≡ suc i
   numbered [] f k at i o e = absurd (cc)
   numbered (p ∷ ps) f k at zero o e = let z : at ≡ o = cc in let h : (at == o) ≡ true = grind (arith, z) in rw h refl
   numbered (p ∷ ps) (f, g) k at (suc i) o e =
-      let x = above ps (k + length p.later) (at + total (p.code texts k at)) i o e in
+      let x = above ps (k + length p.later) (at + code_size (p.code texts k at)) i o e in
       let y = full_some (p.code texts k at) (f texts k at) in
       let h : (at == o) ≡ false = grind (arith, x, y) in
-      rw h (ap suc (numbered ps g (k + length p.later) (at + total (p.code texts k at)) i o e))
+      rw h (ap suc (numbered ps g (k + length p.later) (at + code_size (p.code texts k at)) i o e))
 
 pub get_within : {A : Type 0} (xs : List A) (k : ℕ) → k < length xs → (x : A) × (slice_get xs k ≡ Some x)
 get_within [] k h = absurd (let e : ⊥ = omega (arith, h) in e)

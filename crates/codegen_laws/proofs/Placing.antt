@@ -4,7 +4,7 @@ use Rattle.std.specs.Prelude.{map}
 use Rattle.std.specs.List.{AllByRecursion}
 use Rattle.model.specs.declared.instr.Instr.TheVariants as op
 use Rattle.model.specs.Machine.Steps.{Module}
-use Rattle.model.specs.Module.Images.{total, module_of, statement_at, statement_of, end_of}
+use Rattle.model.specs.Module.Images.{code_size, module_of, statement_offset, statement_labelled, end_of}
 use Rattle.model.specs.Module.Placed.{CodeV, CodeS, Placed, Is}
 use Rattle.model.specs.Language.Programs.{Program, program, statement_in, labelled_from, entry_in, entry_label, number_or, end_label}
 use Rattle.model.specs.Deck.Trees.{Bytes, Expr, Body, Goto, Stmt, Plain, End}
@@ -12,7 +12,7 @@ use Rattle.model.specs.Deck.Weights as weights
 use Rattle.model.specs.Deck.Weights.{weight}
 use Rattle.expr_codegen.specs.Texts.{with_texts}
 use Rattle.expr_codegen.specs.Code.{Part, ◌>>◌}
-use Rattle.codegen.specs.Layout.{statement, statements, statements_of, expression, expressions_of, joined, offsets, labels, label_texts, code_of, texts_of, image_of}
+use Rattle.codegen.specs.Layout.{statement, statements, program_parts, expression, expressions_of, joined_parts, offsets, label_entries, label_texts, code_of, texts_of, generated_image}
 use Rattle.codegen_laws.specs.Fit.{Fit, FitStmt, EndsInEnd}
 use Rattle.codegen_laws.proofs.ExpressionsPlaced.{value_placed}
 use Rattle.codegen_laws.proofs.Offsets.{numbered, offsets_length, statements_length, statements_full, get_within}
@@ -28,8 +28,8 @@ first_offset f n (s ∷ ss) ends texts k at = refl
 
 module _ (prog : Program) (img : Module) (texts : List Bytes) (strings : (k : ℕ) → img.string k ≡ slice_get texts k) (trees_at : ℕ → Option Expr) where
   -- statements from number n on stand where their offsets say
-  stand_at : (n : ℕ) (ss : List Stmt) → EndsInEnd ss → AllByRecursion FitStmt ss → (k p : ℕ) → AllHeld texts (joined (statements prog.label n ss)).texts
-      → Numbered trees_at k (joined (statements prog.label n ss)).later → StandsFrom img p ((joined (statements prog.label n ss)).code texts k p)
+  stand_at : (n : ℕ) (ss : List Stmt) → EndsInEnd ss → AllByRecursion FitStmt ss → (k p : ℕ) → AllHeld texts (joined_parts (statements prog.label n ss)).texts
+      → Numbered trees_at k (joined_parts (statements prog.label n ss)).later → StandsFrom img p ((joined_parts (statements prog.label n ss)).code texts k p)
       → ((i : ℕ) → img.stmt (n + i) ≡ slice_get (offsets (statements prog.label n ss) texts k p) i)
       → ((i o : ℕ) → slice_get (offsets (statements prog.label n ss) texts k p) i ≡ Some o → img.number o ≡ n + i)
       → (i o : ℕ) → slice_get (offsets (statements prog.label n ss) texts k p) i ≡ Some o → CodeS prog img trees_at (n + i) (slice_get ss i) o
@@ -48,7 +48,7 @@ module _ (prog : Program) (img : Module) (texts : List Bytes) (strings : (k : �
       let same : n + 0 ≡ n = omega arith in
       let one : n + 1 ≡ suc n = omega arith in
       let a = statement prog.label n (Plain l b g) in
-      let q : ℕ = p + total (a.code texts k p) in
+      let q : ℕ = p + code_size (a.code texts k p) in
       let next : img.stmt (suc n) ≡ Some q = subst (λ m. img.stmt m ≡ Some q) one (os 1 ∙ first_offset prog.label (suc n) ss ends texts (k + length a.later) q) in
       let number : img.number p ≡ n = ns 0 p refl ∙ same in
       let here = (statement_placed prog img texts strings trees_at n l b g fit.0).at k p (all_left (Held texts) a.texts _ held) (numbered_left trees_at k a.later _ num) (stands_left img p (a.code texts k p) _ st) next number in
@@ -57,12 +57,12 @@ module _ (prog : Program) (img : Module) (texts : List Bytes) (strings : (k : �
       let on : (j : ℕ) → suc n + j ≡ n + suc j = λ j. omega arith in
       let a = statement prog.label n (Plain l b g) in
       subst (λ m. CodeS prog img trees_at m (slice_get ss i) o) (on i)
-      (stand_at (suc n) ss ends fit.1 (k + length a.later) (p + total (a.code texts k p)) (all_right (Held texts) a.texts _ held) (numbered_right trees_at k a.later _ num)
+      (stand_at (suc n) ss ends fit.1 (k + length a.later) (p + code_size (a.code texts k p)) (all_right (Held texts) a.texts _ held) (numbered_right trees_at k a.later _ num)
       (stands_right img p (a.code texts k p) _ st) (λ j. ap img.stmt (on j) ∙ os (suc j)) (λ j x h. ns (suc j) x h ∙ sym (on j)) i o e)
 
   -- each expression stands where its offset says
-  expressions_stand : (es : List Expr) → AllByRecursion Fit es → (k p : ℕ) → AllHeld texts (joined (map expression es)).texts → Numbered trees_at k (joined (map expression es)).later
-      → StandsFrom img p ((joined (map expression es)).code texts k p) → (i : ℕ) (e : Expr) → slice_get es i ≡ Some e
+  expressions_stand : (es : List Expr) → AllByRecursion Fit es → (k p : ℕ) → AllHeld texts (joined_parts (map expression es)).texts → Numbered trees_at k (joined_parts (map expression es)).later
+      → StandsFrom img p ((joined_parts (map expression es)).code texts k p) → (i : ℕ) (e : Expr) → slice_get es i ≡ Some e
       → (o q r : ℕ) × (slice_get (offsets (map expression es) texts k p) i ≡ Some o) × CodeV prog img trees_at e o q × Is prog img trees_at q op.Ret r
   unfolding ◌>>◌
   expressions_stand [] fit k p held num st i e h = absurd (cc)
@@ -71,16 +71,16 @@ module _ (prog : Program) (img : Module) (texts : List Bytes) (strings : (k : �
       let a = expression x in
       let here = (means_join img texts strings trees_at (value_placed prog img texts strings trees_at x fit.0) (means_one img texts strings trees_at op.Ret)).at k p
       (all_left (Held texts) a.texts _ held) (numbered_left trees_at k a.later _ num) (stands_left img p (a.code texts k p) _ st) in
-      (p, here.0, p + total (a.code texts k p), refl, subst (λ y. CodeV prog img trees_at y p here.0) z here.1, here.2)
+      (p, here.0, p + code_size (a.code texts k p), refl, subst (λ y. CodeV prog img trees_at y p here.0) z here.1, here.2)
   expressions_stand (x ∷ es) fit k p held num st (suc i) e h =
       let a = expression x in
-      expressions_stand es fit.1 (k + length a.later) (p + total (a.code texts k p)) (all_right (Held texts) a.texts _ held) (numbered_right trees_at k a.later _ num)
+      expressions_stand es fit.1 (k + length a.later) (p + code_size (a.code texts k p)) (all_right (Held texts) a.texts _ held) (numbered_right trees_at k a.later _ num)
       (stands_right img p (a.code texts k p) _ st) i e h
 
 -- ---- labels
 
 labels_are : (texts : List Bytes) (n : ℕ) (ss : List Stmt) → EndsInEnd ss → AllHeld texts (label_texts ss) → (l : Bytes) (m : ℕ) → suc m ≡ n + length ss
-    → statement_of texts (labels texts n ss) l (if bytes_eq end_label l then Some m else None) ≡ labelled_from n ss l
+    → statement_labelled texts (label_entries texts n ss) l (if bytes_eq end_label l then Some m else None) ≡ labelled_from n ss l
 labels_are texts n [] ends held l m e = absurd ends
 labels_are texts n (End x ∷ []) ends held l m e = ap (λ y. if bytes_eq end_label l then Some y else None) (let h : m ≡ n = omega (arith, e) in h)
 labels_are texts n (End x ∷ s ∷ ss) ends held l m e = absurd ends
@@ -137,16 +137,16 @@ module _ (ss : List Stmt) (ends : EndsInEnd ss) (fit : AllByRecursion FitStmt ss
   all = texts_of ss
 
   abbrev first : Part
-  first = joined (statements_of ss)
+  first = joined_parts (program_parts ss)
 
   abbrev second : Part
-  second = joined (expressions_of ss)
+  second = joined_parts (expressions_of ss)
 
   abbrev pub later_of : List Expr
   later_of = (code_of ss).later
 
   abbrev img : Module
-  img = module_of (image_of ss)
+  img = module_of (generated_image ss)
 
   abbrev prog : Program
   prog = program ss
@@ -173,19 +173,19 @@ module _ (ss : List Stmt) (ends : EndsInEnd ss) (fit : AllByRecursion FitStmt ss
   unfolding ◌>>◌
   numbers_second = subst (λ n. Numbered (slice_get later_of) n second.later) (let e : 0 + length first.later ≡ length first.later = omega arith in e) (numbered_right (slice_get later_of) 0 first.later second.later numbers)
 
-  pub code_is : (code_of ss).code all 0 0 ≡ first.code all 0 0 ++ second.code all (length first.later) (total (first.code all 0 0))
+  pub code_is : (code_of ss).code all 0 0 ≡ first.code all 0 0 ++ second.code all (length first.later) (code_size (first.code all 0 0))
   unfolding ◌>>◌
   code_is =
       let a : 0 + length first.later ≡ length first.later = omega arith in
-      let b : 0 + total (first.code all 0 0) ≡ total (first.code all 0 0) = omega arith in
-      ap (λ n. first.code all 0 0 ++ second.code all n (0 + total (first.code all 0 0))) a ∙ ap (λ n. first.code all 0 0 ++ second.code all (length first.later) n) b
+      let b : 0 + code_size (first.code all 0 0) ≡ code_size (first.code all 0 0) = omega arith in
+      ap (λ n. first.code all 0 0 ++ second.code all n (0 + code_size (first.code all 0 0))) a ∙ ap (λ n. first.code all 0 0 ++ second.code all (length first.later) n) b
 
-  stands : StandsFrom img 0 (first.code all 0 0 ++ second.code all (length first.later) (total (first.code all 0 0)))
+  stands : StandsFrom img 0 (first.code all 0 0 ++ second.code all (length first.later) (code_size (first.code all 0 0)))
   stands = subst (λ is. StandsFrom img 0 is) code_is (whole_stands img ((code_of ss).code all 0 0) refl)
 
-  stands_second : StandsFrom img (total (first.code all 0 0)) (second.code all (length first.later) (total (first.code all 0 0)))
-  stands_second = subst (λ n. StandsFrom img n (second.code all (length first.later) (total (first.code all 0 0)))) (let e : 0 + total (first.code all 0 0) ≡ total (first.code all 0 0) = omega arith in e)
-      (stands_right img 0 (first.code all 0 0) (second.code all (length first.later) (total (first.code all 0 0))) stands)
+  stands_second : StandsFrom img (code_size (first.code all 0 0)) (second.code all (length first.later) (code_size (first.code all 0 0)))
+  stands_second = subst (λ n. StandsFrom img n (second.code all (length first.later) (code_size (first.code all 0 0)))) (let e : 0 + code_size (first.code all 0 0) ≡ code_size (first.code all 0 0) = omega arith in e)
+      (stands_right img 0 (first.code all 0 0) (second.code all (length first.later) (code_size (first.code all 0 0))) stands)
 
   -- ---- expressions
 
@@ -200,41 +200,41 @@ module _ (ss : List Stmt) (ends : EndsInEnd ss) (fit : AllByRecursion FitStmt ss
   exprs_placed : (k : ℕ) (e : Expr) → slice_get later_of k ≡ Some e → (p q r : ℕ) × (img.expr k ≡ Some p) × CodeV prog img (slice_get later_of) e p q × Is prog img (slice_get later_of) q op.Ret r
   exprs_placed k e h =
       let n : ℕ = length first.later in
-      let at : ℕ = total (first.code all 0 0) in
+      let at : ℕ = code_size (first.code all 0 0) in
       let (p, q, r, is, c, l) = expressions_stand prog img all (λ j. refl) (slice_get later_of) later_of later_fits n at
-      (subst (λ ps. AllHeld all (joined ps).texts) written held_second) (subst (λ ps. Numbered (slice_get later_of) n (joined ps).later) written numbers_second)
-      (subst (λ ps. StandsFrom img at ((joined ps).code all n at)) written stands_second) k e h in
+      (subst (λ ps. AllHeld all (joined_parts ps).texts) written held_second) (subst (λ ps. Numbered (slice_get later_of) n (joined_parts ps).later) written numbers_second)
+      (subst (λ ps. StandsFrom img at ((joined_parts ps).code all n at)) written stands_second) k e h in
       (p, q, r, ap (λ ps. slice_get (offsets ps all n at) k) written ∙ is, c, l)
 
   -- ---- statements
 
   abbrev offsets_of : List ℕ
-  offsets_of = offsets (statements_of ss) all 0 0
+  offsets_of = offsets (program_parts ss) all 0 0
 
   pub offsets_count : length offsets_of ≡ length ss
-  offsets_count = offsets_length (statements_of ss) all 0 0 ∙ statements_length prog.label 1 ss
+  offsets_count = offsets_length (program_parts ss) all 0 0 ∙ statements_length prog.label 1 ss
 
-  pub stmts_placed : (k o : ℕ) → statement_at offsets_of k ≡ Some o → CodeS prog img (slice_get later_of) k (statement_in ss k) o
+  pub stmts_placed : (k o : ℕ) → statement_offset offsets_of k ≡ Some o → CodeS prog img (slice_get later_of) k (statement_in ss k) o
   stmts_placed zero o e = absurd (cc)
   stmts_placed (suc k) o e =
       let one : (i : ℕ) → 1 + i ≡ suc i = λ i. omega arith in
       subst (λ n. CodeS prog img (slice_get later_of) n (slice_get ss k) o) (one k)
       (stand_at prog img all (λ j. refl) (slice_get later_of) 1 ss ends fit 0 0 held_first numbers_first (stands_left img 0 (first.code all 0 0) _ stands)
-      (λ i. ap (statement_at offsets_of) (one i)) (λ i x h. numbered all (statements_of ss) (statements_full prog.label 1 ss) 0 0 i x h ∙ sym (one i)) k o e)
+      (λ i. ap (statement_offset offsets_of) (one i)) (λ i x h. numbered all (program_parts ss) (statements_full prog.label 1 ss) 0 0 i x h ∙ sym (one i)) k o e)
 
-  next_placed : (k : ℕ) (l : Option Bytes) (body : Body) (g : Goto) → statement_in ss k ≡ Some (Plain l body g) → (o : ℕ) × (statement_at offsets_of (suc k) ≡ Some o)
+  next_placed : (k : ℕ) (l : Option Bytes) (body : Body) (g : Goto) → statement_in ss k ≡ Some (Plain l body g) → (o : ℕ) × (statement_offset offsets_of (suc k) ≡ Some o)
   next_placed zero l body g e = absurd (cc)
   next_placed (suc k) l body g e = get_within offsets_of (suc k) (let h = not_last ss ends k l body g e in let c = offsets_count in omega (arith, h, c))
 
-  labels_placed : (l : Bytes) → statement_of all (labels all 1 ss) l (end_of offsets_of l) ≡ labelled_from 1 ss l
+  labels_placed : (l : Bytes) → statement_labelled all (label_entries all 1 ss) l (end_of offsets_of l) ≡ labelled_from 1 ss l
   labels_placed l =
-      ap (λ n. statement_of all (labels all 1 ss) l (if bytes_eq end_label l then Some n else None)) offsets_count
+      ap (λ n. statement_labelled all (label_entries all 1 ss) l (if bytes_eq end_label l then Some n else None)) offsets_count
       ∙ labels_are all 1 ss ends (all_held (label_texts ss) (with_texts (code_of ss).texts [])) l (length ss) (omega arith)
 
-  pub within_offsets : (k : ℕ) → Among 1 (length ss) k → (o : ℕ) × (statement_at offsets_of k ≡ Some o)
+  pub within_offsets : (k : ℕ) → Among 1 (length ss) k → (o : ℕ) × (statement_offset offsets_of k ≡ Some o)
   within_offsets k (j, is, less) =
       let g = get_within offsets_of j (let c = offsets_count in omega (arith, less, c)) in
-      (g.0, subst (λ n. statement_at offsets_of n ≡ Some g.0) (let e : suc j ≡ k = omega (arith, is) in e) g.1)
+      (g.0, subst (λ n. statement_offset offsets_of n ≡ Some g.0) (let e : suc j ≡ k = omega (arith, is) in e) g.1)
 
   pub entry_among : (o : Option Bytes) → Among 1 (length ss) (entry_in ss o)
   entry_among None = (0, refl, some_statement ss ends)

@@ -12,7 +12,7 @@ use Rattle.model.specs.Language.Meaning.{key_target}
 use Rattle.model.specs.Language.Names.{key_named, prim_named}
 use Rattle.model.specs.Deck.Trees.{Bytes, Expr, Name, Integer, Literal, Keyword, Call, Reference, Apply, Combine, Args, Nil, More, Absent, Given, Place, Label, Computed, Goto, Next, Always, OnSuccess, OnFailure, Both, Body, Nothing, Evaluate, Match, Assign, Replace, Stmt, Plain, End}
 use Rattle.expr_codegen.specs.Code.{Part, nothing, one, with_string, unevaluated, ◌>>◌, handled, call, with_key, value, name, arguments}
-use Rattle.codegen.specs.Layout.{object, assignment, body, place, after_success, after_failure, statement, statements, expression, expressions, joined}
+use Rattle.codegen.specs.Layout.{object, assignment, body, place, after_success, after_failure, statement, statements, expression, expressions, joined_parts}
 use Rattle.codegen_laws.proofs.Standing.{all_join}
 use Rattle.codegen_laws.specs.Fit.{Fit, FitArgs, FitObject, FitBody, FitPlace, FitGoto, FitStmt}
 
@@ -149,16 +149,16 @@ module _ (number_of : Bytes → Option ℕ) where
       (later_join (body b) (one op.Body >> after_success number_of n g) (later_body b f) (later_join (one op.Body) (after_success number_of n g) (later_one op.Body) (later_success n g h))) (later_failure g h)
   later_statement n (End e) f = later_one op.End
 
-  pub later_statements : (n : ℕ) (ss : List Stmt) → AllByRecursion FitStmt ss → FitLater (joined (statements number_of n ss))
+  pub later_statements : (n : ℕ) (ss : List Stmt) → AllByRecursion FitStmt ss → FitLater (joined_parts (statements number_of n ss))
   later_statements n [] f = later_nothing
-  later_statements n (s ∷ ss) (f, g) = later_join (statement number_of n s) (joined (statements number_of (suc n) ss)) (later_statement n s f) (later_statements (suc n) ss g)
+  later_statements n (s ∷ ss) (f, g) = later_join (statement number_of n s) (joined_parts (statements number_of (suc n) ss)) (later_statement n s f) (later_statements (suc n) ss g)
 
 later_expression : (e : Expr) → Fit e → FitLater (expression e)
 later_expression e f = with_one (value e) op.Ret (later_value e f)
 
-pub later_expressions : (fuel : ℕ) (es : List Expr) → AllByRecursion Fit es → FitLater (joined (expressions fuel es))
+pub later_expressions : (fuel : ℕ) (es : List Expr) → AllByRecursion Fit es → FitLater (joined_parts (expressions fuel es))
 later_expressions zero es f = later_nothing
 later_expressions (suc fuel) [] f = later_nothing
 later_expressions (suc fuel) (e ∷ es) (f, g) =
     let more = later_expression e f in
-    later_join (expression e) (joined (expressions fuel (es ++ (expression e).later))) more (later_expressions fuel (es ++ (expression e).later) (all_join Fit es (expression e).later g more))
+    later_join (expression e) (joined_parts (expressions fuel (es ++ (expression e).later))) more (later_expressions fuel (es ++ (expression e).later) (all_join Fit es (expression e).later g more))

@@ -6,8 +6,8 @@ use Rattle.model.specs.declared.image.Image.{Image}
 use Rattle.model.specs.declared.instr.Instr.{Instr}
 use Rattle.model.specs.declared.instr.Instr.TheVariants as op
 use Rattle.model.specs.Machine.Steps.{At, Nowhere, Fetched, OnBegin, OnTry}
-use Rattle.model.specs.Module.Images.{bytes, total, fetch_from}
-use Rattle.model.specs.Module.Flow.{InBody, Shape, shape, bare, asked, takes, leaves, Asks, leads, is_target, to_target, Begins, Reach, BreaksFlow, IsLeast}
+use Rattle.model.specs.Module.Images.{instr_size, code_size, fetch_from}
+use Rattle.model.specs.Module.Flow.{InBody, Shape, shape, bare, asked, takes, leaves, Asks, leads, is_jump_target, to_target, Begins, Reach, BreaksFlow, IsLeast}
 use Rattle.model.specs.Module.WellFormed.{is_last_instr}
 
 -- ---- what the code leaves
@@ -27,7 +27,7 @@ after (i ∷ is) s = after is (next_shape i s)
 -- the shape at an offset, where the code begins at o with s
 abbrev pub shape_from : ℕ → Shape → List Instr → ℕ → Option Shape
 shape_from o s [] at = None
-shape_from o s (i ∷ is) at = if o == at then Some s else shape_from (o + bytes i) (next_shape i s) is at
+shape_from o s (i ∷ is) at = if o == at then Some s else shape_from (o + instr_size i) (next_shape i s) is at
 
 -- ---- sound code
 
@@ -40,11 +40,11 @@ Targets os i p s is = Unit {0}
 -- each instruction fits and has what it asks, and its targets are there; os: the offsets of statements
 abbrev pub Sound : (Instr → Type 0) → List ℕ → ℕ → Shape → List Instr → Type 0
 Sound Fits os p s [] = Unit {0}
-Sound Fits os p s (i ∷ is) = Fits i × Asks i s × Targets os i p s is × Sound Fits os (p + bytes i) (next_shape i s) is
+Sound Fits os p s (i ∷ is) = Fits i × Asks i s × Targets os i p s is × Sound Fits os (p + instr_size i) (next_shape i s) is
 
 -- ---- code behind code
 
-pub total_join : (xs ys : List Instr) → total (xs ++ ys) ≡ total xs + total ys
+pub total_join : (xs ys : List Instr) → code_size (xs ++ ys) ≡ code_size xs + code_size ys
 total_join [] ys = omega arith
 total_join (x ∷ xs) ys = let h = total_join xs ys in omega (arith, h)
 
@@ -55,9 +55,9 @@ after_join (x ∷ xs) ys s = after_join xs ys (next_shape x s)
 -- what stands in the first part stands in both
 shape_stays : (p : ℕ) (s : Shape) (xs ys : List Instr) (at : ℕ) (t : Shape) → shape_from p s xs at ≡ Some t → shape_from p s (xs ++ ys) at ≡ Some t
 shape_stays p s [] ys at t h = absurd (cc)
-shape_stays p s (x ∷ xs) ys at t h = elim (p == at) as (λ b. (if b then Some s else shape_from (p + bytes x) (next_shape x s) xs at) ≡ Some t → (if b then Some s else shape_from (p + bytes x) (next_shape x s) (xs ++ ys) at) ≡ Some t) [
+shape_stays p s (x ∷ xs) ys at t h = elim (p == at) as (λ b. (if b then Some s else shape_from (p + instr_size x) (next_shape x s) xs at) ≡ Some t → (if b then Some s else shape_from (p + instr_size x) (next_shape x s) (xs ++ ys) at) ≡ Some t) [
   | true ↦ λ e. e
-  | false ↦ λ e. shape_stays (p + bytes x) (next_shape x s) xs ys at t e
+  | false ↦ λ e. shape_stays (p + instr_size x) (next_shape x s) xs ys at t e
 ] h
 
 targets_stay : (os : List ℕ) (i : Instr) (p : ℕ) (s : Shape) (xs ys : List Instr) → Targets os i p s xs → Targets os i p s (xs ++ ys)
@@ -65,10 +65,10 @@ targets_stay os (op.Begin f) p s xs ys (a, b) = (shape_stays (p + 5) (next_shape
 targets_stay os (op.Try t) p s xs ys h = shape_stays (p + 5) (next_shape (op.Try t) s) xs ys t s h
 targets_stay os _ p s xs ys h = h
 
-pub sound_join : (Fits : Instr → Type 0) (os : List ℕ) (p : ℕ) (s : Shape) (xs ys : List Instr) → Sound Fits os p s xs → Sound Fits os (p + total xs) (after xs s) ys → Sound Fits os p s (xs ++ ys)
+pub sound_join : (Fits : Instr → Type 0) (os : List ℕ) (p : ℕ) (s : Shape) (xs ys : List Instr) → Sound Fits os p s xs → Sound Fits os (p + code_size xs) (after xs s) ys → Sound Fits os p s (xs ++ ys)
 sound_join Fits os p s [] ys a b = subst (λ q. Sound Fits os q s ys) (let e : p + 0 ≡ p = omega arith in e) b
 sound_join Fits os p s (x ∷ xs) ys (f, k, t, a) b =
-    (f, k, targets_stay os x p s xs ys t, sound_join Fits os (p + bytes x) (next_shape x s) xs ys a (subst (λ q. Sound Fits os q (after xs (next_shape x s)) ys) (let e : p + (bytes x + total xs) ≡ p + bytes x + total xs = omega arith in e) b))
+    (f, k, targets_stay os x p s xs ys t, sound_join Fits os (p + instr_size x) (next_shape x s) xs ys a (subst (λ q. Sound Fits os q (after xs (next_shape x s)) ys) (let e : p + (instr_size x + code_size xs) ≡ p + instr_size x + code_size xs = omega arith in e) b))
 
 -- ---- each place that is come to has its shape
 
@@ -79,7 +79,7 @@ contains_cons x y xs (suc k, less, e) = inr (k, (let h : k < length xs = omega (
 pub contains_nil : {X : Type 0} (y : X) → Contains [] y → ⊥
 contains_nil y (k, less, e) = omega (arith, less)
 
-pub some_bytes : (i : Instr) → 1 ≤ bytes i
+pub some_bytes : (i : Instr) → 1 ≤ instr_size i
 some_bytes (op.Begin f) = omega arith
 some_bytes (op.Goto k) = omega arith
 some_bytes (op.Return r) = omega arith
@@ -137,7 +137,7 @@ led : (im : Image) (i : Instr) (at next : ℕ) (s : Shape) (b : ℕ) (t : Shape)
 led im op.End at next s b t h = none b t op.End next s h
 led im (op.Begin f) at next s b t h = elim (contains_cons {X = Pair} (next, next_shape (op.Begin f) s) (b, t) (to_target im at f bare) h) [
   | inl e ↦ inl (onward (op.Begin f) next s b t refl e)
-  | inr n ↦ inr (targeted (is_target im at f) f bare b t n)
+  | inr n ↦ inr (targeted (is_jump_target im at f) f bare b t n)
 ]
 led im (op.Goto k) at next s b t h = none b t (op.Goto k) next s h
 led im (op.Return r) at next s b t h = none b t (op.Return r) next s h
@@ -145,7 +145,7 @@ led im op.GotoV at next s b t h = none b t op.GotoV next s h
 led im op.NoLabel at next s b t h = none b t op.NoLabel next s h
 led im (op.Try f) at next s b t h = elim (contains_cons {X = Pair} (next, next_shape (op.Try f) s) (b, t) (to_target im at f s) h) [
   | inl e ↦ inl (onward (op.Try f) next s b t refl e)
-  | inr n ↦ inr (targeted (is_target im at f) f s b t n)
+  | inr n ↦ inr (targeted (is_jump_target im at f) f s b t n)
 ]
 led im op.Fail at next s b t h = none b t op.Fail next s h
 led im op.Ret at next s b t h = none b t op.Ret next s h
@@ -189,15 +189,15 @@ ends_well (i ∷ j ∷ is) = ends_well (j ∷ is)
 
 pub above : (p : ℕ) (s : Shape) (is : List Instr) (at : ℕ) (t : Shape) → shape_from p s is at ≡ Some t → p ≤ at
 above p s [] at t h = absurd (cc)
-above p s (i ∷ is) at t h = elim (p == at) as (λ b. (p == at) ≡ b → (if b then Some s else shape_from (p + bytes i) (next_shape i s) is at) ≡ Some t → p ≤ at) [
+above p s (i ∷ is) at t h = elim (p == at) as (λ b. (p == at) ≡ b → (if b then Some s else shape_from (p + instr_size i) (next_shape i s) is at) ≡ Some t → p ≤ at) [
   | true ↦ λ e f. let same : p ≡ at = grind (arith, e) in omega (arith, same)
-  | false ↦ λ e f. let x = above (p + bytes i) (next_shape i s) is at t f in omega (arith, x)
+  | false ↦ λ e f. let x = above (p + instr_size i) (next_shape i s) is at t f in omega (arith, x)
 ] refl h
 
 -- what stands behind the first instruction stands in the whole
-pub behind : (p : ℕ) (s : Shape) (i : Instr) (is : List Instr) (at : ℕ) (t : Shape) → shape_from (p + bytes i) (next_shape i s) is at ≡ Some t → shape_from p s (i ∷ is) at ≡ Some t
+pub behind : (p : ℕ) (s : Shape) (i : Instr) (is : List Instr) (at : ℕ) (t : Shape) → shape_from (p + instr_size i) (next_shape i s) is at ≡ Some t → shape_from p s (i ∷ is) at ≡ Some t
 behind p s i is at t h =
-    let x = above (p + bytes i) (next_shape i s) is at t h in
+    let x = above (p + instr_size i) (next_shape i s) is at t h in
     let y = some_bytes i in
     let e : (p == at) ≡ false = grind (arith, x, y) in
     rw e h
@@ -210,11 +210,11 @@ gone_to os p s (op.Begin f) is (a, o) b t (e, g) = subst (λ x. shape_from p s (
 gone_to os p s (op.Try f) is a b t (e, g) = subst (λ x. shape_from p s (op.Try f ∷ is) x ≡ Some t) e (behind p s (op.Try f) is f t (a ∙ ap Some g))
 gone_to os p s _ is a b t h = absurd h
 
-gone_on : (p : ℕ) (s : Shape) (i : Instr) (is : List Instr) → ends_well (i ∷ is) ≡ true → (next : ℕ) → p + bytes i ≡ next → (b : ℕ) (t : Shape) → OnTo i next s b t → shape_from p s (i ∷ is) b ≡ Some t
+gone_on : (p : ℕ) (s : Shape) (i : Instr) (is : List Instr) → ends_well (i ∷ is) ≡ true → (next : ℕ) → p + instr_size i ≡ next → (b : ℕ) (t : Shape) → OnTo i next s b t → shape_from p s (i ∷ is) b ≡ Some t
 gone_on p s i [] w next n b t o = absurd (let x = o.more in cc)
 gone_on p s i (j ∷ is) w next n b t o =
     subst (λ x. shape_from p s (i ∷ j ∷ is) x ≡ Some t) (n ∙ o.at)
-    (behind p s i (j ∷ is) (p + bytes i) t (first_shape (p + bytes i) (next_shape i s) j is ∙ ap Some o.is))
+    (behind p s i (j ∷ is) (p + instr_size i) t (first_shape (p + instr_size i) (next_shape i s) j is ∙ ap Some o.is))
 
 -- an instruction of sound code, with what stands before it
 record Known (im : Image) (at : ℕ) (i : Instr) (next : ℕ) (s : Shape) (p : ℕ) (first : Shape) (is : List Instr) : Type 0 where
@@ -230,11 +230,11 @@ follows Nowhere = 0
 follows (At i next) = next
 
 known_first : (im : Image) (Fits : Instr → Type 0) (os : List ℕ) (p : ℕ) (s : Shape) (i : Instr) (is : List Instr) → Sound Fits os p s (i ∷ is) → ends_well (i ∷ is) ≡ true
-    → (at : ℕ) → Known im at i (p + bytes i) s p s (i ∷ is)
+    → (at : ℕ) → Known im at i (p + instr_size i) s p s (i ∷ is)
 known_first im Fits os p s i is (f, a, t, more) w at = record {
   has = a;
-  on = λ b u h. elim (led im i at (p + bytes i) s b u h) [
-    | inl o ↦ gone_on p s i is w (p + bytes i) refl b u o
+  on = λ b u h. elim (led im i at (p + instr_size i) s b u h) [
+    | inl o ↦ gone_on p s i is w (p + instr_size i) refl b u o
     | inr g ↦ gone_to os p s i is t b u g
   ];
 }
@@ -243,20 +243,20 @@ known : (im : Image) (Fits : Instr → Type 0) (os : List ℕ) (p : ℕ) (s : Sh
     → (at : ℕ) (t : Shape) → shape_from p s is at ≡ Some t → (i : Instr) (next : ℕ) → fetch_from p is at ≡ At i next → Known im at i next t p s is
 unfolding fetched follows
 known im Fits os p s [] so w at t h i next f = absurd (cc)
-known im Fits os p s (j ∷ []) so w at t h i next f = elim (p == at) as (λ b. (if b then Some s else None) ≡ Some t → (if b then At j (p + bytes j) else Nowhere) ≡ At i next → Known im at i next t p s (j ∷ [])) [
+known im Fits os p s (j ∷ []) so w at t h i next f = elim (p == at) as (λ b. (if b then Some s else None) ≡ Some t → (if b then At j (p + instr_size j) else Nowhere) ≡ At i next → Known im at i next t p s (j ∷ [])) [
   | true ↦ λ e g.
       let same : s ≡ t = cc in
       subst (λ x. Known im at i next x p s (j ∷ [])) same
       (subst (λ y. Known im at (fetched y) (follows y) s p s (j ∷ [])) g (known_first im Fits os p s j [] so w at))
   | false ↦ λ e g. absurd (cc)
 ] h f
-known im Fits os p s (j ∷ x ∷ is) so w at t h i next f = elim (p == at) as (λ b. (if b then Some s else shape_from (p + bytes j) (next_shape j s) (x ∷ is) at) ≡ Some t → (if b then At j (p + bytes j) else fetch_from (p + bytes j) (x ∷ is) at) ≡ At i next → Known im at i next t p s (j ∷ x ∷ is)) [
+known im Fits os p s (j ∷ x ∷ is) so w at t h i next f = elim (p == at) as (λ b. (if b then Some s else shape_from (p + instr_size j) (next_shape j s) (x ∷ is) at) ≡ Some t → (if b then At j (p + instr_size j) else fetch_from (p + instr_size j) (x ∷ is) at) ≡ At i next → Known im at i next t p s (j ∷ x ∷ is)) [
   | true ↦ λ e g.
       let same : s ≡ t = cc in
       subst (λ x1. Known im at i next x1 p s (j ∷ x ∷ is)) same
       (subst (λ y. Known im at (fetched y) (follows y) s p s (j ∷ x ∷ is)) g (known_first im Fits os p s j (x ∷ is) so w at))
   | false ↦ λ e g.
-      let more = known im Fits os (p + bytes j) (next_shape j s) (x ∷ is) so.3 w at t e i next g in
+      let more = known im Fits os (p + instr_size j) (next_shape j s) (x ∷ is) so.3 w at t e i next g in
       record { has = more.has; on = λ b u c. behind p s j (x ∷ is) b u (more.on b u c) }
 ] h f
 

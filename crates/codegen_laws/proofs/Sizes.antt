@@ -14,14 +14,14 @@ use Rattle.model.specs.declared.trees.Binary.TheVariants as b
 use Rattle.model.specs.Language.Calls.{return_of}
 use Rattle.model.specs.Deck.Faults.{count}
 use Rattle.model.specs.Language.Meaning.{key_target}
-use Rattle.model.specs.Module.Images.{bytes, total}
+use Rattle.model.specs.Module.Images.{instr_size, code_size}
 use Rattle.model.specs.Language.Names.{key_named, prim_named}
 use Rattle.model.specs.Deck.Trees.{Bytes, Expr, Name, Integer, Literal, Keyword, Call, Reference, Apply, Combine, Args, Nil, More, Absent, Given, Place, Label, Computed, Goto, Next, Always, OnSuccess, OnFailure, Both, Body, Nothing, Evaluate, Match, Assign, Replace, Stmt, Plain, End}
 use Rattle.model.specs.Deck.Weights as weights
 use Rattle.model.specs.Deck.Weights.{of_name, of_expr, of_args, of_place, of_goto, of_object, of_body, weight}
-use Rattle.expr_codegen.specs.Texts.{place_of}
+use Rattle.expr_codegen.specs.Texts.{number_of_text}
 use Rattle.expr_codegen.specs.Code.{Part, nothing, one, with_string, unevaluated, ◌>>◌, handled, call, with_key, value, name, arguments}
-use Rattle.codegen.specs.Layout.{object, assignment, body, to_known, to_label, place, after_success, after_failure, statement, statements, expression, expressions, joined, label_texts}
+use Rattle.codegen.specs.Layout.{object, assignment, body, goto_known, goto_label, place, after_success, after_failure, statement, statements, expression, expressions, joined_parts, label_texts}
 use Rattle.codegen_laws.proofs.Shapes.{total_join}
 
 -- strings; expressions; the code of expressions with their ends
@@ -40,7 +40,7 @@ sum_join f (x ∷ xs) ys = let h = sum_join f xs ys in omega (arith, h)
 
 -- at most so many bytes, with what is due later; strings and what is later; and what is later
 pub record Bounds (c t q : ℕ) (a : Part) : Type 0 where
-  pub code : (texts : List Bytes) (k p : ℕ) → total (a.code texts k p) + due a.later ≤ c
+  pub code : (texts : List Bytes) (k p : ℕ) → code_size (a.code texts k p) + due a.later ≤ c
   pub texts : of_texts a.texts + of_later a.later ≤ t
   pub later : of_later a.later ≤ q
 
@@ -55,16 +55,16 @@ bounds_nothing : Bounds 0 0 0 nothing
 unfolding nothing
 bounds_nothing = record { code = λ texts k p. omega arith; texts = omega arith; later = omega arith }
 
-bounds_one : (i : Instr) → Bounds (bytes i) 0 0 (one i)
+bounds_one : (i : Instr) → Bounds (instr_size i) 0 0 (one i)
 unfolding one
 bounds_one i = record { code = λ texts k p. omega arith; texts = omega arith; later = omega arith }
 
-bounds_string : (c : ℕ) (i : ℕ → Instr) (t : Bytes) → ((k : ℕ) → bytes (i k) ≤ c) → Bounds c (of_name t) 0 (with_string i t)
+bounds_string : (c : ℕ) (i : ℕ → Instr) (t : Bytes) → ((k : ℕ) → instr_size (i k) ≤ c) → Bounds c (of_name t) 0 (with_string i t)
 unfolding with_string
 bounds_string c i t h = record { code = λ texts k p. let x = h (place_at texts) in omega (arith, x); texts = omega arith; later = omega arith }
   where
     place_at : List Bytes → ℕ
-    place_at texts = place_of t texts
+    place_at texts = number_of_text t texts
 
 bounds_later : (e : Expr) → Bounds (9 * of_expr e + 6) (of_expr e) (of_expr e) (unevaluated e)
 unfolding unevaluated
@@ -84,14 +84,14 @@ bounds_join {c} {t} {q} {d} {s} {r} {a} {b} m n =
       code = λ texts k p.
           let xs = a.code texts k p in
           let x = m.code texts k p in
-          let y = n.code texts (k + length a.later) (p + total xs) in
-          let z = total_join xs (b.code texts (k + length a.later) (p + total xs)) in
+          let y = n.code texts (k + length a.later) (p + code_size xs) in
+          let z = total_join xs (b.code texts (k + length a.later) (p + code_size xs)) in
           omega (arith, x, y, z, i);
       texts = omega (arith, mt, nt, j, l);
       later = omega (arith, ml, nl, l);
     }
 
-bounds_handled : {c t q d s r : ℕ} {a b : Part} (i : ℕ → Instr) → ((k : ℕ) → bytes (i k) ≡ 5) → Bounds c t q a → Bounds d s r b → Bounds (c + d + 5) (t + s) (q + r) (handled i a b)
+bounds_handled : {c t q d s r : ℕ} {a b : Part} (i : ℕ → Instr) → ((k : ℕ) → instr_size (i k) ≡ 5) → Bounds c t q a → Bounds d s r b → Bounds (c + d + 5) (t + s) (q + r) (handled i a b)
 unfolding handled
 bounds_handled {c} {t} {q} {d} {s} {r} {a} {b} i five m n =
     let both = bounds_join m n in
@@ -100,7 +100,7 @@ bounds_handled {c} {t} {q} {d} {s} {r} {a} {b} i five m n =
     record {
       code = λ texts k p.
           let h = both.code texts k (p + 5) in
-          let f = five (p + 5 + total (a.code texts k (p + 5))) in
+          let f = five (p + 5 + code_size (a.code texts k (p + 5))) in
           omega (arith, h, f);
       texts = bt;
       later = bl;
@@ -124,11 +124,11 @@ some_weight (Combine o x y) = omega arith
 name_some : (s : Bytes) → 1 ≤ of_name s
 name_some s = omega arith
 
-key_bounds : (i : KeyId → Instr) → ((k : KeyId) → bytes (i k) ≡ 2) → (o : Option KeyId) → Bounds 2 0 0 (with_key i o)
+key_bounds : (i : KeyId → Instr) → ((k : KeyId) → instr_size (i k) ≡ 2) → (o : Option KeyId) → Bounds 2 0 0 (with_key i o)
 key_bounds i two None = bounds_as bounds_nothing (omega arith) (omega arith) (omega arith)
 key_bounds i two (Some k) = bounds_as (bounds_one (i k)) (let h = two k in omega (arith, h)) (omega arith) (omega arith)
 
-call_bounds : (prim : PrimId → ℕ → Instr) (own : ℕ → ℕ → Instr) → ((p : PrimId) (n : ℕ) → bytes (prim p n) ≡ 3) → ((k n : ℕ) → bytes (own k n) ≡ 7)
+call_bounds : (prim : PrimId → ℕ → Instr) (own : ℕ → ℕ → Instr) → ((p : PrimId) (n : ℕ) → instr_size (prim p n) ≡ 3) → ((k n : ℕ) → instr_size (own k n) ≡ 7)
     → (o : Option PrimId) (f : Bytes) (n : ℕ) → Bounds 7 (of_name f) 0 (call prim own o f n)
 call_bounds prim own three seven None f n = bounds_string 7 (λ k. own k n) f (λ k. let h = seven k n in omega (arith, h))
 call_bounds prim own three seven (Some p) f n = bounds_as (bounds_one (prim p n)) (let h = three p n in omega (arith, h)) (omega arith) (omega arith)
@@ -136,13 +136,13 @@ call_bounds prim own three seven (Some p) f n = bounds_as (bounds_one (prim p n)
 applied : {n : ℕ} {a b : Part} → 1 ≤ n → Weighs n a → Bounds 9 0 0 b → Weighs (n + 1) (a >> b)
 applied {n} some m h = bounds_as (bounds_join m h) (omega arith) (omega arith) (omega (arith, some))
 
-short : (i : Instr) → bytes i ≤ 9 → Bounds 9 0 0 (one i)
+short : (i : Instr) → instr_size i ≤ 9 → Bounds 9 0 0 (one i)
 short i h = bounds_as (bounds_one i) h (omega arith) (omega arith)
 
-shorts : (i j : Instr) → bytes i + bytes j ≤ 9 → Bounds 9 0 0 (one i >> one j)
+shorts : (i j : Instr) → instr_size i + instr_size j ≤ 9 → Bounds 9 0 0 (one i >> one j)
 shorts i j h = bounds_as (bounds_join (bounds_one i) (bounds_one j)) h (omega arith) (omega arith)
 
-combined : {n m : ℕ} {a b : Part} → 1 ≤ n → 1 ≤ m → Weighs n a → Weighs m b → (i : Instr) → bytes i ≤ 9 → Weighs (n + m + 1) (a >> b >> one i)
+combined : {n m : ℕ} {a b : Part} → 1 ≤ n → 1 ≤ m → Weighs n a → Weighs m b → (i : Instr) → instr_size i ≤ 9 → Weighs (n + m + 1) (a >> b >> one i)
 combined {n} {m} s t x y i h = bounds_as (bounds_join x (bounds_join y (short i h))) (omega arith) (omega arith) (omega (arith, s, t))
 
 mutual
@@ -216,11 +216,11 @@ of_rest (Plain l b g) = of_body b + of_goto g
 of_rest (End e) = 0
 
 module _ (number_of : Bytes → Option ℕ) where
-  known_weighs : (o : Option ℕ) → Bounds 5 0 0 (one (to_known o))
+  known_weighs : (o : Option ℕ) → Bounds 5 0 0 (one (goto_known o))
   known_weighs None = bounds_as (bounds_one op.NoLabel) (omega arith) (omega arith) (omega arith)
   known_weighs (Some n) = bounds_one (op.Goto n)
 
-  label_weighs : (r : Option ReturnKind) (l : Bytes) → Bounds 5 0 0 (one (to_label r (number_of l)))
+  label_weighs : (r : Option ReturnKind) (l : Bytes) → Bounds 5 0 0 (one (goto_label r (number_of l)))
   label_weighs None l = known_weighs (number_of l)
   label_weighs (Some r) l = bounds_as (bounds_one (op.Return r)) (omega arith) (omega arith) (omega arith)
 
@@ -242,7 +242,7 @@ module _ (number_of : Bytes → Option ℕ) where
       bounds_as (bounds_handled op.Begin (λ k. refl) (bounds_join (body_weighs b) (bounds_join (bounds_one op.Body) x)) y) (omega (arith, i)) (omega (arith, j)) (omega (arith, k))
   statement_weighs n (End e) = bounds_as (bounds_one op.End) (omega arith) (omega arith) (omega arith)
 
-  pub statements_weigh : (n : ℕ) (ss : List Stmt) → Bounds (9 * weights.total weight ss + 6 * length ss) (weights.total of_rest ss) (weights.total of_rest ss) (joined (statements number_of n ss))
+  pub statements_weigh : (n : ℕ) (ss : List Stmt) → Bounds (9 * weights.total weight ss + 6 * length ss) (weights.total of_rest ss) (weights.total of_rest ss) (joined_parts (statements number_of n ss))
   statements_weigh n [] = bounds_nothing
   statements_weigh n (s ∷ ss) = bounds_as (bounds_join (statement_weighs n s) (statements_weigh (suc n) ss)) (omega arith) (omega arith) (omega arith)
 
@@ -261,7 +261,7 @@ expression_weighs : (e : Expr) → Bounds (9 * of_expr e + 1) (of_expr e) (of_ex
 expression_weighs e = bounds_as (bounds_join (value_weighs e) (bounds_one op.Ret)) (omega arith) (omega arith) (omega arith)
 
 -- a queue ends, so each expression is written
-pub all_written : (fuel : ℕ) (es : List Expr) → of_later es ≤ fuel → expressions fuel es ≡ map expression (es ++ (joined (expressions fuel es)).later)
+pub all_written : (fuel : ℕ) (es : List Expr) → of_later es ≤ fuel → expressions fuel es ≡ map expression (es ++ (joined_parts (expressions fuel es)).later)
 unfolding nothing ◌>>◌
 all_written zero [] h = refl
 all_written zero (e ∷ es) h = absurd (let x = some_weight e in let y : ⊥ = omega (arith, h, x) in y)
@@ -273,23 +273,23 @@ all_written (suc fuel) (e ∷ es) h =
     let y = (expression_weighs e).later in
     let z = sum_join of_expr es more in
     let i = all_written fuel (es ++ more) (omega (arith, h, x, y, z)) in
-    ap (λ ps. expression e ∷ ps) (i ∙ ap (map expression) (append_assoc es more (joined rest).later))
+    ap (λ ps. expression e ∷ ps) (i ∙ ap (map expression) (append_assoc es more (joined_parts rest).later))
 
-pub queue_code : (fuel : ℕ) (es : List Expr) (texts : List Bytes) (k p : ℕ) → total ((joined (expressions fuel es)).code texts k p) ≤ due es
+pub queue_code : (fuel : ℕ) (es : List Expr) (texts : List Bytes) (k p : ℕ) → code_size ((joined_parts (expressions fuel es)).code texts k p) ≤ due es
 unfolding nothing ◌>>◌
 queue_code zero es texts k p = omega arith
 queue_code (suc fuel) [] texts k p = omega arith
 queue_code (suc fuel) (e ∷ es) texts k p =
     let more : List Expr = (expression e).later in
     let xs = (expression e).code texts k p in
-    let ys = (joined (expressions fuel (es ++ more))).code texts (k + length more) (p + total xs) in
+    let ys = (joined_parts (expressions fuel (es ++ more))).code texts (k + length more) (p + code_size xs) in
     let x = (expression_weighs e).code texts k p in
-    let y = queue_code fuel (es ++ more) texts (k + length more) (p + total xs) in
+    let y = queue_code fuel (es ++ more) texts (k + length more) (p + code_size xs) in
     let z = sum_join (λ e. 9 * of_expr e + 1) es more in
     let w = total_join xs ys in
     omega (arith, x, y, z, w)
 
-pub queue_texts : (fuel : ℕ) (es : List Expr) → of_texts (joined (expressions fuel es)).texts ≤ of_later es
+pub queue_texts : (fuel : ℕ) (es : List Expr) → of_texts (joined_parts (expressions fuel es)).texts ≤ of_later es
 unfolding nothing ◌>>◌
 queue_texts zero es = omega arith
 queue_texts (suc fuel) [] = omega arith
@@ -298,7 +298,7 @@ queue_texts (suc fuel) (e ∷ es) =
     let x = (expression_weighs e).texts in
     let y = queue_texts fuel (es ++ more) in
     let z = sum_join of_expr es more in
-    let w = sum_join of_name (expression e).texts (joined (expressions fuel (es ++ more))).texts in
+    let w = sum_join of_name (expression e).texts (joined_parts (expressions fuel (es ++ more))).texts in
     omega (arith, x, y, z, w)
 
 pub queue_length : (fuel : ℕ) (es : List Expr) → length (expressions fuel es) ≤ fuel

@@ -14,7 +14,7 @@ use Rattle.model.specs.Language.Names.{key_named}
 use Rattle.model.specs.Deck.Trees.{Bytes, Expr, Name, Integer, Literal, Keyword, Call, Reference, Apply, Combine, Place, Label, Computed, Goto, Next, Always, OnSuccess, OnFailure, Both, Body, Nothing, Evaluate, Match, Assign, Replace}
 use Rattle.model.specs.Module.WellFormed.{is_statement}
 use Rattle.expr_codegen.specs.Code.{one, ◌>>◌, with_key}
-use Rattle.codegen.specs.Layout.{object, assignment, body, to_known, to_label, place, after_success, after_failure}
+use Rattle.codegen.specs.Layout.{object, assignment, body, goto_known, goto_label, place, after_success, after_failure}
 use Rattle.codegen_laws.specs.Fit.{Fit, FitObject, FitBody, FitPlace, FitGoto}
 use Rattle.codegen_laws.proofs.ExpressionsFlow.{Floors, value_flows, name_flows, null_flows, drop_flows}
 use Rattle.codegen_laws.proofs.Flows.{push, Flows, flows_nothing, flows_one, flows_join}
@@ -77,11 +77,11 @@ module _ (im : Image) where
   -- ---- gotos
 
   module _ (number_of : Bytes → Option ℕ) (there : (l : Bytes) (n : ℕ) → number_of l ≡ Some n → is_statement im n ≡ true) where
-    known_flows : (o : Option ℕ) → ((n : ℕ) → o ≡ Some n → is_statement im n ≡ true) → Flows im bare bare (one (to_known o))
+    known_flows : (o : Option ℕ) → ((n : ℕ) → o ≡ Some n → is_statement im n ≡ true) → Flows im bare bare (one (goto_known o))
     known_flows None t = flows_one im op.NoLabel (refl, tt) refl (λ p. tt)
     known_flows (Some n) t = flows_one im (op.Goto n) (t n refl, tt) refl (λ p. tt)
 
-    label_flows : (l : Bytes) (r : Option ReturnKind) → Flows im bare bare (one (to_label r (number_of l)))
+    label_flows : (l : Bytes) (r : Option ReturnKind) → Flows im bare bare (one (goto_label r (number_of l)))
     label_flows l None = known_flows (number_of l) (there l)
     label_flows l (Some r) = flows_one im (op.Return r) (refl, tt) refl (λ p. tt)
 

@@ -14,7 +14,7 @@ use Rattle.model.specs.Module.Placed.{CodeV, CodeN, CodeO, CodeAssign, CodeB, Co
 use Rattle.model.specs.Language.Programs.{Program}
 use Rattle.model.specs.Deck.Trees.{Bytes, Expr, Name, Integer, Literal, Keyword, Call, Reference, Apply, Combine, Place, Label, Computed, Goto, Next, Always, OnSuccess, OnFailure, Both, Body, Nothing, Evaluate, Match, Assign, Replace, Plain, End}
 use Rattle.expr_codegen.specs.Code.{Part, one, ◌>>◌, value, name}
-use Rattle.codegen.specs.Layout.{object, assignment, body, to_known, to_label, place, after_success, after_failure, statement}
+use Rattle.codegen.specs.Layout.{object, assignment, body, goto_known, goto_label, place, after_success, after_failure, statement}
 use Rattle.codegen_laws.specs.Fit.{Fit, FitObject, FitBody, FitPlace, FitGoto, FitStmt}
 use Rattle.codegen_laws.proofs.Standing.{Means, means_nothing, means_one, means_join, means_join3, means_handled, means_as}
 use Rattle.codegen_laws.proofs.ExpressionsPlaced.{value_placed, name_placed, key_placed}
@@ -68,11 +68,11 @@ module _ (prog : Program) (img : Module) (texts : List Bytes) (strings : (k : �
 
   -- ---- gotos
 
-  known_placed : (o : Option ℕ) → Placed (λ p q. CodeKnown prog img trees_at o p) (one (to_known o))
+  known_placed : (o : Option ℕ) → Placed (λ p q. CodeKnown prog img trees_at o p) (one (goto_known o))
   known_placed None = means_as img texts strings trees_at (λ p q i. (q, i)) (one_is op.NoLabel)
   known_placed (Some k) = means_as img texts strings trees_at (λ p q i. (q, i)) (one_is (op.Goto k))
 
-  label_placed : (l : Bytes) (r : Option ReturnKind) → Placed (λ p q. CodeLabel prog img trees_at l r p) (one (to_label r (prog.label l)))
+  label_placed : (l : Bytes) (r : Option ReturnKind) → Placed (λ p q. CodeLabel prog img trees_at l r p) (one (goto_label r (prog.label l)))
   label_placed l None = known_placed (prog.label l)
   label_placed l (Some r) = means_as img texts strings trees_at (λ p q i. (q, i)) (one_is (op.Return r))
 

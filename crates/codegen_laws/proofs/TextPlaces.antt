@@ -1,7 +1,7 @@
 -- Each text that is put into a table stands where it is looked for.
 use Rattle.std.proofs.Common.{◌≡◌, suc, List, [], ◌∷◌, refl, sym, ap, true, false, Some, if◌then◌else◌, rules, slice_get, bytes_eq}
 use Rattle.model.specs.Deck.Trees.{Bytes}
-use Rattle.expr_codegen.specs.Texts.{place_of, with_text, with_texts}
+use Rattle.expr_codegen.specs.Texts.{number_of_text, with_text, with_texts}
 use Rattle.codegen_laws.proofs.Standing.{Held, AllHeld}
 
 pub same_text : (s t : Bytes) → bytes_eq s t ≡ true → s ≡ t
@@ -9,7 +9,7 @@ same_text s t e = search (rules, e)
 
 put_held : (t : Bytes) (ts : List Bytes) → Held (with_text t ts) t
 put_held t [] = let e : bytes_eq t t ≡ true = search rules in rw e refl
-put_held t (s ∷ ss) = elim (bytes_eq t s) as (λ b. (bytes_eq t s ≡ b) → slice_get (if b then s ∷ ss else s ∷ with_text t ss) (place_of t (if b then s ∷ ss else s ∷ with_text t ss)) ≡ Some t) [
+put_held t (s ∷ ss) = elim (bytes_eq t s) as (λ b. (bytes_eq t s ≡ b) → slice_get (if b then s ∷ ss else s ∷ with_text t ss) (number_of_text t (if b then s ∷ ss else s ∷ with_text t ss)) ≡ Some t) [
   | true ↦ λ e. rw e (ap Some (sym (same_text t s e)))
   | false ↦ λ e. rw e (put_held t ss)
 ] refl
@@ -17,9 +17,9 @@ put_held t (s ∷ ss) = elim (bytes_eq t s) as (λ b. (bytes_eq t s ≡ b) → s
 -- a text's place doesn't change as another is put
 stays_held : (s t : Bytes) (ts : List Bytes) → Held ts s → Held (with_text t ts) s
 stays_held s t [] h = absurd (cc)
-stays_held s t (x ∷ xs) h = elim (bytes_eq t x) as (λ b. slice_get (if b then x ∷ xs else x ∷ with_text t xs) (place_of s (if b then x ∷ xs else x ∷ with_text t xs)) ≡ Some s) [
+stays_held s t (x ∷ xs) h = elim (bytes_eq t x) as (λ b. slice_get (if b then x ∷ xs else x ∷ with_text t xs) (number_of_text s (if b then x ∷ xs else x ∷ with_text t xs)) ≡ Some s) [
   | true ↦ h
-  | false ↦ elim (bytes_eq s x) as (λ b. slice_get (x ∷ xs) (if b then 0 else suc (place_of s xs)) ≡ Some s → slice_get (x ∷ with_text t xs) (if b then 0 else suc (place_of s (with_text t xs))) ≡ Some s) [
+  | false ↦ elim (bytes_eq s x) as (λ b. slice_get (x ∷ xs) (if b then 0 else suc (number_of_text s xs)) ≡ Some s → slice_get (x ∷ with_text t xs) (if b then 0 else suc (number_of_text s (with_text t xs))) ≡ Some s) [
     | true ↦ λ f. f
     | false ↦ λ f. stays_held s t xs f
   ] h

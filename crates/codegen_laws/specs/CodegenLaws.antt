@@ -3,7 +3,7 @@ use Rattle.std.specs.Prelude.{◌≡◌, ◌≤◌, ℕ, List, Option}
 use Rattle.std.specs.List.{AllByRecursion}
 use Rattle.model.specs.Laws.Agreement.{Agrees}
 use Rattle.model.specs.Deck.Faults.{Accepted, verdict}
-use Rattle.model.specs.Module.Images.{module_of, total}
+use Rattle.model.specs.Module.Images.{module_of, code_size}
 use Rattle.model.specs.Module.Placed.{Placed}
 use Rattle.model.specs.Language.Programs.{program}
 use Rattle.model.specs.Module.Spelling.{IsImage}
@@ -11,7 +11,7 @@ use Rattle.model.specs.Laws.StepBound.{EndsInTime}
 use Rattle.model.specs.Deck.Trees.{Expr, Stmt}
 use Rattle.model.specs.Module.WellFormed.{IsWellFormed}
 use Rattle.codegen.specs.Countable.{CountableStmt}
-use Rattle.codegen.specs.Layout.{image_of}
+use Rattle.codegen.specs.Layout.{generated_image}
 use Rattle.codegen_laws.specs.Fit.{IsFit}
 
 -- its trees keep what their code relies on
@@ -24,24 +24,24 @@ AreCountable = (text : List ℕ) (ss : List Stmt) → verdict text ≡ Accepted 
 
 -- the code of each statement and expression stands in its image
 abbrev pub IsPlaced : Type 0
-IsPlaced = (text : List ℕ) (ss : List Stmt) → verdict text ≡ Accepted ss → (trees_at : ℕ → Option Expr) × Placed (program ss) (module_of (image_of ss)) trees_at
+IsPlaced = (text : List ℕ) (ss : List Stmt) → verdict text ≡ Accepted ss → (trees_at : ℕ → Option Expr) × Placed (program ss) (module_of (generated_image ss)) trees_at
 
 -- it has a spelling
 abbrev pub IsSpelt : Type 0
-IsSpelt = (text : List ℕ) (ss : List Stmt) → verdict text ≡ Accepted ss → IsImage (image_of ss)
+IsSpelt = (text : List ℕ) (ss : List Stmt) → verdict text ≡ Accepted ss → IsImage (generated_image ss)
 
 -- it is well-formed
 abbrev pub IsSound : Type 0
-IsSound = (text : List ℕ) (ss : List Stmt) → verdict text ≡ Accepted ss → IsWellFormed (image_of ss)
+IsSound = (text : List ℕ) (ss : List Stmt) → verdict text ≡ Accepted ss → IsWellFormed (generated_image ss)
 
 -- it does what the deck means
 abbrev pub DoesAsMeant : Type 0
-DoesAsMeant = (text : List ℕ) (ss : List Stmt) → verdict text ≡ Accepted ss → Agrees ss (image_of ss)
+DoesAsMeant = (text : List ℕ) (ss : List Stmt) → verdict text ≡ Accepted ss → Agrees ss (generated_image ss)
 
 -- it ends in time
 abbrev pub IsInTime : Type 0
-IsInTime = (text : List ℕ) (ss : List Stmt) → verdict text ≡ Accepted ss → EndsInTime ss (image_of ss)
+IsInTime = (text : List ℕ) (ss : List Stmt) → verdict text ≡ Accepted ss → EndsInTime ss (generated_image ss)
 
 -- its code has at most 15 bytes for each byte that a deck may have
 abbrev pub IsSmall : Type 0
-IsSmall = (text : List ℕ) (ss : List Stmt) → verdict text ≡ Accepted ss → total (image_of ss).code ≤ 15728640
+IsSmall = (text : List ℕ) (ss : List Stmt) → verdict text ≡ Accepted ss → code_size (generated_image ss).code ≤ 15728640

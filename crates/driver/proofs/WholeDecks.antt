@@ -9,13 +9,13 @@ use Rattle.model.specs.declared.causes.StmtFault.{StmtFault}
 use Rattle.model.specs.declared.image.Image.{Image}
 use Rattle.model.specs.declared.trees.Stmt as code
 use Rattle.model.specs.Deck.Cards as cards
-use Rattle.model.specs.Deck.Faults.{verdict, verdict_of_cards, verdict_of_faults, CardRefused, Refused, Accepted, faults, trees}
+use Rattle.model.specs.Deck.Faults.{verdict, verdict_of_cards, verdict_of_faults, CardRefused, Refused, Accepted, faults, deck_trees}
 use Rattle.model.specs.Module.Spelling.{spelling}
 use Rattle.model.specs.Deck.Trees.{Stmt}
 use Rattle.model.specs.Deck.TreeViews.{stmt_of}
 use Rattle.parser.specs.Refusals.{IsRefusal}
 use Rattle.codegen.specs.Countable.{Fits}
-use Rattle.codegen.specs.Layout.{image_of}
+use Rattle.codegen.specs.Layout.{generated_image}
 use Rattle.codegen_laws.proofs.Images.{are_fit, are_countable, spelt as is_spelt, sound as is_sound, agrees as does_as_meant, in_time as ends_in_time}
 use Rattle.fragment.specs.Fragment.{not_yet}
 use Rattle.fragment.proofs.RunYet.{run_yet, evaluated}
@@ -25,9 +25,9 @@ use Rattle.driver.specs.Compiled.{IsModuleOf, IsRefusalOf, OfCards, OfStatements
 
 -- ---- verdicts
 
-pub accepted_is : (deck : List ℕ) (statements : List Statement) (ts : List Stmt) → cards.deck deck ≡ Ok statements → faults statements ≡ [] → ts ≡ trees statements → verdict deck ≡ Accepted ts
+pub accepted_is : (deck : List ℕ) (statements : List Statement) (ts : List Stmt) → cards.deck deck ≡ Ok statements → faults statements ≡ [] → ts ≡ deck_trees statements → verdict deck ≡ Accepted ts
 unfolding verdict
-accepted_is deck statements ts e none t = ap verdict_of_cards e ∙ ap (λ fs. verdict_of_faults fs (trees statements)) none ∙ ap Accepted (sym t)
+accepted_is deck statements ts e none t = ap verdict_of_cards e ∙ ap (λ fs. verdict_of_faults fs (deck_trees statements)) none ∙ ap Accepted (sym t)
 
 refused_by : (fs : List StmtFault) (ts : List Stmt) → fs ≢ [] → verdict_of_faults fs ts ≡ Refused fs
 refused_by [] ts some = absurd (some refl)
@@ -35,7 +35,7 @@ refused_by (f ∷ fs) ts some = refl
 
 refused_is : (deck : List ℕ) (statements : List Statement) (fs : List StmtFault) → cards.deck deck ≡ Ok statements → fs ≡ faults statements → faults statements ≢ [] → verdict deck ≡ Refused fs
 unfolding verdict
-refused_is deck statements fs e f some = ap verdict_of_cards e ∙ refused_by (faults statements) (trees statements) some ∙ ap Refused (sym f)
+refused_is deck statements fs e f some = ap verdict_of_cards e ∙ refused_by (faults statements) (deck_trees statements) some ∙ ap Refused (sym f)
 
 card_is : (deck : List ℕ) (f : CardFault) → cards.deck deck ≡ Err f → verdict deck ≡ CardRefused f
 unfolding verdict
@@ -57,11 +57,11 @@ of_statements deck statements fault.Memory r e i o = subst (IsRefusalOf deck) (s
 pub fits : (deck : List ℕ) (ss : List Stmt) → verdict deck ≡ Accepted ss → Fits ss
 fits deck ss a = let f = are_fit deck ss a in record { countable = are_countable deck ss a; together = f.together; count = f.count }
 
-pub is_module : (deck bytes : List ℕ) (ss : List Stmt) (image : Image) → verdict deck ≡ Accepted ss → not_yet 1 ss ≡ [] → image ≡ image_of ss → bytes ≡ spelling image → IsModuleOf deck bytes
+pub is_module : (deck bytes : List ℕ) (ss : List Stmt) (image : Image) → verdict deck ≡ Accepted ss → not_yet 1 ss ≡ [] → image ≡ generated_image ss → bytes ≡ spelling image → IsModuleOf deck bytes
 is_module deck bytes ss image a none i s = record {
   statements = ss;
   trees = a;
-  image = image_of ss;
+  image = generated_image ss;
   generated = refl;
   has_spelling = is_spelt deck ss a;
   spelt = s ∙ ap spelling i;

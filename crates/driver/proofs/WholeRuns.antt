@@ -4,7 +4,7 @@ use Rattle.model.specs.declared.format.LoadFault.{LoadFault}
 use Rattle.model.specs.declared.image.Image.{Image}
 use Rattle.model.specs.declared.run.Status.{Status}
 use Rattle.model.specs.declared.run.Ending.{Ending}
-use Rattle.model.specs.Laws.Agreement.{Agrees, Inputs, Seen, mach, mean}
+use Rattle.model.specs.Laws.Agreement.{Agrees, Inputs, Seen, machine_at, meaning_at}
 use Rattle.model.specs.Laws.PrintedBefore.{seen_after}
 use Rattle.model.specs.Language.Io.{Io}
 use Rattle.model.specs.Module.Reading as reading
@@ -20,11 +20,11 @@ use Rattle.statement_machine.proofs.Seeing.{if_ran}
 use Rattle.statement_machine.proofs.Telling.{told_on}
 use Rattle.driver.specs.Whole.{IsRunOf, OfRun, IsSeenOf, Mean, EndIn, IsMeant, IsInTime}
 
-read : (deck bytes : List ℕ) (m : IsModuleOf deck bytes) → reading.image_of bytes ≡ Ok m.image
-read deck bytes m = ap reading.image_of m.spelt ∙ spelt_is_read m.image m.has_spelling
+read : (deck bytes : List ℕ) (m : IsModuleOf deck bytes) → reading.read_image bytes ≡ Ok m.image
+read deck bytes m = ap reading.read_image m.spelt ∙ spelt_is_read m.image m.has_spelling
 
 pub is_run : (deck given bytes : List ℕ) (bound : ℕ) (status : Status) (before after : Option Io) → given ≡ bytes → IsModuleOf deck bytes
-    → ((m : Image) → reading.image_of given ≡ Ok m → IfRan status (IfTold before after (λ io io'. record { ending = ending_of status; printed = io'.printed } ≡ seen_after io.printed (mach m io.left bound))))
+    → ((m : Image) → reading.read_image given ≡ Ok m → IfRan status (IfTold before after (λ io io'. record { ending = ending_of status; printed = io'.printed } ≡ seen_after io.printed (machine_at m io.left bound))))
     → IsRunOf deck bound status before after
 is_run deck given bytes bound status before after same m run = record {
   statements = m.statements;
@@ -33,12 +33,12 @@ is_run deck given bytes bound status before after same m run = record {
   generated = m.generated;
   agrees = m.agrees;
   in_time = m.in_time;
-  run = run m.image (ap reading.image_of same ∙ read deck bytes m);
+  run = run m.image (ap reading.read_image same ∙ read deck bytes m);
 }
 
 -- ---- in the deck's own words
 
-seen_of : (ss : List Stmt) (image : Image) (inputs : Inputs) (bound : ℕ) (ending : Option Ending) (seen : Seen) → Agrees ss image → seen ≡ mach image inputs bound → seen.ending ≡ ending → (n : ℕ) × IsSeenOf ending seen.printed (mean n ss inputs)
+seen_of : (ss : List Stmt) (image : Image) (inputs : Inputs) (bound : ℕ) (ending : Option Ending) (seen : Seen) → Agrees ss image → seen ≡ machine_at image inputs bound → seen.ending ≡ ending → (n : ℕ) × IsSeenOf ending seen.printed (meaning_at n ss inputs)
 seen_of ss image inputs bound None seen a s e = let p = a.prints_only inputs bound in (p.0, (p.1.0, p.1.1 ∙ ap (λ (x : Seen). x.printed ++ p.1.0) (sym s)))
 seen_of ss image inputs bound (Some x) seen a s e = let m = a.ends_only inputs bound x (ap (λ y. y.ending) (sym s) ∙ e) in (m.0, m.1 ∙ sym s ∙ ap (λ o. record { ending = o; printed = seen.printed }) e)
 
@@ -46,10 +46,10 @@ same_trees : (v : Verdict) (ss ts : List Stmt) → v ≡ Accepted ss → v ≡ A
 same_trees v ss ts a b = cc
 
 of_run : (deck : List ℕ) (bound : ℕ) (status : Status) (before after : Option Io) (P : List Stmt → Inputs → Seen → Type 0) (r : IsRunOf deck bound status before after)
-    → ((inputs : Inputs) (seen : Seen) → seen ≡ mach r.image inputs bound → P r.statements inputs seen) → OfRun deck status before after P
+    → ((inputs : Inputs) (seen : Seen) → seen ≡ machine_at r.image inputs bound → P r.statements inputs seen) → OfRun deck status before after P
 of_run deck bound status before after P r h = if_ran status _ _ r.run (λ t. told_on before after _ _
     (λ io io' run ss a.
-    let there : Seen = mach r.image io.left bound in
+    let there : Seen = machine_at r.image io.left bound in
     let seen : Seen = record { ending = ending_of status; printed = there.printed } in
     (there.printed, ap (λ (x : Seen). x.printed) run, subst (λ ts. P ts io.left seen) (same_trees (verdict deck) r.statements ss r.trees a) (h io.left seen (ap (λ (x : Seen). record { ending = x.ending; printed = there.printed }) run)))) t)
 
@@ -66,4 +66,4 @@ told im fault result e (inl h) = absurd (cc)
 told im fault result e (inr h) = cc
 
 pub only_memory : (deck given bytes : List ℕ) (fault : LoadFault) → given ≡ bytes → IsModuleOf deck bytes → IsAnswer given (Err fault) → fault ≡ no_memory
-only_memory deck given bytes fault same m answer = told m.image fault (Err fault) refl (accepted given m.image (Err fault) answer (ap reading.image_of same ∙ read deck bytes m) m.loads)
+only_memory deck given bytes fault same m answer = told m.image fault (Err fault) refl (accepted given m.image (Err fault) answer (ap reading.read_image same ∙ read deck bytes m) m.loads)

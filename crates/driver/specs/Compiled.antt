@@ -12,7 +12,7 @@ use Rattle.model.specs.Module.Spelling.{IsImage, spelling}
 use Rattle.model.specs.Laws.StepBound.{EndsInTime}
 use Rattle.model.specs.Deck.Trees.{Stmt}
 use Rattle.model.specs.Module.WellFormed.{IsWellFormed}
-use Rattle.codegen.specs.Layout.{image_of}
+use Rattle.codegen.specs.Layout.{generated_image}
 use Rattle.loader.specs.Loaded.{IsLoaded}
 use Rattle.fragment.specs.Fragment.{not_yet}
 use Rattle.driver.specs.declared.refusal.Refusal.{Refusal}
@@ -31,7 +31,7 @@ pub record IsModuleOf (deck bytes : List ℕ) : Type 0 where
   pub statements : List Stmt
   pub trees : verdict deck ≡ Accepted statements
   pub image : Image
-  pub generated : image ≡ image_of statements
+  pub generated : image ≡ generated_image statements
   pub has_spelling : IsImage image
   pub spelt : bytes ≡ spelling image
   pub sound : IsWellFormed image

@@ -3,7 +3,7 @@ use Rattle.std.specs.Prelude.{◌≡◌, ℕ, ◌+◌, ◌*◌, ◌≤◌, List,
 use Rattle.model.specs.declared.run.Ending.{Ending}
 use Rattle.model.specs.declared.image.Image.{Image}
 use Rattle.model.specs.declared.run.Status.{Status}
-use Rattle.model.specs.Laws.Agreement.{Agrees, Inputs, IsBeginning, Records, Seen, mach, mean}
+use Rattle.model.specs.Laws.Agreement.{Agrees, Inputs, IsBeginning, Records, Seen, machine_at, meaning_at}
 use Rattle.model.specs.Laws.PrintedBefore.{seen_after}
 use Rattle.model.specs.Deck.Faults.{verdict, Accepted}
 use Rattle.model.specs.Language.Io.{Io}
@@ -11,7 +11,7 @@ use Rattle.model.specs.Language.RulesUsed.{rules_used}
 use Rattle.model.specs.Laws.StepBound.{EndsInTime}
 use Rattle.model.specs.Language.Told.{IfTold}
 use Rattle.model.specs.Deck.Trees.{Stmt}
-use Rattle.codegen.specs.Layout.{image_of}
+use Rattle.codegen.specs.Layout.{generated_image}
 use Rattle.statement_machine.specs.declared.TheConstants.{STEPS_PER_RULE}
 use Rattle.statement_machine.specs.Stopped.{IfRan, ending_of}
 
@@ -21,10 +21,10 @@ pub record IsRunOf (deck : List ℕ) (bound : ℕ) (status : Status) (before aft
   pub statements : List Stmt
   pub trees : verdict deck ≡ Accepted statements
   pub image : Image
-  pub generated : image ≡ image_of statements
+  pub generated : image ≡ generated_image statements
   pub agrees : Agrees statements image
   pub in_time : EndsInTime statements image
-  pub run : IfRan status (IfTold before after (λ io io'. record { ending = ending_of status; printed = io'.printed } ≡ seen_after io.printed (mach image io.left bound)))
+  pub run : IfRan status (IfTold before after (λ io io'. record { ending = ending_of status; printed = io'.printed } ≡ seen_after io.printed (machine_at image io.left bound)))
 
 -- ---- in the deck's own words, without machine or image
 
@@ -42,11 +42,11 @@ IsSeenOf (Some e) printed meant = meant ≡ record { ending = Some e; printed = 
 
 -- at some depth these statements mean what was seen
 abbrev pub Mean : List Stmt → Inputs → Seen → Type 0
-Mean ss inputs seen = (n : ℕ) × IsSeenOf seen.ending seen.printed (mean n ss inputs)
+Mean ss inputs seen = (n : ℕ) × IsSeenOf seen.ending seen.printed (meaning_at n ss inputs)
 
 -- where the meaning ends having used r rules, and the bound is STEPS_PER_RULE * (r + 1) or more, the run has ended so
 abbrev pub EndIn : (bound : ℕ) → List Stmt → Inputs → Seen → Type 0
-EndIn bound ss inputs seen = (n : ℕ) (e : Ending) → (mean n ss inputs).ending ≡ Some e → STEPS_PER_RULE * (rules_used n ss inputs + 1) ≤ bound → seen ≡ mean n ss inputs
+EndIn bound ss inputs seen = (n : ℕ) (e : Ending) → (meaning_at n ss inputs).ending ≡ Some e → STEPS_PER_RULE * (rules_used n ss inputs + 1) ≤ bound → seen ≡ meaning_at n ss inputs
 
 abbrev pub IsMeant : List ℕ → Status → Option Io → Option Io → Type 0
 IsMeant deck status before after = OfRun deck status before after Mean

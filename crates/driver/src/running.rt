@@ -2,9 +2,9 @@
 
 ghost use Rattle.std.specs.Prelude.{◌≡◌, ℕ, List, Err, Ok, IfErr, IfOk, OnErr, OnOk};
 ghost use Rattle.model.specs.declared.image.Image.{Image};
-ghost use Rattle.model.specs.Laws.Agreement.{mach};
+ghost use Rattle.model.specs.Laws.Agreement.{machine_at};
 ghost use Rattle.model.specs.Laws.PrintedBefore.{seen_after};
-ghost use Rattle.model.specs.Module.Reading.{image_of};
+ghost use Rattle.model.specs.Module.Reading.{read_image};
 ghost use Rattle.model.specs.Language.Told.{IfTold};
 ghost use Rattle.loader.specs.Answers.{IsAnswer};
 ghost use Rattle.loader.specs.Loaded.{IsLoaded};
@@ -30,12 +30,12 @@ pub fn run_module<U: Units>(
 ) -> Result<Status, LoadFault>
     ensures refused { IfErr result (λ fault. IsAnswer bytes.now (Err fault)) }
     ensures untouched { OnErr result (units.new ≡ units.old) }
-    ensures accepted { OnOk result ((m : Image) × (image_of bytes.now ≡ Ok m) × IsLoaded m) }
+    ensures accepted { OnOk result ((m : Image) × (read_image bytes.now ≡ Ok m) × IsLoaded m) }
     // What was printed is what was printed before, followed by what the machine prints.
-    ensures run { IfOk result (λ status. (m : Image) → image_of bytes.now ≡ Ok m → IfRan status (IfTold (U.told units.old) (U.told units.new) (λ io io'.
-        record { ending = ending_of status; printed = io'.printed } ≡ seen_after io.printed (mach m io.left bound)))) }
+    ensures run { IfOk result (λ status. (m : Image) → read_image bytes.now ≡ Ok m → IfRan status (IfTold (U.told units.old) (U.told units.new) (λ io io'.
+        record { ending = ending_of status; printed = io'.printed } ≡ seen_after io.printed (machine_at m io.left bound)))) }
     // What is left to be read on each unit is what the machine leaves there.
-    ensures left { IfOk result (λ status. (m : Image) → image_of bytes.now ≡ Ok m → IfRan status (IfTold (U.told units.old) (U.told units.new) (λ io io'. io'.left ≡ left_after m io.left bound))) }
+    ensures left { IfOk result (λ status. (m : Image) → read_image bytes.now ≡ Ok m → IfRan status (IfTold (U.told units.old) (U.told units.new) (λ io io'. io'.left ≡ left_after m io.left bound))) }
     // A run that nothing stopped met no failure of a unit.
     ensures kept { IfOk result (λ status. IfRan status (Same (U.failures units.old) (U.failures units.new))) }
     // Of a module that compile_deck wrote, in the words of its deck alone: it ended as the deck's meaning does at some

@@ -2,7 +2,7 @@
 
 ghost use Rattle.std.specs.Prelude.{◌≡◌, Err, Ok, IfErr, OnOk};
 ghost use Rattle.model.specs.declared.image.Image.{Image};
-ghost use Rattle.model.specs.Module.Reading.{image_of};
+ghost use Rattle.model.specs.Module.Reading.{read_image};
 ghost use Rattle.loader.specs.Answers.{IsAnswer};
 ghost use Rattle.loader.specs.Loaded.{IsLoaded};
 
@@ -14,7 +14,7 @@ use std::io::{self, Write};
 /// Accepts a module, or tells why it is refused.
 pub fn check_module(alloc: Global, bytes: &[u8]) -> Result<(), LoadFault>
     ensures refused { IfErr result (λ fault. IsAnswer bytes.now (Err fault)) }
-    ensures accepted { OnOk result ((m : Image) × (image_of bytes.now ≡ Ok m) × IsLoaded m) }
+    ensures accepted { OnOk result ((m : Image) × (read_image bytes.now ≡ Ok m) × IsLoaded m) }
 {
     let _ = load(alloc, bytes)?;
     Ok(())

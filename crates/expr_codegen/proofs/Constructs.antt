@@ -7,7 +7,7 @@ use Rattle.model.specs.declared.primitives.PrimId.{PrimId}
 use Rattle.model.specs.declared.trees.Binary.{Binary}
 use Rattle.model.specs.declared.trees.Binary.TheVariants as b
 use Rattle.model.specs.Language.Names.{prim_named}
-use Rattle.model.specs.Module.Images.{total}
+use Rattle.model.specs.Module.Images.{code_size}
 use Rattle.model.specs.declared.trees.Expr.{Expr as Tree}
 use Rattle.model.specs.declared.trees.Expr.TheVariants as e
 use Rattle.model.specs.declared.trees.Unary.{Unary}
@@ -33,7 +33,7 @@ record Same (p q : Part) : Type 0 where
 
 as_same : {g h : Gen} (p q : Part) → Same p q → Emits p g h → Emits q g h
 as_same {g} {h} p q s x = record {
-  code = λ texts l. x.code texts l ∙ ap (λ c. g.code ++ c) (s.code texts (length g.waiting) (total g.code));
+  code = λ texts l. x.code texts l ∙ ap (λ c. g.code ++ c) (s.code texts (length g.waiting) (code_size g.code));
   texts = x.texts ∙ ap (λ t. with_texts t g.texts) s.texts;
   waiting = x.waiting ∙ ap (λ w. g.waiting ++ w) s.later;
   taken = x.taken;
@@ -45,7 +45,7 @@ trans p q r a b = record { code = λ texts k at. a.code texts k at ∙ b.code te
 behind : (a p q : Part) → Same p q → Same (a >> p) (a >> q)
 unfolding ◌>>◌
 behind a p q s = record {
-  code = λ texts k at. ap (λ c. a.code texts k at ++ c) (s.code texts (k + length a.later) (at + total (a.code texts k at)));
+  code = λ texts k at. ap (λ c. a.code texts k at ++ c) (s.code texts (k + length a.later) (at + code_size (a.code texts k at)));
   texts = ap (λ t. a.texts ++ t) s.texts;
   later = ap (λ w. a.later ++ w) s.later;
 }
@@ -55,10 +55,10 @@ unfolding ◌>>◌
 grouped a b c = record {
   code = λ texts k at.
       let u : List Instr = a.code texts k at in
-      let v : List Instr = b.code texts (k + length a.later) (at + total u) in
-      ap (λ n. (u ++ v) ++ c.code texts n (at + total (u ++ v))) (waits k a.later b.later)
-      ∙ ap (λ n. (u ++ v) ++ c.code texts (k + length a.later + length b.later) n) (ap (λ n. at + n) (total_append u v) ∙ sum at (total u) (total v))
-      ∙ append_assoc u v (c.code texts (k + length a.later + length b.later) (at + total u + total v));
+      let v : List Instr = b.code texts (k + length a.later) (at + code_size u) in
+      ap (λ n. (u ++ v) ++ c.code texts n (at + code_size (u ++ v))) (waits k a.later b.later)
+      ∙ ap (λ n. (u ++ v) ++ c.code texts (k + length a.later + length b.later) n) (ap (λ n. at + n) (total_append u v) ∙ sum at (code_size u) (code_size v))
+      ∙ append_assoc u v (c.code texts (k + length a.later + length b.later) (at + code_size u + code_size v));
   texts = append_assoc a.texts b.texts c.texts;
   later = append_assoc a.later b.later c.later;
 }

@@ -5,9 +5,9 @@ use Rattle.std.proofs.lemmas.List.{drop-map, drop_more}
 use Rattle.model.specs.declared.instr.Instr.{Instr}
 use Rattle.model.specs.declared.instr.Instr.TheVariants as op
 use Rattle.model.specs.Deck.Trees.{Bytes, Expr}
-use Rattle.model.specs.Module.Images.{bytes, total}
+use Rattle.model.specs.Module.Images.{instr_size, code_size}
 use Rattle.model.specs.Deck.Weights.{of_expr}
-use Rattle.expr_codegen.specs.Texts.{place_of, with_text, with_texts}
+use Rattle.expr_codegen.specs.Texts.{number_of_text, with_text, with_texts}
 use Rattle.expr_codegen.specs.Code.{Part, nothing, one, with_string, unevaluated, ◌>>◌, handled}
 use Rattle.expr_codegen.specs.Emitting.{Gen, Emits, Longer, Numbered, SameBytes, due, size, with_instr, with_changed, with_waiting}
 use Rattle.expr_codegen.proofs.TextPlaces.{place_stays}
@@ -20,16 +20,16 @@ on_ok (Err e) P Q h f = tt
 
 -- ---- lists
 
-pub total_append : (a b : List Instr) → total (a ++ b) ≡ total a + total b
+pub total_append : (a b : List Instr) → code_size (a ++ b) ≡ code_size a + code_size b
 total_append [] b = omega arith
 total_append (i ∷ a) b = omega (arith, total_append a b)
 
-pub total_snoc : (a : List Instr) (i : Instr) → total (a ++ i ∷ []) ≡ total a + bytes i
+pub total_snoc : (a : List Instr) (i : Instr) → code_size (a ++ i ∷ []) ≡ code_size a + instr_size i
 total_snoc a i = let x = total_append a (i ∷ []) in omega (arith, x)
 
-pub total_same : (a : List Instr) (k : ℕ) (i j : Instr) → slice_get a k ≡ Some j → bytes j ≡ bytes i → total (slice_set a k i) ≡ total a
+pub total_same : (a : List Instr) (k : ℕ) (i j : Instr) → slice_get a k ≡ Some j → instr_size j ≡ instr_size i → code_size (slice_set a k i) ≡ code_size a
 total_same [] k i j h e = cc
-total_same (x ∷ a) zero i j h e = let z : x ≡ j = cc in let y = ap bytes z in omega (arith, e, y)
+total_same (x ∷ a) zero i j h e = let z : x ≡ j = cc in let y = ap instr_size z in omega (arith, e, y)
 total_same (x ∷ a) (suc k) i j h e = let y = total_same a k i j h e in omega (arith, y)
 
 pub nil_right : {A : Type 0} (xs : List A) → xs ≡ xs ++ []
@@ -105,13 +105,13 @@ unfolding ◌>>◌
 both {a} {b} {g} {h} {k} x y = record {
   code = λ texts l.
       let l1 : Longer h.texts texts = longer_trans h.texts k.texts texts (subst (λ t. Longer h.texts t) (sym y.texts) (longer_texts b.texts h.texts)) l in
-      let first : List Instr = a.code texts (length g.waiting) (total g.code) in
+      let first : List Instr = a.code texts (length g.waiting) (code_size g.code) in
       let waits : length h.waiting ≡ length g.waiting + length a.later = ap length x.waiting ∙ length-append g.waiting a.later in
-      let at : total h.code ≡ total g.code + total first = ap total (x.code texts l1) ∙ total_append g.code first in
-      y.code texts l ∙ ap (λ c. c ++ b.code texts (length h.waiting) (total h.code)) (x.code texts l1)
-      ∙ ap (λ n. (g.code ++ first) ++ b.code texts n (total h.code)) waits
+      let at : code_size h.code ≡ code_size g.code + code_size first = ap code_size (x.code texts l1) ∙ total_append g.code first in
+      y.code texts l ∙ ap (λ c. c ++ b.code texts (length h.waiting) (code_size h.code)) (x.code texts l1)
+      ∙ ap (λ n. (g.code ++ first) ++ b.code texts n (code_size h.code)) waits
       ∙ ap (λ o. (g.code ++ first) ++ b.code texts (length g.waiting + length a.later) o) at
-      ∙ append_assoc g.code first (b.code texts (length g.waiting + length a.later) (total g.code + total first));
+      ∙ append_assoc g.code first (b.code texts (length g.waiting + length a.later) (code_size g.code + code_size first));
   texts = y.texts ∙ ap (with_texts b.texts) x.texts ∙ sym (texts_append a.texts b.texts g.texts);
   waiting = y.waiting ∙ ap (λ w. w ++ b.later) x.waiting ∙ append_assoc g.waiting a.later b.later;
   taken = y.taken ∙ x.taken;
@@ -127,7 +127,7 @@ pub text : (i : ℕ → Instr) (s : Bytes) (k : ℕ) (g h j : Gen) → Numbered 
 unfolding with_string
 text i s k g h j n e = subst (Emits (with_string i s) g) (sym e) (record {
   code = λ texts l.
-      let place : k ≡ place_of s texts = n.at ∙ ap (place_of s) n.texts ∙ sym (place_stays s g.texts l.0) ∙ ap (λ t. place_of s (t ++ l.0)) (sym n.texts) ∙ ap (place_of s) (sym l.1) in
+      let place : k ≡ number_of_text s texts = n.at ∙ ap (number_of_text s) n.texts ∙ sym (place_stays s g.texts l.0) ∙ ap (λ t. number_of_text s (t ++ l.0)) (sym n.texts) ∙ ap (number_of_text s) (sym l.1) in
       ap (λ c. c ++ i k ∷ []) n.code ∙ ap (λ m. g.code ++ i m ∷ []) place;
   texts = n.texts;
   waiting = n.waiting ∙ nil_right g.waiting;
@@ -140,20 +140,20 @@ unfolding unevaluated
 deferred x g h j e f = subst (Emits (unevaluated x) g) (sym (f ∙ ap (with_waiting x) e)) (record { code = λ texts l. refl; texts = refl; waiting = refl; taken = refl })
 
 -- an instruction that is changed once what follows it is put: i is its operand at first, t the offset after the first part
-pub changed : {a b : Part} (i : ℕ → Instr) (n t : ℕ) (g g1 h k k1 : Gen) → ((m : ℕ) → bytes (i m) ≡ 5) → g1 ≡ with_instr (i n) g → Emits a g1 h → t ≡ total h.code → Emits b h k
+pub changed : {a b : Part} (i : ℕ → Instr) (n t : ℕ) (g g1 h k k1 : Gen) → ((m : ℕ) → instr_size (i m) ≡ 5) → g1 ≡ with_instr (i n) g → Emits a g1 h → t ≡ code_size h.code → Emits b h k
     → k1 ≡ with_changed (length g.code) (i t) k → Emits (handled i a b) g k1
 unfolding handled ◌>>◌
 changed {a} {b} i n t g g1 h k k1 five put x at y set = subst (Emits (handled i a b) g) (sym set) (record {
   code = λ texts l.
       let w : length g1.waiting ≡ length g.waiting = ap (λ (z : Gen). length z.waiting) put in
-      let o : total g1.code ≡ total g.code + 5 = ap (λ (z : Gen). total z.code) put ∙ total_snoc g.code (i n) ∙ ap (λ m. total g.code + m) (five n) in
+      let o : code_size g1.code ≡ code_size g.code + 5 = ap (λ (z : Gen). code_size z.code) put ∙ total_snoc g.code (i n) ∙ ap (λ m. code_size g.code + m) (five n) in
       let l1 : Longer h.texts texts = longer_trans h.texts k.texts texts (subst (λ t. Longer h.texts t) (sym y.texts) (longer_texts b.texts h.texts)) l in
-      let first : List Instr = a.code texts (length g.waiting) (total g.code + 5) in
-      let whole : List Instr = (a >> b).code texts (length g.waiting) (total g.code + 5) in
-      let begins : h.code ≡ g1.code ++ first = x.code texts l1 ∙ ap (λ m. g1.code ++ a.code texts m (total g1.code)) w ∙ ap (λ m. g1.code ++ a.code texts (length g.waiting) m) o in
-      let all : k.code ≡ g.code ++ i n ∷ whole = (both x y).code texts l ∙ ap (λ m. g1.code ++ (a >> b).code texts m (total g1.code)) w ∙ ap (λ m. g1.code ++ (a >> b).code texts (length g.waiting) m) o
+      let first : List Instr = a.code texts (length g.waiting) (code_size g.code + 5) in
+      let whole : List Instr = (a >> b).code texts (length g.waiting) (code_size g.code + 5) in
+      let begins : h.code ≡ g1.code ++ first = x.code texts l1 ∙ ap (λ m. g1.code ++ a.code texts m (code_size g1.code)) w ∙ ap (λ m. g1.code ++ a.code texts (length g.waiting) m) o in
+      let all : k.code ≡ g.code ++ i n ∷ whole = (both x y).code texts l ∙ ap (λ m. g1.code ++ (a >> b).code texts m (code_size g1.code)) w ∙ ap (λ m. g1.code ++ (a >> b).code texts (length g.waiting) m) o
       ∙ ap (λ (z : Gen). z.code ++ whole) put ∙ append_assoc g.code (i n ∷ []) whole in
-      let there : t ≡ total g.code + 5 + total first = at ∙ ap total begins ∙ total_append g1.code first ∙ ap (λ m. m + total first) o in
+      let there : t ≡ code_size g.code + 5 + code_size first = at ∙ ap code_size begins ∙ total_append g1.code first ∙ ap (λ m. m + code_size first) o in
       ap (λ c. slice_set c (length g.code) (i t)) all ∙ set_at g.code whole (i n) (i t) ∙ ap (λ m. g.code ++ i m ∷ whole) there;
   texts = (both x y).texts ∙ ap (λ (z : Gen). with_texts (a.texts ++ b.texts) z.texts) put;
   waiting = (both x y).waiting ∙ ap (λ (z : Gen). z.waiting ++ (a.later ++ b.later)) put;
@@ -161,8 +161,8 @@ changed {a} {b} i n t g g1 h k k1 five put x at y set = subst (Emits (handled i 
 })
 
 -- and until then it stands where it was put
-pub stays : {p : Part} (i j : Instr) (n : ℕ) (g g1 h : Gen) → n ≡ length g.code → g1 ≡ with_instr i g → Emits p g1 h → bytes i ≡ bytes j → SameBytes h.code n j
+pub stays : {p : Part} (i j : Instr) (n : ℕ) (g g1 h : Gen) → n ≡ length g.code → g1 ≡ with_instr i g → Emits p g1 h → instr_size i ≡ instr_size j → SameBytes h.code n j
 stays {p} i j n g g1 h place put x e =
-    let more : List Instr = p.code h.texts (length g1.waiting) (total g1.code) in
+    let more : List Instr = p.code h.texts (length g1.waiting) (code_size g1.code) in
     let code : h.code ≡ g.code ++ i ∷ more = x.code h.texts ([], nil_right h.texts) ∙ ap (λ (z : Gen). z.code ++ more) put ∙ append_assoc g.code (i ∷ []) more in
     (i, subst (λ c. slice_get c n ≡ Some i) (sym code) (subst (λ n. slice_get (g.code ++ i ∷ more) n ≡ Some i) (sym place) (get_at g.code i more)), e)

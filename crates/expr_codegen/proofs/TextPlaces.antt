@@ -5,7 +5,7 @@ use Rattle.std.specs.List.{list_any, position_or_len, prefix_len}
 use Rattle.std.specs.declared.vec.Vec.{Vec}
 use Rattle.std.specs.declared.alloc.Global.{Global}
 use Rattle.indexmap.specs.IndexSet.{insert_key}
-use Rattle.expr_codegen.specs.Texts.{place_of, with_text}
+use Rattle.expr_codegen.specs.Texts.{number_of_text, with_text}
 
 abbrev pub Text : Type 0
 Text = Vec ℕ Global
@@ -30,22 +30,22 @@ not_then : (b : Bool) (n m : ℕ) → n ≡ m → (if not b then 1 + n else 0) �
 not_then true n m e = refl
 not_then false n m e = let h : 1 + n ≡ suc m = omega (arith, e) in h
 
-pub place_key : (v : Text) (ks : List Text) → position_or_len (same v) ks ≡ place_of v.items (map items ks)
+pub place_key : (v : Text) (ks : List Text) → position_or_len (same v) ks ≡ number_of_text v.items (map items ks)
 place_key v [] = refl
-place_key v (x ∷ ks) = not_then (same v x) (position_or_len (same v) ks) (place_of v.items (map items ks)) (place_key v ks)
+place_key v (x ∷ ks) = not_then (same v x) (position_or_len (same v) ks) (number_of_text v.items (map items ks)) (place_key v ks)
 
 -- the place of a text is the same before and after it is put
-pub place_put : (t : List ℕ) (ts : List (List ℕ)) → place_of t (with_text t ts) ≡ place_of t ts
+pub place_put : (t : List ℕ) (ts : List (List ℕ)) → number_of_text t (with_text t ts) ≡ number_of_text t ts
 place_put t [] = let e : bytes_eq t t ≡ true = search rules in rw e refl
-place_put t (s ∷ ss) = elim (bytes_eq t s) as (λ b. (bytes_eq t s ≡ b) → place_of t (if b then s ∷ ss else s ∷ with_text t ss) ≡ (if b then 0 else suc (place_of t ss))) [
+place_put t (s ∷ ss) = elim (bytes_eq t s) as (λ b. (bytes_eq t s ≡ b) → number_of_text t (if b then s ∷ ss else s ∷ with_text t ss) ≡ (if b then 0 else suc (number_of_text t ss))) [
   | true ↦ λ e. rw e refl
   | false ↦ λ e. rw e (ap suc (place_put t ss))
 ] refl
 
 -- and stays as others are put
-pub place_stays : (s : List ℕ) (ts more : List (List ℕ)) → place_of s (with_text s ts ++ more) ≡ place_of s (with_text s ts)
+pub place_stays : (s : List ℕ) (ts more : List (List ℕ)) → number_of_text s (with_text s ts ++ more) ≡ number_of_text s (with_text s ts)
 place_stays s [] more = let e : bytes_eq s s ≡ true = search rules in rw e refl
-place_stays s (x ∷ xs) more = elim (bytes_eq s x) as (λ b. (bytes_eq s x ≡ b) → place_of s ((if b then x ∷ xs else x ∷ with_text s xs) ++ more) ≡ place_of s (if b then x ∷ xs else x ∷ with_text s xs)) [
+place_stays s (x ∷ xs) more = elim (bytes_eq s x) as (λ b. (bytes_eq s x ≡ b) → number_of_text s ((if b then x ∷ xs else x ∷ with_text s xs) ++ more) ≡ number_of_text s (if b then x ∷ xs else x ∷ with_text s xs)) [
   | true ↦ λ e. rw e refl
   | false ↦ λ e. rw e (ap suc (place_stays s xs more))
 ] refl

@@ -11,8 +11,8 @@ use Rattle.model.specs.declared.trees.Binary.TheVariants as b
 use Rattle.model.specs.Deck.Trees.{Bytes, Expr, Name, Integer, Literal, Keyword, Call, Reference, Apply, Combine, Args, Nil, More, Absent, Given}
 use Rattle.model.specs.Language.Names.{key_named, prim_named}
 use Rattle.model.specs.Deck.Faults.{count}
-use Rattle.model.specs.Module.Images.{total}
-use Rattle.expr_codegen.specs.Texts.{place_of}
+use Rattle.model.specs.Module.Images.{code_size}
+use Rattle.expr_codegen.specs.Texts.{number_of_text}
 
 -- a part of the code
 pub record Part : Type 0 where
@@ -35,7 +35,7 @@ one i = record { code = λ texts k at. i ∷ []; texts = []; later = [] }
 
 -- an instruction with the number of a string
 unfoldable pub with_string : (ℕ → Instr) → Bytes → Part
-with_string i s = record { code = λ texts k at. i (place_of s texts) ∷ []; texts = s ∷ []; later = [] }
+with_string i s = record { code = λ texts k at. i (number_of_text s texts) ∷ []; texts = s ∷ []; later = [] }
 
 -- an expression stays unevaluated; its number
 unfoldable pub unevaluated : Expr → Part
@@ -45,7 +45,7 @@ unevaluated e = record { code = λ texts k at. op.Expr k ∷ []; texts = []; lat
 infixr 10 ◌>>◌
 unfoldable pub ◌>>◌ : Part → Part → Part
 a >> b = record {
-  code = λ texts k at. a.code texts k at ++ b.code texts (k + length a.later) (at + total (a.code texts k at));
+  code = λ texts k at. a.code texts k at ++ b.code texts (k + length a.later) (at + code_size (a.code texts k at));
   texts = a.texts ++ b.texts;
   later = a.later ++ b.later;
 }
@@ -53,7 +53,7 @@ a >> b = record {
 -- an instruction of 5 bytes with the offset of the second part, and both parts
 unfoldable pub handled : (ℕ → Instr) → Part → Part → Part
 handled i a b = record {
-  code = λ texts k at. i (at + 5 + total (a.code texts k (at + 5))) ∷ (a >> b).code texts k (at + 5);
+  code = λ texts k at. i (at + 5 + code_size (a.code texts k (at + 5))) ∷ (a >> b).code texts k (at + 5);
   texts = (a >> b).texts;
   later = (a >> b).later;
 }

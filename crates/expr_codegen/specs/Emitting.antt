@@ -4,10 +4,10 @@ use Rattle.model.specs.declared.instr.Instr.{Instr}
 use Rattle.model.specs.declared.primitives.PrimId.{PrimId}
 use Rattle.model.specs.Deck.Trees.{Bytes, Expr, Call, Reference, Apply, Combine, Args, Nil, More, Absent, Given}
 use Rattle.model.specs.Deck.Faults.{count}
-use Rattle.model.specs.Module.Images.{bytes, total}
+use Rattle.model.specs.Module.Images.{instr_size, code_size}
 use Rattle.model.specs.Language.Names.{prim_named}
 use Rattle.model.specs.Deck.Weights.{of_expr}
-use Rattle.expr_codegen.specs.Texts.{place_of, with_text, with_texts}
+use Rattle.expr_codegen.specs.Texts.{number_of_text, with_text, with_texts}
 use Rattle.expr_codegen.specs.Code.{Part}
 
 -- the code so far, its strings, its unevaluated expressions by number, and how many of these were taken to be put
@@ -23,7 +23,7 @@ Longer {A} xs ys = (more : List A) × (ys ≡ xs ++ more)
 
 -- a part was put: its code is the part's, whatever strings are still to come
 pub record Emits (p : Part) (g h : Gen) : Type 0 where
-  pub code : (texts : List Bytes) → Longer h.texts texts → h.code ≡ g.code ++ p.code texts (length g.waiting) (total g.code)
+  pub code : (texts : List Bytes) → Longer h.texts texts → h.code ≡ g.code ++ p.code texts (length g.waiting) (code_size g.code)
   pub texts : h.texts ≡ with_texts p.texts g.texts
   pub waiting : h.waiting ≡ g.waiting ++ p.later
   pub taken : h.taken ≡ g.taken
@@ -53,11 +53,11 @@ pub record Numbered (s : Bytes) (k : ℕ) (g h : Gen) : Type 0 where
   pub waiting : h.waiting ≡ g.waiting
   pub taken : h.taken ≡ g.taken
   pub texts : h.texts ≡ with_text s g.texts
-  pub at : k ≡ place_of s h.texts
+  pub at : k ≡ number_of_text s h.texts
 
 -- instruction number n has as many bytes as this one
 abbrev pub SameBytes : List Instr → ℕ → Instr → Type 0
-SameBytes code n i = (j : Instr) × (slice_get code n ≡ Some j) × (bytes j ≡ bytes i)
+SameBytes code n i = (j : Instr) × (slice_get code n ≡ Some j) × (instr_size j ≡ instr_size i)
 
 -- ---- limits
 
@@ -68,7 +68,7 @@ due (e ∷ es) = 9 * of_expr e + 1 + due es
 
 -- no offset and no number is larger, now and when all expressions are put
 unfoldable pub size : Gen → ℕ
-size g = total g.code + length g.texts + length g.waiting + due (drop g.taken g.waiting)
+size g = code_size g.code + length g.texts + length g.waiting + due (drop g.taken g.waiting)
 
 -- the next unevaluated expression was taken, if one is left
 abbrev pub Takes : Option Expr → Gen → Gen → Type 0

@@ -3,9 +3,9 @@ use Rattle.std.specs.Prelude.{ℕ, suc, List, [], ◌∷◌, bytes_eq, if◌then
 use Rattle.model.specs.Deck.Trees.{Bytes}
 
 -- where a string stands among others, or how many they are
-abbrev pub place_of : Bytes → List Bytes → ℕ
-place_of t [] = 0
-place_of t (s ∷ ss) = if bytes_eq t s then 0 else suc (place_of t ss)
+abbrev pub number_of_text : Bytes → List Bytes → ℕ
+number_of_text t [] = 0
+number_of_text t (s ∷ ss) = if bytes_eq t s then 0 else suc (number_of_text t ss)
 
 -- the strings with one more, which is put last unless it is there
 abbrev pub with_text : Bytes → List Bytes → List Bytes

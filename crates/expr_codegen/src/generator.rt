@@ -1,7 +1,7 @@
 //! The state of a generator.
 
 ghost use Rattle.std.specs.Prelude.{◌≡◌, ◌<◌, ◌≤◌, ◌+◌, ◌*◌, ◌^◌, [], length, map, option_map, IfOk, OnOk, OnErr};
-ghost use Rattle.model.specs.Module.Images.{bytes, total};
+ghost use Rattle.model.specs.Module.Images.{instr_size, code_size};
 ghost use Rattle.model.specs.Deck.TreeViews.{expr_of};
 ghost use Rattle.model.specs.Deck.Weights.{of_expr};
 ghost use Rattle.expr_codegen.specs.Emitting.{size};
@@ -53,7 +53,7 @@ impl<'a> Generator<'a> {
 
     /// The offset behind the code so far.
     pub fn at(&self) -> u32
-        ensures { result ≡ total (gen_of self.now).code }
+        ensures { result ≡ code_size (gen_of self.now).code }
     {
         self.at
     }
@@ -68,9 +68,9 @@ impl<'a> Generator<'a> {
     /// Puts an instruction.
     #[tactic(auto, using(crate::proofs::Joins::total_snoc), unfolding(crate::specs::Emitting::size))]
     pub fn put(&mut self, i: Instr) -> Result<(), AllocError>
-        requires { size (gen_of self.old) + bytes i < 2 ^ 31 }
+        requires { size (gen_of self.old) + instr_size i < 2 ^ 31 }
         ensures put { OnOk result (gen_of self.new ≡ spec.with_instr i (gen_of self.old)) }
-        ensures size { OnOk result (size (gen_of self.new) ≡ size (gen_of self.old) + bytes i) }
+        ensures size { OnOk result (size (gen_of self.new) ≡ size (gen_of self.old) + instr_size i) }
         ensures refused { OnErr result (gen_of self.new ≡ gen_of self.old) }
         ensures extends { spec.Extends (gen_of self.old) (gen_of self.new) }
     {
@@ -152,7 +152,7 @@ impl<'a> Generator<'a> {
 
 // How many bytes an instruction has.
 fn length_of(i: Instr) -> u32
-    ensures { result ≡ bytes i }
+    ensures { result ≡ instr_size i }
 {
     match i {
         Instr::Int(_) => 9,

@@ -1,7 +1,7 @@
 //! The table of strings.
 
 ghost use Rattle.std.specs.Prelude.{◌≡◌, ◌<◌, ◌≤◌, ◌+◌, ◌^◌, List, [], ℕ, map, length, IfOk, OnOk, OnErr, Some, option_map};
-ghost use Rattle.expr_codegen.specs.Texts.{place_of, with_text};
+ghost use Rattle.expr_codegen.specs.Texts.{number_of_text, with_text};
 
 use indexmap::IndexSet;
 use model::{Bytes, Seq};
@@ -39,7 +39,7 @@ impl Strings {
     pub fn number(&mut self, alloc: Global, text: &[u8]) -> Result<u32, AllocError>
         requires { length self.old < 2 ^ 31 }
         ensures put { OnOk result (self.new ≡ with_text text.now self.old) }
-        ensures place { IfOk result (λ k. k ≡ place_of text.now self.new) }
+        ensures place { IfOk result (λ k. k ≡ number_of_text text.now self.new) }
         ensures few { OnOk result (length self.new ≤ length self.old + 1) }
         ensures refused { OnErr result (self.new ≡ self.old) }
     {

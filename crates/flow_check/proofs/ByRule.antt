@@ -7,8 +7,8 @@ use Rattle.model.specs.declared.instr.Instr.{Instr}
 use Rattle.model.specs.declared.instr.Instr.TheVariants as op
 use Rattle.model.specs.declared.image.Image.{Image}
 use Rattle.model.specs.Machine.Steps.{At}
-use Rattle.model.specs.Module.Images.{bytes, fetch_from, total}
-use Rattle.model.specs.Module.Flow.{Shape, Asks, leads, is_target}
+use Rattle.model.specs.Module.Images.{instr_size, fetch_from, code_size}
+use Rattle.model.specs.Module.Flow.{Shape, Asks, leads, is_jump_target}
 use Rattle.flow_check.specs.declared.rules.Rule.{Rule}
 use Rattle.flow_check.specs.Rules.{rule_of, Asked, next_of, target_of, go_on, go_to}
 
@@ -24,7 +24,7 @@ leads_are im _ at next s = refl
 
 -- to the next instruction, or to a target
 abbrev pub LedTo : Image → (at next : ℕ) → Rule → Shape → ℕ → Shape → Type 0
-LedTo im at next r s y t = ((next ≡ y) × (next_of r s ≡ Some t)) ⊎ ((target_of r s ≡ Some (y, t)) × (is_target im at y ≡ true))
+LedTo im at next r s y t = ((next ≡ y) × (next_of r s ≡ Some t)) ⊎ ((target_of r s ≡ Some (y, t)) × (is_jump_target im at y ≡ true))
 
 abbrev Place : Type 0
 Place = ℕ × Shape
@@ -43,32 +43,32 @@ to_tail : (q p : Place) (ps : List Place) → Contains ps p → Contains (q ∷ 
 to_tail q p ps (k, lt, e) = (suc k, omega (arith, lt), e)
 
 module _ (im : Image) (at : ℕ) (y : ℕ) (t : Shape) where
-  target_if : (q : Place) (b : Bool) → is_target im at q.0 ≡ b → Contains {X = Place} (if b then (q.0, q.1) ∷ [] else []) (y, t) → (Some q ≡ Some (y, t)) × (is_target im at y ≡ true)
+  target_if : (q : Place) (b : Bool) → is_jump_target im at q.0 ≡ b → Contains {X = Place} (if b then (q.0, q.1) ∷ [] else []) (y, t) → (Some q ≡ Some (y, t)) × (is_jump_target im at y ≡ true)
   target_if q true e h = elim (in_cons q (y, t) [] h) [
-    | inl f ↦ (ap Some f, subst (λ (z : Place). is_target im at z.0 ≡ true) f e)
+    | inl f ↦ (ap Some f, subst (λ (z : Place). is_jump_target im at z.0 ≡ true) f e)
     | inr g ↦ absurd (in_none (y, t) g)
   ]
   target_if q false e h = absurd (in_none (y, t) h)
 
-  target_from : (p : Option Place) → Contains (go_to im at p) (y, t) → (p ≡ Some (y, t)) × (is_target im at y ≡ true)
+  target_from : (p : Option Place) → Contains (go_to im at p) (y, t) → (p ≡ Some (y, t)) × (is_jump_target im at y ≡ true)
   target_from None h = absurd (in_none (y, t) h)
-  target_from (Some q) h = target_if q (is_target im at q.0) refl h
+  target_from (Some q) h = target_if q (is_jump_target im at q.0) refl h
 
-  led_parts : (next : ℕ) (o : Option Shape) (p : Option Place) → Contains (go_on next o ++ go_to im at p) (y, t) → ((next ≡ y) × (o ≡ Some t)) ⊎ ((p ≡ Some (y, t)) × (is_target im at y ≡ true))
+  led_parts : (next : ℕ) (o : Option Shape) (p : Option Place) → Contains (go_on next o ++ go_to im at p) (y, t) → ((next ≡ y) × (o ≡ Some t)) ⊎ ((p ≡ Some (y, t)) × (is_jump_target im at y ≡ true))
   led_parts next None p h = inr (target_from p h)
   led_parts next (Some s) p h = elim (in_cons (next, s) (y, t) (go_to im at p) h) [
     | inl f ↦ inl (ap (λ (z : Place). z.0) f, ap (λ (z : Place). Some z.1) f)
     | inr g ↦ inr (target_from p g)
   ]
 
-  go_target : (p : Option Place) → p ≡ Some (y, t) → is_target im at y ≡ true → Contains (go_to im at p) (y, t)
+  go_target : (p : Option Place) → p ≡ Some (y, t) → is_jump_target im at y ≡ true → Contains (go_to im at p) (y, t)
   go_target p e g = subst (λ q. Contains (go_to im at q) (y, t)) (sym e) (rw g (to_head (y, t) []))
 
   after_next : (next : ℕ) (o : Option Shape) (ps : List Place) → Contains ps (y, t) → Contains (go_on next o ++ ps) (y, t)
   after_next next None ps h = h
   after_next next (Some s) ps h = to_tail (next, s) (y, t) ps h
 
-  parts_led : (next : ℕ) (o : Option Shape) (p : Option Place) → ((next ≡ y) × (o ≡ Some t)) ⊎ ((p ≡ Some (y, t)) × (is_target im at y ≡ true)) → Contains (go_on next o ++ go_to im at p) (y, t)
+  parts_led : (next : ℕ) (o : Option Shape) (p : Option Place) → ((next ≡ y) × (o ≡ Some t)) ⊎ ((p ≡ Some (y, t)) × (is_jump_target im at y ≡ true)) → Contains (go_on next o ++ go_to im at p) (y, t)
   parts_led next o p (inl h) =
       subst (λ z. Contains (go_on next z ++ go_to im at p) (y, t)) (sym h.1)
       (subst (λ z. Contains ((z, t) ∷ go_to im at p) (y, t)) (sym h.0) (to_head (y, t) (go_to im at p)))
@@ -82,19 +82,19 @@ module _ (im : Image) (at : ℕ) (y : ℕ) (t : Shape) where
 
 -- ---- offsets
 
-pub some_bytes : (i : Instr) → 1 ≤ bytes i
+pub some_bytes : (i : Instr) → 1 ≤ instr_size i
 some_bytes op.End = omega arith
 some_bytes _ = omega arith
 
 fetch_if : (o : ℕ) (j : Instr) (is : List Instr) (at : ℕ) (i : Instr) (next : ℕ) (b : Bool) → (o == at) ≡ b
-    → (fetch_from (o + bytes j) is at ≡ At i next → (next ≡ at + bytes i) × (o + bytes j ≤ at) × (at < o + bytes j + total is))
-    → (if b then At j (o + bytes j) else fetch_from (o + bytes j) is at) ≡ At i next
-    → (next ≡ at + bytes i) × (o ≤ at) × (at < o + total (j ∷ is))
+    → (fetch_from (o + instr_size j) is at ≡ At i next → (next ≡ at + instr_size i) × (o + instr_size j ≤ at) × (at < o + instr_size j + code_size is))
+    → (if b then At j (o + instr_size j) else fetch_from (o + instr_size j) is at) ≡ At i next
+    → (next ≡ at + instr_size i) × (o ≤ at) × (at < o + code_size (j ∷ is))
 fetch_if o j is at i next true e rest h =
     let same : o ≡ at = grind (arith, nat_tests, e) in
     let one : j ≡ i = cc in
-    let n : o + bytes j ≡ next = cc in
-    let m : bytes j ≡ bytes i = ap bytes one in
+    let n : o + instr_size j ≡ next = cc in
+    let m : instr_size j ≡ instr_size i = ap instr_size one in
     let p = some_bytes j in
     (omega (arith, same, n, m), omega (arith, same), omega (arith, same, p))
 fetch_if o j is at i next false e rest h =
@@ -102,6 +102,6 @@ fetch_if o j is at i next false e rest h =
     (r.0, omega (arith, r.1), omega (arith, r.2))
 
 -- what is fetched lies within the code, and the next stands behind it
-pub fetch_lies : (o : ℕ) (is : List Instr) (at : ℕ) (i : Instr) (next : ℕ) → fetch_from o is at ≡ At i next → (next ≡ at + bytes i) × (o ≤ at) × (at < o + total is)
+pub fetch_lies : (o : ℕ) (is : List Instr) (at : ℕ) (i : Instr) (next : ℕ) → fetch_from o is at ≡ At i next → (next ≡ at + instr_size i) × (o ≤ at) × (at < o + code_size is)
 fetch_lies o [] at i next h = absurd (cc)
-fetch_lies o (j ∷ is) at i next h = fetch_if o j is at i next (o == at) refl (fetch_lies (o + bytes j) is at i next) h
+fetch_lies o (j ∷ is) at i next h = fetch_if o j is at i next (o == at) refl (fetch_lies (o + instr_size j) is at i next) h

@@ -7,7 +7,7 @@ use Rattle.model.specs.declared.image.Image.{Image}
 use Rattle.model.specs.Machine.Steps.{At, OnBegin, OnTry}
 use Rattle.model.specs.Module.Images.{fetch_from}
 use Rattle.model.specs.Module.Flow as flow
-use Rattle.model.specs.Module.Flow.{Shape, shape, bare, asked, Asks, Begins, Reach, Reaches, BreaksFlow, IsLeast, begins_at, is_target, leads}
+use Rattle.model.specs.Module.Flow.{Shape, shape, bare, asked, Asks, Begins, Reach, Reaches, BreaksFlow, IsLeast, begins_at, is_jump_target, leads}
 use Rattle.flow_check.specs.declared.rules.Leaves.{Leaves}
 use Rattle.flow_check.specs.declared.rules.Leaves.TheVariants as leaves
 use Rattle.flow_check.specs.declared.rules.Rule.{Rule}

@@ -19,7 +19,7 @@ same_itself Value = refl
 same_itself Name = refl
 same_itself Span = refl
 
-kinds_cases : (k j : flow.Kind) → (k ≡ j) ⊎ ((same_kind (to_kind k) (to_kind j) ≡ false) × (k ≡ j → ⊥))
+kinds_cases : (k j : flow.OperandKind) → (k ≡ j) ⊎ ((same_kind (to_kind k) (to_kind j) ≡ false) × (k ≡ j → ⊥))
 kinds_cases V V = inl refl
 kinds_cases V N = inr (refl, λ e. absurd (cc))
 kinds_cases V R = inr (refl, λ e. absurd (cc))
@@ -32,7 +32,7 @@ kinds_cases R R = inl refl
 
 -- ---- the kinds that runs stand for
 
-abbrev pub expand : List Top → List flow.Kind
+abbrev pub expand : List Top → List flow.OperandKind
 expand [] = []
 expand (Run k n ∷ ts) = replicate n (kind_of k) ++ expand ts
 expand (Begin t ∷ ts) = expand ts
@@ -60,12 +60,12 @@ expand_split k (Run j n ∷ ts) = expand_run k j n ts (same_kind k j) refl
 expand_split k (Begin t ∷ ts) = refl
 expand_split k (Try t d ∷ ts) = refl
 
-kind_back : (k : flow.Kind) → kind_of (to_kind k) ≡ k
+kind_back : (k : flow.OperandKind) → kind_of (to_kind k) ≡ k
 kind_back V = refl
 kind_back N = refl
 kind_back R = refl
 
-expand_onto : (k : flow.Kind) (ts : List Top) → expand (onto (to_kind k) ts) ≡ k ∷ expand ts
+expand_onto : (k : flow.OperandKind) (ts : List Top) → expand (onto (to_kind k) ts) ≡ k ∷ expand ts
 expand_onto k ts =
     let n = run_length (to_kind k) ts in
     let rest = expand (below_run (to_kind k) ts) in
@@ -74,20 +74,20 @@ expand_onto k ts =
     ∙ ap (λ l. kind_of (to_kind k) ∷ l) (expand_split (to_kind k) ts)
     ∙ ap (λ x. x ∷ expand ts) (kind_back k)
 
-expand_runs : (ks : List flow.Kind) → expand (runs ks) ≡ ks
+expand_runs : (ks : List flow.OperandKind) → expand (runs ks) ≡ ks
 expand_runs [] = refl
 expand_runs (k ∷ ks) = expand_onto k (runs ks) ∙ ap (λ l. k ∷ l) (expand_runs ks)
 
-pub runs_one : (ks js : List flow.Kind) → runs ks ≡ runs js → ks ≡ js
+pub runs_one : (ks js : List flow.OperandKind) → runs ks ≡ runs js → ks ≡ js
 runs_one ks js e = sym (expand_runs ks) ∙ ap expand e ∙ expand_runs js
 
 -- ---- a run is at most as long as the list
 
-length_expand : (n : ℕ) (k : flow.Kind) (l : List flow.Kind) → n ≤ length (replicate n k ++ l)
+length_expand : (n : ℕ) (k : flow.OperandKind) (l : List flow.OperandKind) → n ≤ length (replicate n k ++ l)
 length_expand zero k l = omega arith
 length_expand (suc n) k l = let h = length_expand n k l in omega (arith, h)
 
-pub run_within : (k : Kind) (ks : List flow.Kind) → run_length k (runs ks) ≤ length ks
+pub run_within : (k : Kind) (ks : List flow.OperandKind) → run_length k (runs ks) ≤ length ks
 run_within k ks =
     subst (λ l. run_length k (runs ks) ≤ length l) (expand_split k (runs ks) ∙ expand_runs ks)
     (length_expand (run_length k (runs ks)) (kind_of k) (expand (below_run k (runs ks))))
@@ -112,7 +112,7 @@ positive_below k (Run j n ∷ ts) h = positive_if (same_kind k j) j n ts h
 positive_below k (Begin t ∷ ts) h = h
 positive_below k (Try t d ∷ ts) h = h
 
-positive_runs : (ks : List flow.Kind) → Positive (runs ks)
+positive_runs : (ks : List flow.OperandKind) → Positive (runs ks)
 unfolding Positive
 positive_runs [] = tt
 positive_runs (k ∷ ks) = (omega arith, positive_below (to_kind k) (runs ks) (positive_runs ks))
@@ -172,15 +172,15 @@ pop_other k j n ts e = pop_some k n (onto j ts) ∙ rw e (part_nothing k n (onto
 pop_empty : (k : Kind) (n : ℕ) → popped k (suc n) [] ≡ None
 pop_empty k n = pop_some k n [] ∙ part_nothing k n []
 
-abbrev PoppedIs : Option (List Top) → ℕ → flow.Kind → List flow.Kind → Type 0
-PoppedIs None n k ks = (below : List flow.Kind) → ks ≡ replicate n k ++ below → ⊥
-PoppedIs (Some ts) n k ks = (below : List flow.Kind) × (ks ≡ replicate n k ++ below) × (ts ≡ runs below)
+abbrev PoppedIs : Option (List Top) → ℕ → flow.OperandKind → List flow.OperandKind → Type 0
+PoppedIs None n k ks = (below : List flow.OperandKind) → ks ≡ replicate n k ++ below → ⊥
+PoppedIs (Some ts) n k ks = (below : List flow.OperandKind) × (ks ≡ replicate n k ++ below) × (ts ≡ runs below)
 
-popped_more : (r : Option (List Top)) (n : ℕ) (k : flow.Kind) (ks : List flow.Kind) → PoppedIs r n k ks → PoppedIs r (suc n) k (k ∷ ks)
+popped_more : (r : Option (List Top)) (n : ℕ) (k : flow.OperandKind) (ks : List flow.OperandKind) → PoppedIs r n k ks → PoppedIs r (suc n) k (k ∷ ks)
 popped_more None n k ks h = λ below e. h below (let z : ks ≡ replicate n k ++ below = cc in z)
 popped_more (Some ts) n k ks h = (h.0, ap (λ l. k ∷ l) h.1, h.2)
 
-popped_kinds : (k : flow.Kind) (n : ℕ) (ks : List flow.Kind) → PoppedIs (popped (to_kind k) n (runs ks)) n k ks
+popped_kinds : (k : flow.OperandKind) (n : ℕ) (ks : List flow.OperandKind) → PoppedIs (popped (to_kind k) n (runs ks)) n k ks
 popped_kinds k zero ks = (ks, refl, refl)
 popped_kinds k (suc n) [] = subst (λ r. PoppedIs r (suc n) k []) (sym (pop_empty (to_kind k) n)) (λ below e. absurd (cc))
 popped_kinds k (suc n) (j ∷ ks) =
@@ -192,7 +192,7 @@ popped_kinds k (suc n) (j ∷ ks) =
           (λ below e. ne.1 (let z : k ≡ j = cc in z))
     ]
 
-taken_by : (ns : List Node) (r : Option (Option ℕ)) (p : Option (List Top)) (n : ℕ) (k : flow.Kind) (ks : List flow.Kind)
+taken_by : (ns : List Node) (r : Option (Option ℕ)) (p : Option (List Top)) (n : ℕ) (k : flow.OperandKind) (ks : List flow.OperandKind)
     → AreBoth ns r p → PoppedIs p n k ks → IsTaken ns r (replicate n k) ks
 taken_by ns None None n k ks a h = h
 taken_by ns None (Some ts) n k ks a h = absurd a
@@ -200,7 +200,7 @@ taken_by ns (Some i) None n k ks a h = absurd a
 taken_by ns (Some i) (Some ts) n k ks a h = (h.0, h.1, subst (λ l. Is ns i l) h.2 a)
 
 -- a pop takes as many of the kind
-pub pop_takes : (ns : List Node) (r : Option (Option ℕ)) (n : ℕ) (k : flow.Kind) (ks : List flow.Kind) → AreBoth ns r (popped (to_kind k) n (runs ks)) → IsTaken ns r (replicate n k) ks
+pub pop_takes : (ns : List Node) (r : Option (Option ℕ)) (n : ℕ) (k : flow.OperandKind) (ks : List flow.OperandKind) → AreBoth ns r (popped (to_kind k) n (runs ks)) → IsTaken ns r (replicate n k) ks
 pop_takes ns r n k ks a = taken_by ns r (popped (to_kind k) n (runs ks)) n k ks a (popped_kinds k n ks)
 
 pub kind_there : (k : Kind) → to_kind (kind_of k) ≡ k
@@ -208,37 +208,37 @@ kind_there Value = refl
 kind_there Name = refl
 kind_there Span = refl
 
-pub run_takes : (ns : List Node) (r : Option (Option ℕ)) (n : ℕ) (k : Kind) (ks : List flow.Kind) → AreBoth ns r (popped k n (runs ks)) → IsTaken ns r (replicate n (kind_of k)) ks
+pub run_takes : (ns : List Node) (r : Option (Option ℕ)) (n : ℕ) (k : Kind) (ks : List flow.OperandKind) → AreBoth ns r (popped k n (runs ks)) → IsTaken ns r (replicate n (kind_of k)) ks
 run_takes ns r n k ks a = pop_takes ns r n (kind_of k) ks (subst (λ j. AreBoth ns r (popped j n (runs ks))) (sym (kind_there k)) a)
 
-pub cancel : (ts a b : List flow.Kind) → ts ++ a ≡ ts ++ b → a ≡ b
+pub cancel : (ts a b : List flow.OperandKind) → ts ++ a ≡ ts ++ b → a ≡ b
 cancel [] a b e = e
 cancel (t ∷ ts) a b e = cancel ts a b (let z : ts ++ a ≡ ts ++ b = cc in z)
 
 -- what is taken after more was
-pub then_taken : (ns : List Node) (r : Option (Option ℕ)) (ts us ks below : List flow.Kind) → ks ≡ ts ++ below → IsTaken ns r us below → IsTaken ns r (ts ++ us) ks
+pub then_taken : (ns : List Node) (r : Option (Option ℕ)) (ts us ks below : List flow.OperandKind) → ks ≡ ts ++ below → IsTaken ns r us below → IsTaken ns r (ts ++ us) ks
 then_taken ns None ts us ks below e h = λ b f. h b (cancel ts below (us ++ b) (sym e ∙ f ∙ append_assoc ts us b))
 then_taken ns (Some k) ts us ks below e h = (h.0, e ∙ ap (λ l. ts ++ l) h.1 ∙ sym (append_assoc ts us h.0), h.2)
 
 -- one more operand
-pub pushed : (ns more : List Node) → Grows ns more → (k : Kind) (n : ℕ) (below i : Option ℕ) (ks : List flow.Kind)
+pub pushed : (ns more : List Node) → Grows ns more → (k : Kind) (n : ℕ) (below i : Option ℕ) (ks : List flow.OperandKind)
     → n ≡ run_length k (runs ks) → Is ns below (below_run k (runs ks)) → node_at more i ≡ Some (node (Run k (n + 1)) below)
     → Is more i (runs (kind_of k ∷ ks))
 pushed ns more g k n below i ks e h at =
     subst (λ j. Is more i (onto j (runs ks))) (sym (kind_there k))
     (below, at ∙ ap (λ m. Some (node (Run k (m + 1)) below)) e, grown ns more g below (below_run k (runs ks)) h)
 
-pub count_fits : (k : Kind) (n : ℕ) (ks : List flow.Kind) → n ≡ run_length k (runs ks) → length ks < 2 ^ 31 → n + 1 < 2 ^ 32
+pub count_fits : (k : Kind) (n : ℕ) (ks : List flow.OperandKind) → n ≡ run_length k (runs ks) → length ks < 2 ^ 31 → n + 1 < 2 ^ 32
 count_fits k n ks e h = let w = run_within k ks in omega (arith, e, w, h)
 
 -- the same of what a call gave
-pub then_some : (a b : List Node) (r r' : Option (Option ℕ)) (rest : Option ℕ) (ts us ks : List flow.Kind)
-    → r ≡ Some rest → IsTaken a r ts ks → ((below : List flow.Kind) → Is a rest (runs below) → IsTaken b r' us below) → IsTaken b r' (ts ++ us) ks
+pub then_some : (a b : List Node) (r r' : Option (Option ℕ)) (rest : Option ℕ) (ts us ks : List flow.OperandKind)
+    → r ≡ Some rest → IsTaken a r ts ks → ((below : List flow.OperandKind) → Is a rest (runs below) → IsTaken b r' us below) → IsTaken b r' (ts ++ us) ks
 then_some a b r r' rest ts us ks e h next =
     let g : IsTaken a (Some rest) ts ks = subst (λ x. IsTaken a x ts ks) e h in
     then_taken b r' ts us ks g.0 g.1 (next g.0 g.2)
 
-pub then_none : (a b : List Node) (r : Option (Option ℕ)) (ts us ks : List flow.Kind) → r ≡ None → IsTaken a r ts ks → IsTaken b None (ts ++ us) ks
+pub then_none : (a b : List Node) (r : Option (Option ℕ)) (ts us ks : List flow.OperandKind) → r ≡ None → IsTaken a r ts ks → IsTaken b None (ts ++ us) ks
 then_none a b r ts us ks e h =
     let g : IsTaken a None ts ks = subst (λ x. IsTaken a x ts ks) e h in
     λ below f. g (us ++ below) (f ∙ append_assoc ts us below)
@@ -247,7 +247,7 @@ pub none_empty : (ns : List Node) (i : Option ℕ) (ts : List Top) → i ≡ Non
 none_empty ns i [] e h = refl
 none_empty ns i (t ∷ ts) e h = let f : node_at ns None ≡ Some (node t h.0) = subst (λ j. node_at ns j ≡ Some (node t h.0)) e h.1 in absurd (cc)
 
-module _ (ns : List Node) (n : ℕ) (below : Option ℕ) (ks : List flow.Kind) (long : n ≡ run_length Value (runs ks)) (rest : Is ns below (below_run Value (runs ks))) where
+module _ (ns : List Node) (n : ℕ) (below : Option ℕ) (ks : List flow.OperandKind) (long : n ≡ run_length Value (runs ks)) (rest : Is ns below (below_run Value (runs ks))) where
   pub one_value : n ≡ 1 → below ≡ None → ks ≡ V ∷ []
   one_value e b =
       let z = none_empty ns below (below_run Value (runs ks)) b rest in

@@ -67,7 +67,7 @@ tops_one (h ∷ hs) (g ∷ gs) e =
     let b : hs ≡ gs = tops_one hs gs (let z : map top_of hs ≡ map top_of gs = cc in z) in
     cc
 
-pub shapes : (m n : flow.Mode) (ks js : List flow.Kind) (hs gs : List Handler) → m ≡ n → ks ≡ js → hs ≡ gs → flow.shape m ks hs ≡ flow.shape n js gs
+pub shapes : (m n : flow.Mode) (ks js : List flow.OperandKind) (hs gs : List Handler) → m ≡ n → ks ≡ js → hs ≡ gs → flow.shape m ks hs ≡ flow.shape n js gs
 shapes m n ks js hs gs e f g = ap (λ x. flow.shape x ks hs) e ∙ ap (λ x. flow.shape n x hs) f ∙ ap (λ x. flow.shape n js x) g
 
 pub same_true : (ns : List Node) (a b : Shape) (s t : flow.Shape) → IsShape ns a s → IsShape ns b t → same_shape a b ≡ true → s ≡ t

@@ -29,7 +29,7 @@ module _ (ns : List Node) (i : Option ℕ) (n : Node) (at : node_at ns i ≡ Som
       let m : n ≡ node (Begin t) g.0 = cc in
       ap (λ (x : Node). x.below) m ∙ g.2
 
-pub length_both : (ts bs : List flow.Kind) → length (ts ++ bs) ≡ length ts + length bs
+pub length_both : (ts bs : List flow.OperandKind) → length (ts ++ bs) ≡ length ts + length bs
 length_both [] bs = omega arith
 length_both (t ∷ ts) bs = let r = length_both ts bs in omega (arith, r)
 
@@ -46,32 +46,32 @@ module _ (ns : List Node) (a : Shape) (s : flow.Shape) (h : IsShape ns a s) wher
   pub with_value : a.handlers ≡ None → s.kinds ≡ flow.V ∷ [] → s ≡ flow.shape s.mode (flow.V ∷ []) []
   with_value e k = shapes s.mode s.mode s.kinds (flow.V ∷ []) s.handlers [] refl k (no_handlers e)
 
-  pub fewer_fit : (ts bs : List flow.Kind) → s.kinds ≡ ts ++ bs → length ts ≤ a.depth
+  pub fewer_fit : (ts bs : List flow.OperandKind) → s.kinds ≡ ts ++ bs → length ts ≤ a.depth
   fewer_fit ts bs e = let l = ap length e in let d = h.depth in let x = length_both ts bs in omega (arith, l, d, x)
 
-drop_all : (ts bs : List flow.Kind) → drop (length ts) (ts ++ bs) ≡ bs
+drop_all : (ts bs : List flow.OperandKind) → drop (length ts) (ts ++ bs) ≡ bs
 drop_all [] bs = refl
 drop_all (t ∷ ts) bs = drop_all ts bs
 
 -- what is left below
-pub depth_left : (d : ℕ) (s : flow.Shape) (ts bs : List flow.Kind) → d ≡ length s.kinds → s.kinds ≡ ts ++ bs → d - length ts ≡ length bs
+pub depth_left : (d : ℕ) (s : flow.Shape) (ts bs : List flow.OperandKind) → d ≡ length s.kinds → s.kinds ≡ ts ++ bs → d - length ts ≡ length bs
 depth_left d s ts bs e f = let l = ap length f in let x = length_both ts bs in omega (arith, e, l, x)
 
 -- not above what the handler keeps
-pub not_above : (s : flow.Shape) (ts bs : List flow.Kind) → s.kinds ≡ ts ++ bs → length bs < flow.floor_of s.handlers → flow.Above ts s → ⊥
+pub not_above : (s : flow.Shape) (ts bs : List flow.OperandKind) → s.kinds ≡ ts ++ bs → length bs < flow.floor_of s.handlers → flow.Above ts s → ⊥
 not_above s ts bs e l (below, f, g) =
     let c : bs ≡ below = cancel ts bs below (sym e ∙ f) in
     let x = ap length c in
     absurd (omega (arith, l, g, x))
 
-taken_put : (m : flow.Mode) (s : flow.Shape) (ts us bs : List flow.Kind) → m ≡ s.mode → s.kinds ≡ ts ++ bs → flow.shape m (us ++ bs) s.handlers ≡ flow.shape s.mode (us ++ drop (length ts) s.kinds) s.handlers
+taken_put : (m : flow.Mode) (s : flow.Shape) (ts us bs : List flow.OperandKind) → m ≡ s.mode → s.kinds ≡ ts ++ bs → flow.shape m (us ++ bs) s.handlers ≡ flow.shape s.mode (us ++ drop (length ts) s.kinds) s.handlers
 taken_put m s ts us bs e f = shapes m s.mode (us ++ bs) (us ++ drop (length ts) s.kinds) s.handlers s.handlers e (ap (λ l. us ++ l) (sym (ap (drop (length ts)) f ∙ drop_all ts bs))) refl
 
-pub taken_at : (ns : List Node) (r : Option (Option ℕ)) (k : Option ℕ) (ts ks : List flow.Kind) → r ≡ Some k → IsTaken ns r ts ks → IsTaken ns (Some k) ts ks
+pub taken_at : (ns : List Node) (r : Option (Option ℕ)) (k : Option ℕ) (ts ks : List flow.OperandKind) → r ≡ Some k → IsTaken ns r ts ks → IsTaken ns (Some k) ts ks
 taken_at ns r k ts ks e h = subst (λ x. IsTaken ns x ts ks) e h
 
 -- an operation is what it takes and what it leaves
-pub put_advances : (ns : List Node) (led : Option Led) (m : Mode) (s : flow.Shape) (ts : Takes) (ls : Leaves) (bs : List flow.Kind) → mode_of m ≡ s.mode → s.kinds ≡ taken ts ++ bs
+pub put_advances : (ns : List Node) (led : Option Led) (m : Mode) (s : flow.Shape) (ts : Takes) (ls : Leaves) (bs : List flow.OperandKind) → mode_of m ≡ s.mode → s.kinds ≡ taken ts ++ bs
     → IsPut ns led m (left ls) bs s.handlers → Advances ns led (Operate ts ls) s
 put_advances ns None m s ts ls bs e f h = not_above s (taken ts) bs f h
 put_advances ns (Some led) m s ts ls bs e f h = (

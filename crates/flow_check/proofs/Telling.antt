@@ -5,7 +5,7 @@ use Rattle.std.proofs.lemmas.Bool.{cases_eq, cases_lt}
 use Rattle.std.proofs.lemmas.Bool.Decides.{nat_tests}
 use Rattle.model.specs.declared.image.Image.{Image}
 use Rattle.model.specs.Module.Flow as flow
-use Rattle.model.specs.Module.Flow.{Asks, Begins, Reaches, BreaksFlow, IsLeast, begins_at, is_target}
+use Rattle.model.specs.Module.Flow.{Asks, Begins, Reaches, BreaksFlow, IsLeast, begins_at, is_jump_target}
 use Rattle.flow_check.specs.declared.pool.Node.{Node}
 use Rattle.flow_check.specs.declared.shapes.Shape.{Shape}
 use Rattle.flow_check.specs.declared.marks.Mark.{Mark}
@@ -105,22 +105,22 @@ place_at b y t e =
     (ap (λ (x : Place). x.0) g, sym (ap (λ (x : Place). x.1) g))
 
 pub tells_followed : (im : Image) (ns : List Node) → Distinct ns → (R : flow.Shape → Type 0) (o : ℕ) (c : Option (ℕ × Shape)) (p : Option Place) (m : ℕ → Option Mark) (y : ℕ)
-    → o < y → begins_at im y ≡ true → IsTarget ns c p → Tells ns R (m y) → Tells ns (λ t. R t ⊎ ((p ≡ Some (y, t)) × (is_target im o y ≡ true))) (followed o c m y)
+    → o < y → begins_at im y ≡ true → IsTarget ns c p → Tells ns R (m y) → Tells ns (λ t. R t ⊎ ((p ≡ Some (y, t)) × (is_jump_target im o y ≡ true))) (followed o c m y)
 tells_followed im ns d R o None None m y lt at n h = tells_same ns R _ (m y) (λ t k. inl k) (λ t k. elim k [ inl x ↦ x | inr q ↦ absurd (let z = q.0 in cc) ]) h
 tells_followed im ns d R o None (Some b) m y lt at n h = absurd n
 tells_followed im ns d R o (Some a) None m y lt at n h = absurd n
 tells_followed im ns d R o (Some a) (Some b) m y lt at n h =
     let before : nat_lt o y ≡ true = grind (arith, nat_tests, lt) in
-    let fits : is_target im o y ≡ true = rw (before, at) refl in
+    let fits : is_jump_target im o y ≡ true = rw (before, at) refl in
     elim (cases_lt o a.0) [
       | inl after ↦
           let l : nat_lt o a.0 ≡ true = grind (arith, nat_tests, after) in
-          rw l (tells_same ns (λ t. R t ⊎ ((a.0 ≡ y) × (t ≡ b.1))) (λ t. R t ⊎ ((Some b ≡ Some (pair y t)) × (is_target im o y ≡ true))) (noted a.0 a.1 m y)
+          rw l (tells_same ns (λ t. R t ⊎ ((a.0 ≡ y) × (t ≡ b.1))) (λ t. R t ⊎ ((Some b ≡ Some (pair y t)) × (is_jump_target im o y ≡ true))) (noted a.0 a.1 m y)
           (λ t k. elim k [ inl x ↦ inl x | inr q ↦ inr (place_is b y t (sym n.0 ∙ q.0) q.1, fits) ])
           (λ t k. elim k [ inl x ↦ inl x | inr q ↦ let z = place_at b y t q.0 in inr (n.0 ∙ z.0, z.1) ])
           (tells_noted ns d R a.0 a.1 b.1 m y n.1 h))
       | inr lacks ↦
           let l : nat_lt o a.0 ≡ false = grind (arith, nat_tests, lacks) in
-          rw l (tells_same ns R (λ t. R t ⊎ ((Some b ≡ Some (pair y t)) × (is_target im o y ≡ true))) (m y) (λ t k. inl k)
+          rw l (tells_same ns R (λ t. R t ⊎ ((Some b ≡ Some (pair y t)) × (is_jump_target im o y ≡ true))) (m y) (λ t k. inl k)
           (λ t k. elim k [ inl x ↦ x | inr q ↦ let z = place_at b y t q.0 in let w = z.0 in let v = n.0 in absurd (omega (arith, w, v, lacks, lt)) ]) h)
     ]

@@ -6,7 +6,7 @@ use Rattle.model.specs.declared.image.Image.{Image}
 use Rattle.model.specs.Machine.Steps.{At}
 use Rattle.model.specs.Module.Images.{fetch_from}
 use Rattle.model.specs.Module.Flow as flow
-use Rattle.model.specs.Module.Flow.{Asks, Begins, Reaches, BreaksFlow, IsLeast, begins_at, is_target}
+use Rattle.model.specs.Module.Flow.{Asks, Begins, Reaches, BreaksFlow, IsLeast, begins_at, is_jump_target}
 use Rattle.flow_check.specs.declared.pool.Node.{Node}
 use Rattle.flow_check.specs.declared.shapes.Shape.{Shape}
 use Rattle.flow_check.specs.declared.marks.Mark.{Mark}
@@ -103,7 +103,7 @@ module _ (im : Image) (o next : ℕ) (i : Instr) (at : fetch_from 0 im.code o �
   }
     where
       To : ℕ → flow.Shape → Type 0
-      To y u = (target_of (rule_of i) s ≡ Some (y, u)) × (is_target im o y ≡ true)
+      To y u = (target_of (rule_of i) s ≡ Some (y, u)) × (is_jump_target im o y ≡ true)
 
       back : (y : ℕ) (u : flow.Shape) → Known im o y u ⊎ LedTo im o next (rule_of i) s y u → Known im next y u
       back y u k = known_back s only r a y u k

@@ -5,7 +5,7 @@ use Rattle.model.specs.declared.instr.Instr.{Instr}
 use Rattle.model.specs.declared.instr.Instr.TheVariants as op
 use Rattle.model.specs.declared.image.Image.{Image}
 use Rattle.model.specs.Machine.Steps.{At}
-use Rattle.model.specs.Module.Images.{bytes, fetch_from, total}
+use Rattle.model.specs.Module.Images.{instr_size, fetch_from, code_size}
 use Rattle.model.specs.Module.Spelling.{instr, code_bytes, u16, u32, u64}
 use Rattle.model.specs.Module.Flow as flow
 use Rattle.model.specs.Module.Flow.{Reaches, BreaksFlow, IsLeast, begins_at}
@@ -41,7 +41,7 @@ long_u64 n = refl
 both_long : (k n : ℕ) → length (u32 k ++ u16 n) ≡ 6
 both_long k n = let a = length-append (u32 k) (u16 n) in let b = long_u32 k in let c = long_u16 n in omega (arith, a, b, c)
 
-long : (i : Instr) → length (instr i) ≡ bytes i
+long : (i : Instr) → length (instr i) ≡ instr_size i
 long (op.Begin f) = let h = long_u32 f in omega (arith, h)
 long (op.Goto k) = let h = long_u32 k in omega (arith, h)
 long (op.Str s) = let h = long_u32 s in omega (arith, h)
@@ -56,7 +56,7 @@ long (op.Pat p) = let h = long_u32 p in omega (arith, h)
 long op.End = refl
 long _ = refl
 
-pub code_long : (is : List Instr) → length (code_bytes is) ≡ total is
+pub code_long : (is : List Instr) → length (code_bytes is) ≡ code_size is
 code_long [] = refl
 code_long (i ∷ is) = let a = length-append (instr i) (code_bytes is) in let b = long i in let c = code_long is in omega (arith, a, b, c)
 
@@ -75,16 +75,16 @@ drop_done [] (suc k) e = absurd (omega (arith, e))
 drop_done (i ∷ is) zero e = absurd (omega (arith, e))
 drop_done (i ∷ is) (suc k) e = drop_done is k (omega (arith, e))
 
-fetch_here : (i : Instr) (rest : List Instr) (o : ℕ) → fetch_from o (i ∷ rest) o ≡ At i (o + bytes i)
+fetch_here : (i : Instr) (rest : List Instr) (o : ℕ) → fetch_from o (i ∷ rest) o ≡ At i (o + instr_size i)
 fetch_here i rest o = let e : (o == o) ≡ true = grind arith in rw e refl
 
-fetch_past : (i : Instr) (rest : List Instr) (o at : ℕ) → o < at → fetch_from o (i ∷ rest) at ≡ fetch_from (o + bytes i) rest at
+fetch_past : (i : Instr) (rest : List Instr) (o at : ℕ) → o < at → fetch_from o (i ∷ rest) at ≡ fetch_from (o + instr_size i) rest at
 fetch_past i rest o at less = let e : (o == at) ≡ false = grind (arith, less) in rw e refl
 
 -- k instructions stand before o
 pub record Stands (im : Image) (k o : ℕ) : Type 0 where
   pub tail : (x : ℕ) → o ≤ x → fetch_from 0 im.code x ≡ fetch_from o (drop k im.code) x
-  pub whole : o + total (drop k im.code) ≡ total im.code
+  pub whole : o + code_size (drop k im.code) ≡ code_size im.code
 
 pub record Walked (im : Image) (ns : List Node) (m : ℕ → Option Mark) (c : Option Shape) (k o : ℕ) : Type 0 where
   pub stands : Stands im k o
@@ -121,45 +121,45 @@ pub walk_ends : (im : Image) (ns : List Node) (m : ℕ → Option Mark) (c : Opt
 walk_ends im ns m c k o w e = λ y b.
     let f = fetch_lies 0 im.code y b.0 b.1 b.2 in
     let a = w.stands.whole in
-    let d : total (drop k im.code) ≡ 0 = ap total (drop_done im.code k e) in
+    let d : code_size (drop k im.code) ≡ 0 = ap code_size (drop_done im.code k e) in
     w.clear y (omega (arith, f.2, a, d)) b
 
 module _ (im : Image) (ns : List Node) (m : ℕ → Option Mark) (c : Option Shape) (k o : ℕ) (w : Walked im ns m c k o) (i : Instr) (lt : k < length im.code) (item : i ≡ get_or im.code k i) where
   front : drop k im.code ≡ i ∷ drop (k + 1) im.code
   front = drop_one im.code k i lt ∙ ap (λ x. x ∷ drop (k + 1) im.code) (sym item)
 
-  at : fetch_from 0 im.code o ≡ At i (o + bytes i)
+  at : fetch_from 0 im.code o ≡ At i (o + instr_size i)
   at = w.stands.tail o (omega arith) ∙ ap (λ l. fetch_from o l o) front ∙ fetch_here i (drop (k + 1) im.code) o
 
-  behind : (x : ℕ) → o < x → fetch_from 0 im.code x ≡ fetch_from (o + bytes i) (drop (k + 1) im.code) x
+  behind : (x : ℕ) → o < x → fetch_from 0 im.code x ≡ fetch_from (o + instr_size i) (drop (k + 1) im.code) x
   behind x less = w.stands.tail x (omega (arith, less)) ∙ ap (λ l. fetch_from o l x) front ∙ fetch_past i (drop (k + 1) im.code) o x less
 
-  gap : (y : ℕ) (j : Instr) (n : ℕ) → o < y → fetch_from 0 im.code y ≡ At j n → o + bytes i ≤ y
-  gap y j n less e = (fetch_lies (o + bytes i) (drop (k + 1) im.code) y j n (sym (behind y less) ∙ e)).1
+  gap : (y : ℕ) (j : Instr) (n : ℕ) → o < y → fetch_from 0 im.code y ≡ At j n → o + instr_size i ≤ y
+  gap y j n less e = (fetch_lies (o + instr_size i) (drop (k + 1) im.code) y j n (sym (behind y less) ∙ e)).1
 
-  before : o < o + bytes i
+  before : o < o + instr_size i
   before = let p = some_bytes i in omega (arith, p)
 
-  whole_next : o + bytes i + total (drop (k + 1) im.code) ≡ total im.code
-  whole_next = let a = w.stands.whole in let b = ap total front in omega (arith, a, b)
+  whole_next : o + instr_size i + code_size (drop (k + 1) im.code) ≡ code_size im.code
+  whole_next = let a = w.stands.whole in let b = ap code_size front in omega (arith, a, b)
 
-  walk_fits : o + bytes i ≤ total im.code
+  walk_fits : o + instr_size i ≤ code_size im.code
   walk_fits = let a = whole_next in omega (arith, a)
 
-  pub walk_sum : (n : ℕ) → n ≡ bytes i → total im.code ≤ 2 ^ 30 → o + n ≤ 2 ^ 30
+  pub walk_sum : (n : ℕ) → n ≡ instr_size i → code_size im.code ≤ 2 ^ 30 → o + n ≤ 2 ^ 30
   walk_sum n e few = let f = walk_fits in omega (arith, e, f, few)
 
-  stands_next : Stands im (k + 1) (o + bytes i)
+  stands_next : Stands im (k + 1) (o + instr_size i)
   stands_next = record { tail = λ x le. behind x (let b = before in omega (arith, b, le)); whole = whole_next }
 
   here : Tells ns (Reaches im o) (met c (m o))
-  here = here_tells im o (o + bytes i) i at gap ns m c w.told
+  here = here_tells im o (o + instr_size i) i at gap ns m c w.told
 
   module _ (a : Shape) (one : met c (m o) ≡ Some (One a)) where
     told_one : Tells ns (Reaches im o) (Some (One a))
     told_one = subst (λ x. Tells ns (Reaches im o) x) one here
 
-    pub walk_short : total im.code ≤ 2 ^ 30 → (s : flow.Shape) × IsShape ns a s × (length s.kinds < 2 ^ 31)
+    pub walk_short : code_size im.code ≤ 2 ^ 30 → (s : flow.Shape) × IsShape ns a s × (length s.kinds < 2 ^ 31)
     walk_short few =
         let t = told_one in
         let p = short im o t.0 t.2 in
@@ -168,52 +168,52 @@ module _ (im : Image) (ns : List Node) (m : ℕ → Option Mark) (c : Option Sha
         (t.0, t.1, omega (arith, p, b, f, few))
 
   module _ (more : List Node) (m' : ℕ → Option Mark) (c' : Option Shape) where
-    walk_skip : Tells ns (Reaches im o) None → more ≡ ns → c' ≡ None → ((y : ℕ) → m' y ≡ m y) → Walked im more m' c' (k + 1) (o + bytes i)
+    walk_skip : Tells ns (Reaches im o) None → more ≡ ns → c' ≡ None → ((y : ℕ) → m' y ≡ m y) → Walked im more m' c' (k + 1) (o + instr_size i)
     walk_skip none e f g = record {
       stands = stands_next;
-      told = same_told (told_skip im o (o + bytes i) i at gap ns m c none w.told);
-      clear = clear_more im o (o + bytes i) i at gap w.clear (no_fault_none im o (o + bytes i) i at gap none);
+      told = same_told (told_skip im o (o + instr_size i) i at gap ns m c none w.told);
+      clear = clear_more im o (o + instr_size i) i at gap w.clear (no_fault_none im o (o + instr_size i) i at gap none);
       distinct = subst Distinct (sym e) w.distinct;
     }
       where
-        same_told : Told im ns m None (o + bytes i) → Told im more m' c' (o + bytes i)
+        same_told : Told im ns m None (o + instr_size i) → Told im more m' c' (o + instr_size i)
         same_told t = record {
-          here = λ b. subst (λ x. Tells x (Known im (o + bytes i) (o + bytes i)) (met c' (m' (o + bytes i)))) (sym e)
-              (subst (λ x. Tells ns (Known im (o + bytes i) (o + bytes i)) (met x (m' (o + bytes i)))) (sym f)
-              (subst (λ x. Tells ns (Known im (o + bytes i) (o + bytes i)) x) (sym (g (o + bytes i))) (t.here b)));
-          later = λ y less b. subst (λ x. Tells x (Known im (o + bytes i) y) (m' y)) (sym e) (subst (λ x. Tells ns (Known im (o + bytes i) y) x) (sym (g y)) (t.later y less b));
+          here = λ b. subst (λ x. Tells x (Known im (o + instr_size i) (o + instr_size i)) (met c' (m' (o + instr_size i)))) (sym e)
+              (subst (λ x. Tells ns (Known im (o + instr_size i) (o + instr_size i)) (met x (m' (o + instr_size i)))) (sym f)
+              (subst (λ x. Tells ns (Known im (o + instr_size i) (o + instr_size i)) x) (sym (g (o + instr_size i))) (t.here b)));
+          later = λ y less b. subst (λ x. Tells x (Known im (o + instr_size i) y) (m' y)) (sym e) (subst (λ x. Tells ns (Known im (o + instr_size i) y) x) (sym (g y)) (t.later y less b));
         }
 
-    walk_one : (a : Shape) → Tells ns (Reaches im o) (Some (One a)) → Followed ns more m m' c' o (rule_of i) a true → Walked im more m' c' (k + 1) (o + bytes i)
+    walk_one : (a : Shape) → Tells ns (Reaches im o) (Some (One a)) → Followed ns more m m' c' o (rule_of i) a true → Walked im more m' c' (k + 1) (o + instr_size i)
     walk_one a t (g, None, adv, goes) = absurd (cc)
     walk_one a t (g, Some led, adv, goes) =
         let d = g.distinct w.distinct in
         let s = adv t.0 t.1 in
         record {
           stands = stands_next;
-          told = told_step im o (o + bytes i) i at gap ns more m m' c c' led.target t.0 g d t.2 t.3 s.0 (subst (λ x. IsNext more x (next_of (rule_of i) t.0)) (sym goes.1) s.1) s.2 goes.2 w.told;
-          clear = clear_more im o (o + bytes i) i at gap w.clear (no_fault_one im o (o + bytes i) i at gap t.0 t.3 s.0);
+          told = told_step im o (o + instr_size i) i at gap ns more m m' c c' led.target t.0 g d t.2 t.3 s.0 (subst (λ x. IsNext more x (next_of (rule_of i) t.0)) (sym goes.1) s.1) s.2 goes.2 w.told;
+          clear = clear_more im o (o + instr_size i) i at gap w.clear (no_fault_one im o (o + instr_size i) i at gap t.0 t.3 s.0);
           distinct = d;
         }
 
-    walk_by : (mark : Option Mark) → Tells ns (Reaches im o) mark → Stepped ns more m m' c' o (rule_of i) mark true → Walked im more m' c' (k + 1) (o + bytes i)
+    walk_by : (mark : Option Mark) → Tells ns (Reaches im o) mark → Stepped ns more m m' c' o (rule_of i) mark true → Walked im more m' c' (k + 1) (o + instr_size i)
     walk_by None t h = walk_skip t h.1 h.2 h.3
     walk_by (Some (One a)) t h = walk_one a t h
     walk_by (Some Torn) t h = absurd (cc)
 
-    pub walk_on : (n : ℕ) (fine : Bool) → n ≡ bytes i → fine ≡ true → Stepped ns more m m' c' o (rule_of i) (met c (m o)) fine → Walked im more m' c' (k + 1) (o + n)
+    pub walk_on : (n : ℕ) (fine : Bool) → n ≡ instr_size i → fine ≡ true → Stepped ns more m m' c' o (rule_of i) (met c (m o)) fine → Walked im more m' c' (k + 1) (o + n)
     walk_on n fine e f h =
         subst (λ x. Walked im more m' c' (k + 1) (o + x)) (sym e)
         (walk_by (met c (m o)) here (subst (λ x. Stepped ns more m m' c' o (rule_of i) (met c (m o)) x) f h))
 
     stop_one : (a : Shape) → Tells ns (Reaches im o) (Some (One a)) → Followed ns more m m' c' o (rule_of i) a false → IsLeast (BreaksFlow im) (Some o)
-    stop_one a t (g, None, adv, goes) = least_lacks im o (o + bytes i) i at gap w.clear t.0 t.2 (adv t.0 t.1)
+    stop_one a t (g, None, adv, goes) = least_lacks im o (o + instr_size i) i at gap w.clear t.0 t.2 (adv t.0 t.1)
     stop_one a t (g, Some led, adv, goes) = let e = goes.0 in absurd (cc)
 
     stop_by : (mark : Option Mark) → Tells ns (Reaches im o) mark → Stepped ns more m m' c' o (rule_of i) mark false → IsLeast (BreaksFlow im) (Some o)
     stop_by None t h = let e = h.0 in absurd (cc)
     stop_by (Some (One a)) t h = stop_one a t h
-    stop_by (Some Torn) t h = least_torn im o (o + bytes i) i at gap w.clear t.0 t.1 t.2 t.3 t.4
+    stop_by (Some Torn) t h = least_torn im o (o + instr_size i) i at gap w.clear t.0 t.1 t.2 t.3 t.4
 
     pub walk_stops : (fine : Bool) → fine ≡ false → Stepped ns more m m' c' o (rule_of i) (met c (m o)) fine → IsLeast (BreaksFlow im) (Some o)
     walk_stops fine f h = stop_by (met c (m o)) here (subst (λ x. Stepped ns more m m' c' o (rule_of i) (met c (m o)) x) f h)
@@ -227,5 +227,5 @@ item_at is js k d e lt = any_item js k d (get_or js k d) lt ∙ ap (λ l. get_or
     any_item (i ∷ is) zero d e lt = refl
     any_item (i ∷ is) (suc k) d e lt = any_item is k d e (omega (arith, lt))
 
-pub code_few : (im : Image) → length (code_bytes im.code) ≤ 1073741824 → total im.code ≤ 2 ^ 30
+pub code_few : (im : Image) → length (code_bytes im.code) ≤ 1073741824 → code_size im.code ≤ 2 ^ 30
 code_few im h = let e = code_long im.code in omega (arith, e, h)

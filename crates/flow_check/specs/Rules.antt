@@ -16,15 +16,15 @@ use Rattle.flow_check.specs.declared.rules.Leaves.TheVariants as leaves
 use Rattle.flow_check.specs.declared.rules.Rule.{Rule}
 use Rattle.flow_check.specs.declared.rules.Rule.TheVariants.{Leave, Begin, Body, Jump, Answer, Try, Untry, Fail, Operate}
 
-abbrev pub kind_of : Kind → flow.Kind
+abbrev pub kind_of : Kind → flow.OperandKind
 kind_of Value = flow.V
 kind_of Name = flow.N
 kind_of Span = flow.R
 
-abbrev pub run_kinds : Run → List flow.Kind
+abbrev pub run_kinds : Run → List flow.OperandKind
 run_kinds r = replicate r.count (kind_of r.kind)
 
-abbrev pub taken : Takes → List flow.Kind
+abbrev pub taken : Takes → List flow.OperandKind
 taken (takes.Values n) = replicate n V
 taken takes.Name = N ∷ []
 taken takes.ValueName = V ∷ N ∷ []
@@ -32,7 +32,7 @@ taken takes.NameValue = N ∷ V ∷ []
 taken takes.ValuesName = V ∷ V ∷ N ∷ []
 taken takes.ValueSpanName = V ∷ R ∷ N ∷ []
 
-abbrev pub left : Leaves → List flow.Kind
+abbrev pub left : Leaves → List flow.OperandKind
 left leaves.Nothing = []
 left leaves.Value = V ∷ []
 left leaves.Name = N ∷ []

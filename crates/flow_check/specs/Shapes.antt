@@ -16,7 +16,7 @@ pub use Rattle.flow_check.specs.Rules.{kind_of}
 use Rattle.flow_check.specs.Rules.{Asked, next_of, target_of}
 use Rattle.flow_check.specs.Numbers.{Is, onto}
 
-abbrev pub to_kind : flow.Kind → Kind
+abbrev pub to_kind : flow.OperandKind → Kind
 to_kind flow.V = Value
 to_kind flow.N = Name
 to_kind flow.R = Span
@@ -32,7 +32,7 @@ top_of (OnTry t depth) = Try t depth
 
 -- ---- operands as runs of a kind
 
-abbrev pub runs : List flow.Kind → List Top
+abbrev pub runs : List flow.OperandKind → List Top
 runs [] = []
 runs (k ∷ ks) = onto (to_kind k) (runs ks)
 
@@ -63,9 +63,9 @@ same_shape a b = same_mode a.mode b.mode && (same_stack a.kinds b.kinds && same_
 -- ---- what an instruction takes and leads to
 
 -- whether the newest operands were these, and the number of those below them
-abbrev pub IsTaken : List Node → Option (Option ℕ) → List flow.Kind → List flow.Kind → Type 0
-IsTaken ns None ts ks = (below : List flow.Kind) → ks ≡ ts ++ below → ⊥
-IsTaken ns (Some k) ts ks = (below : List flow.Kind) × (ks ≡ ts ++ below) × Is ns k (runs below)
+abbrev pub IsTaken : List Node → Option (Option ℕ) → List flow.OperandKind → List flow.OperandKind → Type 0
+IsTaken ns None ts ks = (below : List flow.OperandKind) → ks ≡ ts ++ below → ⊥
+IsTaken ns (Some k) ts ks = (below : List flow.OperandKind) × (ks ≡ ts ++ below) × Is ns k (runs below)
 
 abbrev pub IsNext : List Node → Option Shape → Option flow.Shape → Type 0
 IsNext ns None None = Unit {0}
@@ -73,7 +73,7 @@ IsNext ns (Some a) (Some s) = IsShape ns a s
 IsNext ns _ _ = ⊥
 
 -- whether the handler keeps no more than these operands, and these with others on them
-abbrev pub IsPut : List Node → Option Led → Mode → List flow.Kind → List flow.Kind → List Handler → Type 0
+abbrev pub IsPut : List Node → Option Led → Mode → List flow.OperandKind → List flow.OperandKind → List Handler → Type 0
 IsPut ns None m us ks hs = length ks < flow.floor_of hs
 IsPut ns (Some led) m us ks hs = (flow.floor_of hs ≤ length ks) × IsNext ns led.next (Some (flow.shape (mode_of m) (us ++ ks) hs)) × (led.target ≡ None)
 

@@ -179,9 +179,9 @@ fn put_back(
     depth: u32,
     shape: Shape,
 ) -> Result<Option<Led>, AllocError>
-    requires { (ks : List flow.Kind) × Is pool.old.nodes.keys below (runs ks) × (length ks < 2 ^ 31) × (depth ≡ length ks) }
+    requires { (ks : List flow.OperandKind) × Is pool.old.nodes.keys below (runs ks) × (length ks < 2 ^ 31) × (depth ≡ length ks) }
     ensures grows { OnOk result (Grows pool.old.nodes.keys pool.new.nodes.keys) }
-    ensures put { IfOk result (λ led. (ks : List flow.Kind) → (hs : List Handler) → Is pool.old.nodes.keys below (runs ks) → depth ≡ length ks → Is pool.old.nodes.keys shape.handlers (map top_of hs) → IsPut pool.new.nodes.keys led shape.mode (left leaves) ks hs) }
+    ensures put { IfOk result (λ led. (ks : List flow.OperandKind) → (hs : List Handler) → Is pool.old.nodes.keys below (runs ks) → depth ≡ length ks → Is pool.old.nodes.keys shape.handlers (map top_of hs) → IsPut pool.new.nodes.keys led shape.mode (left leaves) ks hs) }
 {
     if depth < pool.floor(shape.handlers) {
         return Ok(None);

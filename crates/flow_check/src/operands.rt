@@ -16,7 +16,7 @@ use std::alloc::AllocError;
 impl Pool {
     fn pop_run(&mut self, run: Run, stack: Stack) -> Result<Option<Stack>, AllocError>
         ensures grows { OnOk result (Grows self.old.nodes.keys self.new.nodes.keys) }
-        ensures taken { IfOk result (λ k. (ks : List flow.Kind) → Is self.old.nodes.keys stack (runs ks) → IsTaken self.new.nodes.keys k (run_kinds run) ks) }
+        ensures taken { IfOk result (λ k. (ks : List flow.OperandKind) → Is self.old.nodes.keys stack (runs ks) → IsTaken self.new.nodes.keys k (run_kinds run) ks) }
     {
         let below = self.pop(run.kind, run.count, stack)?;
         Ok(below)
@@ -25,7 +25,7 @@ impl Pool {
     /// The stack below what an instruction takes, if that stands uppermost.
     pub(crate) fn take(&mut self, takes: Takes, stack: Stack) -> Result<Option<Stack>, AllocError>
         ensures grows { OnOk result (Grows self.old.nodes.keys self.new.nodes.keys) }
-        ensures taken { IfOk result (λ k. (ks : List flow.Kind) → Is self.old.nodes.keys stack (runs ks) → IsTaken self.new.nodes.keys k (taken takes) ks) }
+        ensures taken { IfOk result (λ k. (ks : List flow.OperandKind) → Is self.old.nodes.keys stack (runs ks) → IsTaken self.new.nodes.keys k (taken takes) ks) }
     {
         let (first, second, third) = takes.runs();
         match self.pop_run(first, stack)? {
@@ -44,7 +44,7 @@ impl Pool {
         stack: Stack,
     ) -> Result<Option<Stack>, AllocError>
         ensures grows { OnOk result (Grows self.old.nodes.keys self.new.nodes.keys) }
-        ensures taken { IfOk result (λ k. (ks : List flow.Kind) → Is self.old.nodes.keys stack (runs ks) → IsTaken self.new.nodes.keys k (run_kinds upper ++ run_kinds lower) ks) }
+        ensures taken { IfOk result (λ k. (ks : List flow.OperandKind) → Is self.old.nodes.keys stack (runs ks) → IsTaken self.new.nodes.keys k (run_kinds upper ++ run_kinds lower) ks) }
     {
         match self.pop_run(upper, stack)? {
             None => Ok(None),
@@ -57,9 +57,9 @@ impl Pool {
 
     /// The stack with what an instruction leaves.
     pub(crate) fn leave(&mut self, leaves: Leaves, stack: Stack) -> Result<Stack, AllocError>
-        requires { (ks : List flow.Kind) × Is self.old.nodes.keys stack (runs ks) × (length ks < 2 ^ 31) }
+        requires { (ks : List flow.OperandKind) × Is self.old.nodes.keys stack (runs ks) × (length ks < 2 ^ 31) }
         ensures grows { OnOk result (Grows self.old.nodes.keys self.new.nodes.keys) }
-        ensures left { IfOk result (λ k. (ks : List flow.Kind) → Is self.old.nodes.keys stack (runs ks) → Is self.new.nodes.keys k (runs (left leaves ++ ks))) }
+        ensures left { IfOk result (λ k. (ks : List flow.OperandKind) → Is self.old.nodes.keys stack (runs ks) → Is self.new.nodes.keys k (runs (left leaves ++ ks))) }
     {
         match leaves {
             Leaves::Nothing => Ok(stack),
@@ -72,9 +72,9 @@ impl Pool {
 
     /// With a name, and one of a kind on it.
     fn push_both(&mut self, kind: Kind, stack: Stack) -> Result<Stack, AllocError>
-        requires { (ks : List flow.Kind) × Is self.old.nodes.keys stack (runs ks) × (length ks < 2 ^ 31) }
+        requires { (ks : List flow.OperandKind) × Is self.old.nodes.keys stack (runs ks) × (length ks < 2 ^ 31) }
         ensures grows { OnOk result (Grows self.old.nodes.keys self.new.nodes.keys) }
-        ensures pushed { IfOk result (λ k. (ks : List flow.Kind) → Is self.old.nodes.keys stack (runs ks) → Is self.new.nodes.keys k (runs (kind_of kind ∷ flow.N ∷ ks))) }
+        ensures pushed { IfOk result (λ k. (ks : List flow.OperandKind) → Is self.old.nodes.keys stack (runs ks) → Is self.new.nodes.keys k (runs (kind_of kind ∷ flow.N ∷ ks))) }
     {
         let name = self.push(Kind::Name, stack)?;
         let both = self.push(kind, name)?;
@@ -98,7 +98,7 @@ impl Pool {
 
     /// Whether there is a value and nothing else.
     pub(crate) fn is_value(&self, stack: Stack) -> bool
-        ensures { (ks : List flow.Kind) → Is self.now.nodes.keys stack (runs ks) → Decides result (ks ≡ V ∷ []) }
+        ensures { (ks : List flow.OperandKind) → Is self.now.nodes.keys stack (runs ks) → Decides result (ks ≡ V ∷ []) }
     {
         let (count, below) = self.run(Kind::Value, stack);
         if count == 1 { below.is_none() } else { false }

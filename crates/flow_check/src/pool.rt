@@ -86,9 +86,9 @@ impl Pool {
 
     /// The stack with one more operand.
     pub(crate) fn push(&mut self, kind: Kind, stack: Stack) -> Result<Stack, AllocError>
-        requires { (ks : List flow.Kind) × Is self.old.nodes.keys stack (runs ks) × (length ks < 2 ^ 32 - 1) }
+        requires { (ks : List flow.OperandKind) × Is self.old.nodes.keys stack (runs ks) × (length ks < 2 ^ 32 - 1) }
         ensures grows { OnOk result (Grows self.old.nodes.keys self.new.nodes.keys) }
-        ensures pushed { IfOk result (λ k. (ks : List flow.Kind) → Is self.old.nodes.keys stack (runs ks) → Is self.new.nodes.keys k (runs (kind_of kind ∷ ks))) }
+        ensures pushed { IfOk result (λ k. (ks : List flow.OperandKind) → Is self.old.nodes.keys stack (runs ks) → Is self.new.nodes.keys k (runs (kind_of kind ∷ ks))) }
     {
         let (count, below) = self.run(kind, stack);
         let more = self.put(Top::Run(kind, count + 1), below)?;

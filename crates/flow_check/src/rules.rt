@@ -3,7 +3,7 @@
 ghost use Rattle.std.specs.Prelude.{◌≡◌, [], ◌∷◌, ◌++◌, length, replicate};
 ghost use Rattle.flow_check.specs.Rules.{rule_of, taken, left, run_kinds};
 ghost use Rattle.model.specs.Module.Flow.{V, N, R};
-ghost use Rattle.model.specs.Module.Images.{bytes};
+ghost use Rattle.model.specs.Module.Images.{instr_size};
 
 use crate::pool::Kind;
 use model::Instr;
@@ -159,7 +159,7 @@ pub(crate) fn rule_for(instr: Instr) -> Rule
 
 /// How many bytes an instruction has.
 pub(crate) fn size(instr: Instr) -> u32
-    ensures { result ≡ bytes instr }
+    ensures { result ≡ instr_size instr }
 {
     match instr {
         Instr::CallV(..) | Instr::CallN(..) => 7,

@@ -11,13 +11,13 @@ use Rattle.model.specs.declared.trees.Binary.TheVariants as binary
 use Rattle.model.specs.Language.Calls.{return_of}
 use Rattle.model.specs.Deck.Faults.{count, everywhere, in_args, in_body, in_goto, in_object, in_place}
 use Rattle.model.specs.Language.Meaning.{key_target}
-use Rattle.model.specs.Module.Images.{total}
+use Rattle.model.specs.Module.Images.{code_size}
 use Rattle.model.specs.Language.Names.{key_named, prim_named}
 use Rattle.model.specs.Language.Programs.{labelled_from}
 use Rattle.model.specs.Deck.Trees.{Bytes, Expr, Name, Integer, Literal, Keyword, Call, Reference, Apply, Combine, Args, Nil, More, Absent, Given, Place, Label, Computed, Goto, Next, Always, OnSuccess, OnFailure, Both, Body, Nothing, Evaluate, Match, Assign, Replace, Stmt, Plain, End}
 use Rattle.model.specs.Deck.Weights as weights
 use Rattle.expr_codegen.specs.Code.{Part, nothing, one, with_string, ◌>>◌, handled, with_key, call, value, name, arguments}
-use Rattle.codegen.specs.Layout.{object, assignment, body, to_label, place, after_success, after_failure, statement, statements, statements_of, expressions, expressions_of, joined, offsets, texts_of, image_of}
+use Rattle.codegen.specs.Layout.{object, assignment, body, goto_label, place, after_success, after_failure, statement, statements, program_parts, expressions, expressions_of, joined_parts, offsets, texts_of, generated_image}
 use Rattle.codegen_laws.proofs.Standing.{all_join}
 use Rattle.loader.specs.Running.{AreRunYet, IsRunYet, has_primitive}
 use Rattle.fragment.specs.Fragment.{call_runs, construct_runs, runs_today, fault_unless, not_yet}
@@ -47,7 +47,7 @@ none_later xs ys e f = ap (λ zs. zs ++ ys) e ∙ f
 both : {p q : Part} → RunsYet p → RunsYet q → RunsYet (p >> q)
 unfolding ◌>>◌
 both {p} {q} a b = record {
-  code = λ texts k at. all_join IsRunYet (p.code texts k at) (q.code texts (k + length p.later) (at + total (p.code texts k at))) (a.code texts k at) (b.code texts (k + length p.later) (at + total (p.code texts k at)));
+  code = λ texts k at. all_join IsRunYet (p.code texts k at) (q.code texts (k + length p.later) (at + code_size (p.code texts k at))) (a.code texts k at) (b.code texts (k + length p.later) (at + code_size (p.code texts k at)));
   later = none_later p.later q.later a.later b.later;
 }
 
@@ -149,14 +149,14 @@ body_runs (Replace x f o) h =
     let c = and_parts (everywhere construct_runs f) (in_object construct_runs o) a.1 in
     both (name_runs x a.0) (both (single op.FetchK refl) (both (value_runs f c.0) (both (single op.MatchR refl) (ended op.Splice refl (object_runs o c.1)))))
 
-label_runs : (r : Option ReturnKind) (n : Option ℕ) → IsRunYet (to_label r n)
+label_runs : (r : Option ReturnKind) (n : Option ℕ) → IsRunYet (goto_label r n)
 label_runs (Some r) n = refl
 label_runs None (Some n) = refl
 label_runs None None = refl
 
 module _ (number_of : Bytes → Option ℕ) where
   place_runs : (p : Place) → in_place construct_runs p ≡ true → RunsYet (place number_of p)
-  place_runs (Label l) h = single (to_label (return_of l) (number_of l)) (label_runs (return_of l) (number_of l))
+  place_runs (Label l) h = single (goto_label (return_of l) (number_of l)) (label_runs (return_of l) (number_of l))
   place_runs (Computed e) h = ended op.GotoV refl (value_runs e h)
 
   success_runs : (n : ℕ) (g : Goto) → in_goto construct_runs g ≡ true → RunsYet (after_success number_of n g)
@@ -185,7 +185,7 @@ no_fault : (b : Bool) (n : ℕ) (more : List StmtFault) → fault_unless b n mor
 no_fault true n more e = (refl, e)
 no_fault false n more e = absurd (cc)
 
-statements_run : (number_of : Bytes → Option ℕ) (n : ℕ) (ss : List Stmt) → not_yet n ss ≡ [] → RunsYet (joined (statements number_of n ss))
+statements_run : (number_of : Bytes → Option ℕ) (n : ℕ) (ss : List Stmt) → not_yet n ss ≡ [] → RunsYet (joined_parts (statements number_of n ss))
 statements_run number_of n [] e = none
 statements_run number_of n (s ∷ ss) e =
     let here = no_fault (runs_today s) n (not_yet (n + 1) ss) e in
@@ -199,17 +199,17 @@ none_queued (suc fuel) [] e = refl
 none_queued (suc fuel) (x ∷ es) e = absurd (cc)
 
 none_left : (ss : List Stmt) → not_yet 1 ss ≡ [] → expressions_of ss ≡ []
-none_left ss e = none_queued (weights.total weights.weight ss) (joined (statements_of ss)).later (statements_run (labelled_from 1 ss) 1 ss e).later
+none_left ss e = none_queued (weights.total weights.weight ss) (joined_parts (program_parts ss)).later (statements_run (labelled_from 1 ss) 1 ss e).later
 
 -- ---- the laws
 
-pub run_yet : (ss : List Stmt) → not_yet 1 ss ≡ [] → AreRunYet (image_of ss).code
+pub run_yet : (ss : List Stmt) → not_yet 1 ss ≡ [] → AreRunYet (generated_image ss).code
 run_yet ss e =
-    let first : RunsYet (joined (statements_of ss)) = statements_run (labelled_from 1 ss) 1 ss e in
-    let last : RunsYet (joined (expressions_of ss)) = subst (λ ps. RunsYet (joined ps)) (sym (none_left ss e)) none in
+    let first : RunsYet (joined_parts (program_parts ss)) = statements_run (labelled_from 1 ss) 1 ss e in
+    let last : RunsYet (joined_parts (expressions_of ss)) = subst (λ ps. RunsYet (joined_parts ps)) (sym (none_left ss e)) none in
     (both first last).code (texts_of ss) 0 0
 
-pub evaluated : (ss : List Stmt) → not_yet 1 ss ≡ [] → (image_of ss).expressions ≡ []
+pub evaluated : (ss : List Stmt) → not_yet 1 ss ≡ [] → (generated_image ss).expressions ≡ []
 evaluated ss e =
-    let first : Part = joined (statements_of ss) in
-    ap (λ ps. offsets ps (texts_of ss) (length first.later) (total (first.code (texts_of ss) 0 0))) (none_left ss e)
+    let first : Part = joined_parts (program_parts ss) in
+    ap (λ ps. offsets ps (texts_of ss) (length first.later) (code_size (first.code (texts_of ss) 0 0))) (none_left ss e)

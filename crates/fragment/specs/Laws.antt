@@ -1,14 +1,14 @@
 -- What is so of the image of statements that run today.
 use Rattle.std.specs.Prelude.{◌≡◌, List, []}
 use Rattle.model.specs.Deck.Trees.{Stmt}
-use Rattle.codegen.specs.Layout.{image_of}
+use Rattle.codegen.specs.Layout.{generated_image}
 use Rattle.loader.specs.Running.{AreRunYet}
 use Rattle.fragment.specs.Fragment.{not_yet}
 
 -- each of its instructions is one that the machine has
 abbrev pub HasOnlyKnown : Type 0
-HasOnlyKnown = (ss : List Stmt) → not_yet 1 ss ≡ [] → AreRunYet (image_of ss).code
+HasOnlyKnown = (ss : List Stmt) → not_yet 1 ss ≡ [] → AreRunYet (generated_image ss).code
 
 -- it has no unevaluated expression
 abbrev pub IsEvaluated : Type 0
-IsEvaluated = (ss : List Stmt) → not_yet 1 ss ≡ [] → (image_of ss).expressions ≡ []
+IsEvaluated = (ss : List Stmt) → not_yet 1 ss ≡ [] → (generated_image ss).expressions ≡ []

@@ -5,7 +5,7 @@ use Rattle.std.proofs.Math.Seq.{drop-append_seam}
 use Rattle.std.proofs.lemmas.Grind.{reverse_onto}
 use Rattle.model.specs.Machine.Steps as m
 use Rattle.model.specs.Machine.Steps.{MVal, MW, State, Frame, Run, cut, fail_to, pop_many}
-use Rattle.model.specs.Module.Flow.{Kind, V}
+use Rattle.model.specs.Module.Flow.{OperandKind, V}
 use Rattle.world.specs.Values.{value_of}
 use Rattle.world.specs.declared.value.Value.{Value as WorldValue}
 use Rattle.frames.specs.View.{operand_of, operands_of, handlers_of}
@@ -23,7 +23,7 @@ cut_keeps xs d =
     sym (ap (λ k. drop k (reverse xs)) n ∙ (ap (drop (length (reverse (drop d xs)))) e ∙ drop-append_seam (reverse (drop d xs)) (reverse (take d xs))))
 
 -- below fewer values than there are stands another
-pub top_is : (xs : List WorldValue) (n : ℕ) (ops : List Operand) (below : List Kind) → kinds_of (map Value xs ++ ops) ≡ replicate n V ++ below → length xs < n → TopIs V ops
+pub top_is : (xs : List WorldValue) (n : ℕ) (ops : List Operand) (below : List OperandKind) → kinds_of (map Value xs ++ ops) ≡ replicate n V ++ below → length xs < n → TopIs V ops
 top_is [] zero ops below e h = absurd (omega (arith, h))
 top_is [] (suc n) ops below e h = (replicate n V ++ below, e)
 top_is (x ∷ xs) zero ops below e h = absurd (omega (arith, h))

@@ -1,6 +1,6 @@
 -- The bytes at the front of a text that pass a test.
 use Rattle.std.proofs.Common.{◌≡◌, refl, ap, ℕ, zero, suc, ◌<◌, ◌≤◌, Bool, true, false, List, [], ◌∷◌, length, get_or, take, drop, arith}
-use Rattle.model.specs.Deck.Pieces.{front, back}
+use Rattle.model.specs.Deck.Pieces.{front, behind_front}
 use Rattle.std.proofs.lemmas.Bool.{cases_Bool}
 use Rattle.std.proofs.Common.{inl, inr}
 
@@ -23,7 +23,7 @@ pub take_front : (p : ℕ → Bool) (xs : List ℕ) → take (length (front p xs
 take_front p [] = refl
 take_front p (x ∷ xs) = elim (cases_Bool (p x)) [ inl h ↦ rw h (ap (λ t. x ∷ t) (take_front p xs)) | inr h ↦ rw h refl ]
 
-pub drop_front : (p : ℕ → Bool) (xs : List ℕ) → drop (length (front p xs)) xs ≡ back p xs
+pub drop_front : (p : ℕ → Bool) (xs : List ℕ) → drop (length (front p xs)) xs ≡ behind_front p xs
 drop_front p [] = refl
 drop_front p (x ∷ xs) = elim (cases_Bool (p x)) [ inl h ↦ rw h (drop_front p xs) | inr h ↦ rw h refl ]
 

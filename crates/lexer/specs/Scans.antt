@@ -2,7 +2,7 @@
 use Rattle.std.specs.Prelude.{◌≡◌, ◌<◌, ◌≤◌, ℕ, List, [], ◌∷◌, length, take, drop, Option, Some, None}
 use Rattle.model.specs.Deck.Cut.{Class, Piece, Token, Stray, Unclosed}
 use Rattle.model.specs.Deck.Cut as cut
-use Rattle.model.specs.Deck.Pieces.{Found, found, first}
+use Rattle.model.specs.Deck.Pieces.{FirstPiece, found, first_piece}
 use Rattle.lexer.specs.declared.class.Class as declared
 use Rattle.lexer.specs.declared.class.Class.TheVariants as c
 use Rattle.lexer.specs.declared.scan.Scanned.{Scanned}
@@ -20,7 +20,7 @@ class_of (c.Sign m) = cut.Sign m
 class_of c.Other = cut.Other
 
 -- the piece that begins the text, and the text behind it
-abbrev pub found_by : List ℕ → Scanned → Found
+abbrev pub found_by : List ℕ → Scanned → FirstPiece
 found_by text (s.Token k n) = found (Token k (take n text)) (drop n text)
 found_by [] s.Stray = found (Unclosed []) []
 found_by (b ∷ bs) s.Stray = found (Stray b) bs
@@ -31,11 +31,11 @@ fits text (s.Token k n) = (0 < n) × (n ≤ length text)
 fits text _ = Unit {0}
 
 -- the scan of this text answers what the function `pieces` finds
-abbrev pub IsFound : List ℕ → Scanned → Found → Type 0
+abbrev pub IsFound : List ℕ → Scanned → FirstPiece → Type 0
 IsFound text p f = (found_by text p ≡ f) × fits text p
 
 abbrev pub IsScanned : List ℕ → Option Scanned → Type 0
 IsScanned [] None = Unit {0}
 IsScanned [] (Some p) = ⊥
 IsScanned (b ∷ bs) None = ⊥
-IsScanned (b ∷ bs) (Some p) = IsFound (b ∷ bs) p (first b bs)
+IsScanned (b ∷ bs) (Some p) = IsFound (b ∷ bs) p (first_piece b bs)

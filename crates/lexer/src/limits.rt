@@ -2,7 +2,7 @@
 
 ghost use Rattle.std.specs.Prelude.{◌≡◌, ◌+◌, ◌<◌, [], nat_lt};
 ghost use Rattle.model.specs.Deck.Cut as cut;
-ghost use Rattle.model.specs.Deck.Digits.{value};
+ghost use Rattle.model.specs.Deck.Digits.{decimal_value};
 ghost use Rattle.lexer.specs.Limits.{none, after, told};
 
 use model::{Cause, Mark, TokenKind};
@@ -26,7 +26,7 @@ pub(crate) struct Limits {
 
 // Whether the number that these digits stand for is over the largest integer.
 fn is_large(digits: &[u8]) -> bool
-    ensures { result ≡ nat_lt 9223372036854775807 (value digits.now) }
+    ensures { result ≡ nat_lt 9223372036854775807 (decimal_value digits.now) }
 {
     let mut number: u64 = 0;
     for d in digits {

@@ -2,7 +2,7 @@
 
 ghost use Rattle.std.specs.Prelude.{◌≡◌, ◌≤◌, ℕ, ◌∷◌, length};
 ghost use Rattle.model.specs.Deck.Cut as cut;
-ghost use Rattle.model.specs.Deck.Pieces.{front, back, quoted, starred};
+ghost use Rattle.model.specs.Deck.Pieces.{front, behind_front, quoted, starred};
 ghost use Rattle.lexer.specs.Scans.{IsFound, IsScanned};
 
 use crate::class::{Class, byte_class, is_digit, is_space, is_word};
@@ -59,7 +59,7 @@ fn digits(text: &[u8]) -> usize
 
 // What begins with this quote, where this is behind it.
 fn literal(quote: u8, text: &[u8]) -> Scanned
-    ensures { IsFound (quote ∷ text.now) result (quoted quote (front (cut.differs quote) text.now) (back (cut.differs quote) text.now)) }
+    ensures { IsFound (quote ∷ text.now) result (quoted quote (front (cut.differs quote) text.now) (behind_front (cut.differs quote) text.now)) }
 {
     match memchr(quote, text) {
         Some(inner) => Scanned::Token(TokenKind::Literal, inner + 2),

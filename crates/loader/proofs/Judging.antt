@@ -8,25 +8,25 @@ use Rattle.model.specs.declared.image.Image.{Image}
 use Rattle.model.specs.declared.instr.Instr.{Instr}
 use Rattle.model.specs.Module.Flow.{BreaksFlow, IsLeast}
 use Rattle.model.specs.Module.Loading.{Loads}
-use Rattle.model.specs.Module.Images.{bytes}
-use Rattle.model.specs.Module.Reading.{image_of}
+use Rattle.model.specs.Module.Images.{instr_size}
+use Rattle.model.specs.Module.Reading.{read_image}
 use Rattle.model.specs.Module.Spelling.{IsImage}
-use Rattle.model.specs.Module.WellFormed.{IsTold, IsWellFormed, comes_first, flow_fault, lesser, part_fault}
-use Rattle.loader.specs.Answers.{IsAnswer, IsJudged, IsKnown, IsReadAs, no_memory, verdict}
+use Rattle.model.specs.Module.WellFormed.{IsTold, IsWellFormed, comes_first, flow_fault, lesser_fault, part_fault}
+use Rattle.loader.specs.Answers.{IsAnswer, IsJudged, IsKnown, IsReadAs, no_memory, image_verdict}
 use Rattle.loader.specs.Loaded.{IsLoaded}
 use Rattle.loader.specs.Running.{AreRunYet, first_told, first_unknown, not_yet, runs_yet}
 
-some_run : (o : ℕ) (i : Instr) (is : List Instr) (b : Bool) → (if b then first_unknown (o + bytes i) is else Some o) ≡ None → (b ≡ true) × (first_unknown (o + bytes i) is ≡ None)
+some_run : (o : ℕ) (i : Instr) (is : List Instr) (b : Bool) → (if b then first_unknown (o + instr_size i) is else Some o) ≡ None → (b ≡ true) × (first_unknown (o + instr_size i) is ≡ None)
 some_run o i is true e = (refl, e)
 some_run o i is false e = absurd cc
 
 pub all_run : (o : ℕ) (is : List Instr) → first_unknown o is ≡ None → AreRunYet is
 all_run o [] e = tt
-all_run o (i ∷ is) e = let r = some_run o i is (runs_yet i) e in (r.0, all_run (o + bytes i) is r.1)
+all_run o (i ∷ is) e = let r = some_run o i is (runs_yet i) e in (r.0, all_run (o + instr_size i) is r.1)
 
 pub none_unknown : (o : ℕ) (is : List Instr) → AreRunYet is → first_unknown o is ≡ None
 none_unknown o [] r = refl
-none_unknown o (i ∷ is) r = rw (r.0) (none_unknown (o + bytes i) is r.1)
+none_unknown o (i ∷ is) r = rw (r.0) (none_unknown (o + instr_size i) is r.1)
 
 all_known : (o : Option ℕ) (es : List ℕ) → first_told o es ≡ None → (o ≡ None) × (es ≡ [])
 all_known (Some at) es e = absurd cc
@@ -40,7 +40,7 @@ chosen : (b : Bool) (f g : ModuleFault) → (if b then Some g else Some f) ≡ N
 chosen true f g e = cc
 chosen false f g e = cc
 
-neither : (f g : Option ModuleFault) → lesser f g ≡ None → (f ≡ None) × (g ≡ None)
+neither : (f g : Option ModuleFault) → lesser_fault f g ≡ None → (f ≡ None) × (g ≡ None)
 neither None g e = (refl, e)
 neither (Some f) None e = absurd cc
 neither (Some f) (Some g) e = absurd (chosen (comes_first g f) f g e)
@@ -65,12 +65,12 @@ loaded im spelt known told =
 
 -- ---- what is answered of one that runs
 
-untold : (im : Image) (flow : Option ℕ) → IsWellFormed im → IsLeast (BreaksFlow im) flow → lesser (part_fault im) (flow_fault im flow) ≡ None
+untold : (im : Image) (flow : Option ℕ) → IsWellFormed im → IsLeast (BreaksFlow im) flow → lesser_fault (part_fault im) (flow_fault im flow) ≡ None
 untold im None formed least = rw (formed.parts) refl
 untold im (Some at) formed least = absurd (formed.flow at least.0)
 
 judged : (im : Image) (unknown : Option ℕ) (result : Result Image LoadFault) → IsWellFormed im → unknown ≡ None → IsJudged im unknown result → result ≡ Ok im
-judged im None result formed e h = h.2 ∙ ap (verdict im) (h.1.2 ∙ untold im h.1.0 formed h.1.1)
+judged im None result formed e h = h.2 ∙ ap (image_verdict im) (h.1.2 ∙ untold im h.1.0 formed h.1.1)
 judged im (Some at) result formed e h = absurd cc
 
 read_as : (bytes : List ℕ) (read : Result Image Miss) (im : Image) (result : Result Image LoadFault) → IsLoaded im → read ≡ Ok im → IsReadAs bytes read result → result ≡ Ok im
@@ -79,24 +79,24 @@ read_as bytes (Ok m) im result runs e h =
     judged m (not_yet m) result (rw same runs.formed) (rw same (none_not_yet im runs.run_yet runs.evaluated)) h ∙ ap Ok same
 read_as bytes (Err miss) im result runs e h = absurd cc
 
-pub accepted : (bytes : List ℕ) (im : Image) (result : Result Image LoadFault) → IsAnswer bytes result → image_of bytes ≡ Ok im → IsLoaded im → (result ≡ Ok im) ⊎ (result ≡ Err no_memory)
+pub accepted : (bytes : List ℕ) (im : Image) (result : Result Image LoadFault) → IsAnswer bytes result → read_image bytes ≡ Ok im → IsLoaded im → (result ≡ Ok im) ⊎ (result ≡ Err no_memory)
 accepted bytes im result (inl memory) e runs = inr memory
-accepted bytes im result (inr h) e runs = inl (read_as bytes (image_of bytes) im result runs e h)
+accepted bytes im result (inr h) e runs = inl (read_as bytes (read_image bytes) im result runs e h)
 
 -- ---- where all run, what is told is what is defined
 
-told_so : (bytes : List ℕ) (im : Image) (fault : Option ModuleFault) → image_of bytes ≡ Ok im → IsTold im fault → Loads bytes (verdict im fault)
+told_so : (bytes : List ℕ) (im : Image) (fault : Option ModuleFault) → read_image bytes ≡ Ok im → IsTold im fault → Loads bytes (image_verdict im fault)
 told_so bytes im None e told = (e, well_formed im told)
 told_so bytes im (Some f) e told = (im, e, told)
 
-judged_so : (bytes : List ℕ) (im : Image) (unknown : Option ℕ) (result : Result Image LoadFault) → image_of bytes ≡ Ok im → unknown ≡ None → IsJudged im unknown result → Loads bytes result
+judged_so : (bytes : List ℕ) (im : Image) (unknown : Option ℕ) (result : Result Image LoadFault) → read_image bytes ≡ Ok im → unknown ≡ None → IsJudged im unknown result → Loads bytes result
 judged_so bytes im None result e none h = subst (Loads bytes) (sym h.2) (told_so bytes im h.0 e h.1)
 judged_so bytes im (Some at) result e none h = absurd cc
 
-read_so : (bytes : List ℕ) (read : Result Image Miss) (result : Result Image LoadFault) → image_of bytes ≡ read → IsKnown bytes → IsReadAs bytes read result → Loads bytes result
+read_so : (bytes : List ℕ) (read : Result Image Miss) (result : Result Image LoadFault) → read_image bytes ≡ read → IsKnown bytes → IsReadAs bytes read result → Loads bytes result
 read_so bytes (Ok im) result e known h = judged_so bytes im (not_yet im) result e (let k = known im e in none_not_yet im k.0 k.1) h
 read_so bytes (Err miss) result e known h = subst (Loads bytes) (sym h) (miss, e, refl)
 
 pub loads : (bytes : List ℕ) (result : Result Image LoadFault) → IsAnswer bytes result → IsKnown bytes → (result ≡ Err no_memory) ⊎ Loads bytes result
 loads bytes result (inl memory) known = inl memory
-loads bytes result (inr h) known = inr (read_so bytes (image_of bytes) result refl known h)
+loads bytes result (inr h) known = inr (read_so bytes (read_image bytes) result refl known h)

@@ -6,7 +6,7 @@ use Rattle.model.specs.declared.image.Image.{Image}
 use Rattle.model.specs.declared.image.PatInstr.{PatInstr}
 use Rattle.model.specs.declared.image.PatInstr.TheVariants as pats
 use Rattle.model.specs.Module.Spelling.{Follow, IsTable, IsImage, StringFits, PatternFits, most, most_code}
-use Rattle.model.specs.Module.WellFormed.{string_bytes, pat_bytes, pattern_bytes, labels_at, statements_at, expressions_at, patterns_at, code_at}
+use Rattle.model.specs.Module.WellFormed.{string_bytes, pat_bytes, pattern_bytes, labels_offset, statements_offset, expressions_offset, patterns_offset, code_offset}
 
 sum_cons : (n : ℕ) (ns : List ℕ) → sum (n ∷ ns) ≡ n + sum ns
 sum_cons n ns = sum_by-cons (λ x. x) n ns
@@ -58,11 +58,11 @@ patterns_short ps is = omega (arith, is.count, bounded pattern_bytes 150994948 P
 
 -- where the parts stand, far from the greatest number
 pub record AreShort (im : Image) : Type 0 where
-  pub labels : labels_at im + 8 * length im.labels < 2 ^ 60
-  pub statements : statements_at im + 4 * length im.statements < 2 ^ 60
-  pub expressions : expressions_at im + 4 * length im.expressions < 2 ^ 60
-  pub patterns : patterns_at im + sum (map pattern_bytes im.patterns) < 2 ^ 60
-  pub code : code_at im + most_code < 2 ^ 60
+  pub labels : labels_offset im + 8 * length im.labels < 2 ^ 60
+  pub statements : statements_offset im + 4 * length im.statements < 2 ^ 60
+  pub expressions : expressions_offset im + 4 * length im.expressions < 2 ^ 60
+  pub patterns : patterns_offset im + sum (map pattern_bytes im.patterns) < 2 ^ 60
+  pub code : code_offset im + most_code < 2 ^ 60
 
 pub places_short : (im : Image) → IsImage im → AreShort im
 places_short im is =

@@ -4,12 +4,12 @@ use Rattle.std.proofs.lemmas.List.{length-append}
 use Rattle.model.specs.declared.image.Image.{Image}
 use Rattle.model.specs.declared.instr.Instr.{Instr}
 use Rattle.model.specs.declared.instr.Instr.TheVariants as op
-use Rattle.model.specs.Module.Images.{bytes, total}
+use Rattle.model.specs.Module.Images.{instr_size, code_size}
 use Rattle.model.specs.Module.Spelling.{IsImage, instr, code_bytes, most_code, u16, u32}
 use Rattle.std.specs.Int.{w64, cast_unsigned}
 use Rattle.model.proofs.Module.SpeltNumbers.{wide16, wide32, wide64}
 
-spelt_bytes : (i : Instr) → length (instr i) ≡ bytes i
+spelt_bytes : (i : Instr) → length (instr i) ≡ instr_size i
 spelt_bytes op.End = refl
 spelt_bytes (op.Begin t) = omega (arith, wide32.len t)
 spelt_bytes op.Body = refl
@@ -51,9 +51,9 @@ spelt_bytes op.MatchR = refl
 spelt_bytes op.Splice = refl
 spelt_bytes op.Ret = refl
 
-spelt_total : (is : List Instr) → length (code_bytes is) ≡ total is
+spelt_total : (is : List Instr) → length (code_bytes is) ≡ code_size is
 spelt_total [] = refl
 spelt_total (i ∷ is) = omega (arith, length-append (instr i) (code_bytes is), spelt_bytes i, spelt_total is)
 
-pub short : (im : Image) → IsImage im → total im.code ≤ most_code
+pub short : (im : Image) → IsImage im → code_size im.code ≤ most_code
 short im is = omega (arith, is.code_length, spelt_total im.code)

@@ -8,8 +8,8 @@ use Rattle.model.specs.declared.format.Miss.{Miss}
 use Rattle.model.specs.declared.format.ModuleFault.{ModuleFault}
 use Rattle.model.specs.declared.image.Image.{Image}
 use Rattle.model.specs.Module.Loading.{offset_of}
-use Rattle.model.specs.Module.Reading.{image_of}
-use Rattle.model.specs.Module.WellFormed.{IsTold, code_at}
+use Rattle.model.specs.Module.Reading.{read_image}
+use Rattle.model.specs.Module.WellFormed.{IsTold, code_offset}
 use Rattle.loader.specs.Running.{AreRunYet, not_yet}
 
 -- want of memory, which may be told in place of any other answer
@@ -18,16 +18,16 @@ no_memory = Format (record { offset = 0; rule = Memory })
 
 -- what stands at an offset of the code and doesn't run yet
 abbrev pub unknown_at : Image → ℕ → LoadFault
-unknown_at im at = Format (record { offset = code_at im + at; rule = UnknownInstruction })
+unknown_at im at = Format (record { offset = code_offset im + at; rule = UnknownInstruction })
 
-abbrev pub verdict : Image → Option ModuleFault → Result Image LoadFault
-verdict im None = Ok im
-verdict im (Some f) = Err (Module f)
+abbrev pub image_verdict : Image → Option ModuleFault → Result Image LoadFault
+image_verdict im None = Ok im
+image_verdict im (Some f) = Err (Module f)
 
 -- an image, by the first that doesn't run yet
 abbrev pub IsJudged : Image → Option ℕ → Result Image LoadFault → Type 0
 IsJudged im (Some at) result = result ≡ Err (unknown_at im at)
-IsJudged im None result = (fault : Option ModuleFault) × IsTold im fault × (result ≡ verdict im fault)
+IsJudged im None result = (fault : Option ModuleFault) × IsTold im fault × (result ≡ image_verdict im fault)
 
 -- bytes, by what they are read as
 abbrev pub IsReadAs : List ℕ → Result Image Miss → Result Image LoadFault → Type 0
@@ -35,8 +35,8 @@ IsReadAs bytes (Err miss) result = result ≡ Err (Format (offset_of bytes miss)
 IsReadAs bytes (Ok im) result = IsJudged im (not_yet im) result
 
 abbrev pub IsAnswer : List ℕ → Result Image LoadFault → Type 0
-IsAnswer bytes result = (result ≡ Err no_memory) ⊎ IsReadAs bytes (image_of bytes) result
+IsAnswer bytes result = (result ≡ Err no_memory) ⊎ IsReadAs bytes (read_image bytes) result
 
 -- bytes that spell no image, or one that runs yet: all its instructions, and it has no unevaluated expression
 abbrev pub IsKnown : List ℕ → Type 0
-IsKnown bytes = (im : Image) → image_of bytes ≡ Ok im → AreRunYet im.code × (im.expressions ≡ [])
+IsKnown bytes = (im : Image) → read_image bytes ≡ Ok im → AreRunYet im.code × (im.expressions ≡ [])

@@ -3,9 +3,9 @@
 ghost use Rattle.std.specs.Prelude.{◌≡◌, ◌==◌, ◌&&◌, nat_lt};
 ghost use Rattle.std.specs.List.{list_any};
 ghost use Rattle.model.specs.Module.Flow.{is_fetched};
-ghost use Rattle.model.specs.Module.Images.{fetch_from, total};
+ghost use Rattle.model.specs.Module.Images.{fetch_from, code_size};
 ghost use Rattle.model.specs.Module.Spelling.{IsImage, IsTable, StatementFits};
-ghost use Rattle.model.specs.Module.WellFormed.{begins_last, code_at, indices_fit, instr_rule, is_end, is_last_instr, place_fits};
+ghost use Rattle.model.specs.Module.WellFormed.{begins_last, code_offset, indices_fit, instr_rule, is_end_instr, is_last_instr, place_fits};
 ghost use Rattle.loader.specs.Parts.{code_fault};
 
 use crate::code::{PlacedCode, bytes};
@@ -95,7 +95,7 @@ fn instr_rule(
 ) -> Option<ModuleRule>
     requires spelt { IsImage image.now }
     requires placed { placed.now ≡ image.now.code }
-    requires size { size ≡ total image.now.code }
+    requires size { size ≡ code_size image.now.code }
     ensures { result ≡ instr_rule image.now at next instr }
 {
     if !indices_fit(image, instr) {
@@ -115,7 +115,7 @@ fn instr_rule(
 #[tactic(auto, using(crate::proofs::Spelt::short))]
 fn size_of(image: &Image) -> u32
     requires { IsImage image.now }
-    ensures { result ≡ total image.now.code }
+    ensures { result ≡ code_size image.now.code }
 {
     let code = image.code.as_slice();
     let mut size = 0;
@@ -129,7 +129,7 @@ fn size_of(image: &Image) -> u32
 pub(crate) fn code_fault(image: &Image, placed: &PlacedCode, place: usize) -> Option<ModuleFault>
     requires spelt { IsImage image.now }
     requires placed { placed.now ≡ image.now.code }
-    requires there { place ≡ code_at image.now }
+    requires there { place ≡ code_offset image.now }
     ensures { result ≡ code_fault image.now }
 {
     let size = size_of(image);

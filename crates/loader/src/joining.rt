@@ -3,7 +3,7 @@
 ghost use Rattle.std.specs.Prelude.{◌≡◌, IfOk};
 ghost use Rattle.model.specs.Module.Flow.{BreaksFlow, IsLeast};
 ghost use Rattle.model.specs.Module.Spelling.{IsImage};
-ghost use Rattle.model.specs.Module.WellFormed.{IsTold, flow_fault, lesser, number_of, part_fault};
+ghost use Rattle.model.specs.Module.WellFormed.{IsTold, flow_fault, lesser_fault, number_of, part_fault};
 
 use crate::code::PlacedCode;
 use crate::instrs::code_fault;
@@ -50,7 +50,7 @@ fn number_of(rule: ModuleRule) -> u8
 
 // The one of the lesser offset, or of the lesser number there.
 fn lesser(first: Option<ModuleFault>, second: Option<ModuleFault>) -> Option<ModuleFault>
-    ensures { result ≡ lesser first second }
+    ensures { result ≡ lesser_fault first second }
 {
     let (Some(f), Some(g)) = (first, second) else {
         return first.or(second);

@@ -3,9 +3,9 @@
 ghost use Rattle.std.specs.Prelude.{◌≡◌, ◌&&◌, List, ℕ, None, IfOk, option_copied, slice_get};
 ghost use Rattle.std.specs.Str.{bytes_eq};
 ghost use Rattle.std.specs.HashMap.{get_by};
-ghost use Rattle.model.specs.Module.Images.{statement_of};
+ghost use Rattle.model.specs.Module.Images.{statement_labelled};
 ghost use Rattle.model.specs.Module.Spelling.{IsImage};
-ghost use Rattle.model.specs.Module.WellFormed.{is_label_name, is_statement, labels_at};
+ghost use Rattle.model.specs.Module.WellFormed.{is_label_name, is_statement, labels_offset};
 ghost use Rattle.loader.specs.Parts.{label_fault};
 
 use crate::names::{is_label_name, is_statement};
@@ -29,7 +29,7 @@ pub(crate) fn label_fault(
     place: usize,
 ) -> Result<Option<ModuleFault>, AllocError>
     requires spelt { IsImage image.now }
-    requires there { place ≡ labels_at image.now }
+    requires there { place ≡ labels_offset image.now }
     ensures { IfOk result (λ fault. fault ≡ label_fault image.now) }
 {
     let mut seen = IndexSet::new(alloc);
@@ -61,7 +61,7 @@ pub(crate) fn label_map(
     strings: &[Bytes],
     labels: &[Label],
 ) -> Result<IndexMap<Vec<u8>, u32>, AllocError>
-    ensures { IfOk result (λ found. (name : List ℕ) → get_by (λ k. bytes_eq name k.items) found ≡ statement_of strings.now labels.now name None) }
+    ensures { IfOk result (λ found. (name : List ℕ) → get_by (λ k. bytes_eq name k.items) found ≡ statement_labelled strings.now labels.now name None) }
 {
     let mut found = IndexMap::new(alloc);
     let mut left = labels.len();

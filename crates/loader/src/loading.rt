@@ -3,7 +3,7 @@
 ghost use Rattle.std.specs.Prelude.{◌≡◌, ◌⊎◌, Err, Ok, IfOk};
 ghost use Rattle.model.specs.declared.image.Image.{Image};
 ghost use Rattle.model.specs.Module.Loading.{Loads};
-ghost use Rattle.model.specs.Module.Reading.{image_of};
+ghost use Rattle.model.specs.Module.Reading.{read_image};
 ghost use Rattle.model.specs.Module.Spelling.{IsImage};
 ghost use Rattle.loader.specs.Answers.{IsAnswer, IsJudged, IsKnown, no_memory};
 ghost use Rattle.loader.specs.Loaded.{IsLoaded};
@@ -56,9 +56,9 @@ fn answer(alloc: Global, bytes: &[u8]) -> Result<Module, LoadFault>
 /// that is told in place of any other answer.
 pub fn load(alloc: Global, bytes: &[u8]) -> Result<Module, LoadFault>
     ensures exact { IsAnswer bytes.now result }
-    ensures loaded { IfOk result (λ m. (image_of bytes.now ≡ Ok m) × IsLoaded m) }
+    ensures loaded { IfOk result (λ m. (read_image bytes.now ≡ Ok m) × IsLoaded m) }
     ensures defined { IsKnown bytes.now → (result ≡ Err no_memory) ⊎ Loads bytes.now result }
-    ensures accepted { (m : Image) → image_of bytes.now ≡ Ok m → IsLoaded m → (result ≡ Ok m) ⊎ (result ≡ Err no_memory) }
+    ensures accepted { (m : Image) → read_image bytes.now ≡ Ok m → IsLoaded m → (result ≡ Ok m) ⊎ (result ≡ Err no_memory) }
 {
     answer(alloc, bytes)
 }

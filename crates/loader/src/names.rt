@@ -3,13 +3,13 @@
 ghost use Rattle.std.specs.Prelude.{◌≡◌, bytes_eq, option_copied};
 ghost use Rattle.model.specs.Language.Calls.{return_of};
 ghost use Rattle.model.specs.Language.Programs.{end_label};
-ghost use Rattle.model.specs.Module.WellFormed.{is_label_name, is_name, is_nonnull, is_statement, is_string, rule};
+ghost use Rattle.model.specs.Module.WellFormed.{is_label_name, is_nonnull_string, is_nonnull, is_statement, is_string, unless};
 
 use model::{Bytes, Image, ModuleRule, ReturnKind};
 
 /// The rule, unless it is kept.
 pub(crate) fn rule(broken: ModuleRule, kept: bool) -> Option<ModuleRule>
-    ensures { result ≡ rule broken kept }
+    ensures { result ≡ unless broken kept }
 {
     if kept { None } else { Some(broken) }
 }
@@ -39,7 +39,7 @@ fn is_nonnull(string: Option<&Bytes>) -> bool
 
 /// Whether the string of this number is a name.
 pub(crate) fn is_name(image: &Image, number: u32) -> bool
-    ensures { result ≡ is_name image.now number }
+    ensures { result ≡ is_nonnull_string image.now number }
 {
     is_nonnull(image.strings.as_slice().get(number as usize))
 }

@@ -2,7 +2,7 @@
 
 ghost use Rattle.std.specs.Prelude.{◌≡◌, ◌<◌, ◌≤◌, ◌^◌, [], length, take, slice_index_or};
 ghost use Rattle.model.specs.Module.Spelling.{IsImage, most};
-ghost use Rattle.model.specs.Module.WellFormed.{is_jump, pat_rule, pattern_fault, patterns_at};
+ghost use Rattle.model.specs.Module.WellFormed.{is_jump, pat_rule, pattern_fault, patterns_offset};
 ghost use Rattle.model.specs.declared.image.PatInstr.TheVariants.{Lit};
 ghost use Rattle.loader.specs.Parts.{patterns_fault};
 
@@ -67,7 +67,7 @@ fn pattern_fault(image: &Image, pattern: &[PatInstr], place: usize) -> Option<Mo
 /// The first fault of the patterns, which begin at a place.
 pub(crate) fn patterns_fault(image: &Image, place: usize) -> Option<ModuleFault>
     requires spelt { IsImage image.now }
-    requires there { place ≡ patterns_at image.now }
+    requires there { place ≡ patterns_offset image.now }
     ensures { result ≡ patterns_fault image.now }
 {
     let mut offset = place;

@@ -3,7 +3,7 @@
 ghost use Rattle.std.specs.Prelude.{◌≡◌, ◌+◌, ◌≤◌, length, map};
 ghost use Rattle.std.specs.List.{sum};
 ghost use Rattle.model.specs.Module.Spelling.{IsImage, IsTable, PatternFits, StringFits, most};
-ghost use Rattle.model.specs.Module.WellFormed.{code_at, expressions_at, labels_at, pat_bytes, pattern_bytes, patterns_at, statements_at, string_bytes};
+ghost use Rattle.model.specs.Module.WellFormed.{code_offset, expressions_offset, labels_offset, pat_bytes, pattern_bytes, patterns_offset, statements_offset, string_bytes};
 
 use model::{Bytes, Image, PatInstr, Seq};
 
@@ -71,11 +71,11 @@ fn patterns_size(patterns: &[Seq<PatInstr>]) -> usize
 #[tactic(auto, using(crate::proofs::Sizes::places_short))]
 pub(crate) fn places_of(image: &Image) -> Places
     requires { IsImage image.now }
-    ensures labels { result.labels ≡ labels_at image.now }
-    ensures statements { result.statements ≡ statements_at image.now }
-    ensures expressions { result.expressions ≡ expressions_at image.now }
-    ensures patterns { result.patterns ≡ patterns_at image.now }
-    ensures code { result.code ≡ code_at image.now }
+    ensures labels { result.labels ≡ labels_offset image.now }
+    ensures statements { result.statements ≡ statements_offset image.now }
+    ensures expressions { result.expressions ≡ expressions_offset image.now }
+    ensures patterns { result.patterns ≡ patterns_offset image.now }
+    ensures code { result.code ≡ code_offset image.now }
 {
     let labels = 18 + strings_size(image.strings.as_slice());
     let statements = labels + 8 * image.labels.as_slice().len() + 4;
@@ -94,7 +94,7 @@ pub(crate) fn places_of(image: &Image) -> Places
 /// Where an offset of the code stands in the module.
 pub(crate) fn code_offset(image: &Image, at: u32) -> usize
     requires { IsImage image.now }
-    ensures { result ≡ code_at image.now + at }
+    ensures { result ≡ code_offset image.now + at }
 {
     places_of(image).code + at as usize
 }

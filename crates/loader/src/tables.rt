@@ -5,7 +5,7 @@ ghost use Rattle.model.specs.declared.format.ModuleRule.TheVariants.{BadTarget, 
 ghost use Rattle.model.specs.Module.Flow.{is_fetched};
 ghost use Rattle.model.specs.Module.Images.{fetch_from};
 ghost use Rattle.model.specs.Module.Spelling.{IsImage};
-ghost use Rattle.model.specs.Module.WellFormed.{expressions_at, is_begin, rule, statements_at};
+ghost use Rattle.model.specs.Module.WellFormed.{expressions_offset, is_begin, unless, statements_offset};
 ghost use Rattle.loader.specs.Parts.{entry_fault, expression_fault, statement_fault};
 
 use crate::code::PlacedCode;
@@ -29,7 +29,7 @@ pub(crate) fn entry_fault(image: &Image) -> Option<ModuleFault>
 
 // The rule that a statement at an offset breaks, where the last is another.
 fn statement_rule(placed: &PlacedCode, is_last: bool, at: u32) -> Option<ModuleRule>
-    ensures { result ≡ (if is_last then rule NoEnd (is_fetched (fetch_from 0 placed.now at)) else rule BadTarget (is_begin (fetch_from 0 placed.now at))) }
+    ensures { result ≡ (if is_last then unless NoEnd (is_fetched (fetch_from 0 placed.now at)) else unless BadTarget (is_begin (fetch_from 0 placed.now at))) }
 {
     if is_last {
         rule(ModuleRule::NoEnd, placed.begins(at))
@@ -46,7 +46,7 @@ pub(crate) fn statement_fault(
 ) -> Option<ModuleFault>
     requires spelt { IsImage image.now }
     requires placed { placed.now ≡ image.now.code }
-    requires there { place ≡ statements_at image.now }
+    requires there { place ≡ statements_offset image.now }
     ensures { result ≡ statement_fault image.now }
 {
     let statements = image.statements.as_slice();
@@ -69,7 +69,7 @@ pub(crate) fn expression_fault(
 ) -> Option<ModuleFault>
     requires spelt { IsImage image.now }
     requires placed { placed.now ≡ image.now.code }
-    requires there { place ≡ expressions_at image.now }
+    requires there { place ≡ expressions_offset image.now }
     ensures { result ≡ expression_fault image.now }
 {
     let mut offset = place;

@@ -39,7 +39,7 @@ fenced_is (s.Opened b ∷ ns) k e = absurd (none-some k (sym e))
 fenced_is (s.Left code p ∷ ns) k e = absurd (none-some k (sym e))
 
 -- the choices that FCLOSE leaves
-pub kept_choices : (u : List ℕ) (k : ℕ) (bs : List Back) → choices_of u (oldest k bs) ≡ s.kept k (choices_of u bs)
+pub kept_choices : (u : List ℕ) (k : ℕ) (bs : List Back) → choices_of u (oldest k bs) ≡ s.choices_kept k (choices_of u bs)
 kept_choices u k bs =
     sym (drop-map (choice_of u) (length bs - k) bs) ∙ ap (λ n. drop (n - k) (choices_of u bs)) (sym (length-map bs (choice_of u)))
 
@@ -71,11 +71,11 @@ pub arb_last : (u : List ℕ) (c : ℕ) → length u ≤ c → from_up c (length
 arb_last u c h = let e : length u - c ≡ 0 = omega arith in ap (from_up c) e
 
 -- ---- steps
-steps_suc : (u : List ℕ) (code : Code) (n : ℕ) (st : s.State) → s.steps u code (suc n) st ≡ s.step u code (s.steps u code n st)
+steps_suc : (u : List ℕ) (code : Code) (n : ℕ) (st : s.MatchState) → s.pattern_steps u code (suc n) st ≡ s.pattern_step u code (s.pattern_steps u code n st)
 steps_suc u code zero st = refl
-steps_suc u code (suc n) st = steps_suc u code n (s.step u code st)
+steps_suc u code (suc n) st = steps_suc u code n (s.pattern_step u code st)
 
-pub steps_after : (u : List ℕ) (code : Code) (n : ℕ) (st : s.State) → s.steps u code (n + 1) st ≡ s.step u code (s.steps u code n st)
+pub steps_after : (u : List ℕ) (code : Code) (n : ℕ) (st : s.MatchState) → s.pattern_steps u code (n + 1) st ≡ s.pattern_step u code (s.pattern_steps u code n st)
 steps_after u code n st = rw add-one (steps_suc u code n st)
 
 pub running_is : (e : Event ℕ) → is_running e ≡ true → e ≡ Running

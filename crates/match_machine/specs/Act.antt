@@ -17,14 +17,14 @@ act_of u t (act.Jumps q) = Moves (s.Goes (onward t q t.cursor))
 act_of u t (act.Forks c k) = Moves (s.Forks (onward t (t.place + 1) c) (kept_of u k t))
 act_of u t act.Fails = Moves s.Fails
 act_of u t act.Aborts = s.Aborts
-act_of u t act.Opens = s.act u (Some p.Open) t
-act_of u t act.OpensFence = s.act u (Some p.OpenFence) t
-act_of u t act.ClosesFence = s.act u (Some p.CloseFence) t
+act_of u t act.Opens = s.pattern_act u (Some p.Open) t
+act_of u t act.OpensFence = s.pattern_act u (Some p.OpenFence) t
+act_of u t act.ClosesFence = s.pattern_act u (Some p.CloseFence) t
 
 abbrev pub named_of : List ℕ → s.Thread → Named → s.Act
-named_of u t (named.Closes x) = s.act u (Some (p.Close (name_of x))) t
-named_of u t (named.Says x) = s.act u (Some (p.Say (name_of x))) t
-named_of u t (named.Tells x) = s.act u (Some (p.AtCursor (name_of x))) t
+named_of u t (named.Closes x) = s.pattern_act u (Some (p.Close (name_of x))) t
+named_of u t (named.Says x) = s.pattern_act u (Some (p.Say (name_of x))) t
+named_of u t (named.Tells x) = s.pattern_act u (Some (p.AtCursor (name_of x))) t
 named_of u t (named.Asks w) = s.Asking (waiting_of w) t
 
 -- an instruction with a name or an expression

@@ -1,12 +1,12 @@
 -- What a matcher is in the definitions.
 use Rattle.std.specs.Prelude.{ℕ, List, Bool}
 use Rattle.model.specs.Pattern.Patterns.{Event, Asks}
-use Rattle.model.specs.Pattern.Steps.{Code, State}
+use Rattle.model.specs.Pattern.Steps.{Code, MatchState}
 
-pub record Held : Type 0 where
+pub record MatchView : Type 0 where
   pub subject : List ℕ
   pub code : Code
-  pub state : State
+  pub state : MatchState
   -- memory was refused
   pub refused : Bool
 

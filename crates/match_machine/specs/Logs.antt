@@ -1,6 +1,7 @@
 -- The logs of a match, and what is left of them at a choice.
 use Rattle.std.specs.Prelude.{zero, suc, ltb, eqb, ◌≡◌, ◌≤◌, ◌-◌, ℕ, List, [], ◌∷◌, map, reverse, length, take, slice_get, Option, Some, None, true, cond}
 use Rattle.model.specs.Pattern.Patterns as p
+use Rattle.model.specs.Deck.Target as target
 use Rattle.model.specs.Pattern.Steps as s
 use Rattle.model.specs.Pattern.Steps.{Code}
 use Rattle.pattern_compiler.specs.View.{name_of}
@@ -12,7 +13,7 @@ use Rattle.match_machine.specs.declared.trail.Choice.{Choice}
 use Rattle.match_machine.specs.declared.trail.Trail.TheInside.{Inside}
 use Rattle.match_machine.specs.Standing.{Standing, Back}
 
-abbrev pub assigned : Assignment → p.Name × List ℕ
+abbrev pub assigned : Assignment → target.Name × List ℕ
 assigned x = (name_of x.name, x.value)
 
 abbrev pub pending_of : List Assignment → p.Pending

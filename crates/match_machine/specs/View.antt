@@ -3,7 +3,7 @@ use Rattle.std.specs.Prelude.{◌≡◌, ℕ, ◌+◌, ◌-◌, List, [], ◌∷
 use Rattle.model.specs.Pattern.Patterns as p
 use Rattle.model.specs.Pattern.BasicEnds.{from_up, balanced}
 use Rattle.model.specs.Pattern.Steps as s
-use Rattle.model.specs.Pattern.Steps.{Code, State, onward, go, back, act, after_act, forked}
+use Rattle.model.specs.Pattern.Steps.{Code, MatchState, onward, go, back, pattern_act, after_act, forked}
 use Rattle.pattern_compiler.specs.View.{name_of, kind_of}
 use Rattle.match_machine.specs.declared.event.Want.{Want}
 use Rattle.match_machine.specs.declared.event.Want.TheVariants as want
@@ -82,15 +82,15 @@ abbrev pub answers_of : Option Answer → s.Answers
 answers_of None = []
 answers_of (Some y) = answer_of y ∷ []
 
-abbrev pub returning : List s.Choice → ℕ → ℕ → State
+abbrev pub returning : List s.Choice → ℕ → ℕ → MatchState
 returning [] b left = s.Over s.Lost
 returning (ch ∷ cs) b left = s.Returning ch cs b left []
 
-abbrev pub waits : Option Waiting → s.Thread → List s.Choice → ℕ → ℕ → s.Answers → State
+abbrev pub waits : Option Waiting → s.Thread → List s.Choice → ℕ → ℕ → s.Answers → MatchState
 waits None t cs b left y = s.Over s.Lost
 waits (Some w) t cs b left y = s.Waits (waiting_of w) t cs b left y
 
-abbrev pub state_by : Mode → s.Thread → List s.Choice → ℕ → ℕ → Option Waiting → Option Answer → State
+abbrev pub state_by : Mode → s.Thread → List s.Choice → ℕ → ℕ → Option Waiting → Option Answer → MatchState
 state_by mode.Starting t cs b left w y = s.Starting b left []
 state_by mode.Going t cs b left w y = s.Going t cs b left []
 state_by mode.Returning t cs b left w y = returning cs b left
@@ -98,11 +98,11 @@ state_by mode.Waiting t cs b left w y = waits w t cs b left (answers_of y)
 state_by mode.Matched t cs b left w y = s.Over (s.Won b t.cursor t.pending)
 state_by mode.Failed t cs b left w y = s.Over s.Lost
 
-abbrev pub state_of : List ℕ → Run → State
+abbrev pub state_of : List ℕ → Run → MatchState
 state_of u r = state_by r.mode (thread_of r.thread) (choices_of u r.thread.trail.backs) r.start r.left r.waiting r.answer
 
 -- where memory was refused, nothing is left of it
-abbrev pub held : Bool → List ℕ → Run → State
+abbrev pub held : Bool → List ℕ → Run → MatchState
 held true u r = s.Over s.Lost
 held false u r = state_of u r
 
@@ -112,15 +112,15 @@ abbrev pub SamePlaces : Run → Run → Type 0
 SamePlaces a b = (b.start ≡ a.start) × (b.left ≡ a.left)
 
 -- the match with its attempt gone on to a place and a cursor
-abbrev pub gone : List ℕ → Run → ℕ → ℕ → State
+abbrev pub gone : List ℕ → Run → ℕ → ℕ → MatchState
 gone u r q c = go (onward (thread_of r.thread) q c) (choices_of u r.thread.trail.backs) r.start r.left []
 
 -- the match after a failure
-abbrev pub failed : List ℕ → Run → State
+abbrev pub failed : List ℕ → Run → MatchState
 failed u r = back (choices_of u r.thread.trail.backs) r.start r.left []
 
 -- the match after an instruction
-abbrev pub done : List ℕ → Run → s.Act → State
+abbrev pub done : List ℕ → Run → s.Act → MatchState
 done u r x = after_act x (choices_of u r.thread.trail.backs) r.start r.left []
 
 -- what is kept with an attempt fits the subject and the attempt's code

@@ -2,7 +2,7 @@
 
 ghost use Rattle.std.specs.Prelude.{◌≡◌, length, IfOk, Ok};
 ghost use Rattle.model.specs.declared.image.Image.{Image};
-ghost use Rattle.model.specs.Module.Reading.{Gives, image_at, image_of};
+ghost use Rattle.model.specs.Module.Reading.{Gives, image_at, read_image};
 ghost use Rattle.model.specs.Module.Spelling.{spelling, IsImage};
 ghost use Rattle.module_format.specs.Faults.{IsAnswer};
 
@@ -39,9 +39,9 @@ fn image_in_front(alloc: Global, bytes: &[u8]) -> Result<(Image, &[u8]), ReadErr
     Ok((image, rest))
 }
 
-#[tactic(auto, unfolding(model::specs::Module::Reading::image_of))]
+#[tactic(auto, unfolding(model::specs::Module::Reading::read_image))]
 fn whole_image(alloc: Global, bytes: &[u8]) -> Result<Image, ReadError>
-    ensures { Gives (λ x. x) result (image_of bytes.now) }
+    ensures { Gives (λ x. x) result (read_image bytes.now) }
 {
     let (image, rest) = image_in_front(alloc, bytes)?;
     if !rest.is_empty() {
@@ -51,7 +51,7 @@ fn whole_image(alloc: Global, bytes: &[u8]) -> Result<Image, ReadError>
 }
 
 fn answer(alloc: Global, bytes: &[u8]) -> Result<Image, FormatFault>
-    ensures { IsAnswer result (image_of bytes.now) (length bytes.now) }
+    ensures { IsAnswer result (read_image bytes.now) (length bytes.now) }
 {
     match whole_image(alloc, bytes) {
         Ok(image) => Ok(image),
@@ -69,7 +69,7 @@ fn answer(alloc: Global, bytes: &[u8]) -> Result<Image, FormatFault>
 /// The image that the bytes spell, or the first fault and its offset. Where a growth was refused that is told in place of
 /// any other answer.
 pub fn read_image(alloc: Global, bytes: &[u8]) -> Result<Image, FormatFault>
-    ensures exact { IsAnswer result (image_of bytes.now) (length bytes.now) }
+    ensures exact { IsAnswer result (read_image bytes.now) (length bytes.now) }
     ensures found { IfOk result (λ m. IsImage m × (bytes.now ≡ spelling m)) }
     ensures only { (m : Image) → IsImage m → bytes.now ≡ spelling m → IsAnswer result (Ok m) (length bytes.now) }
 {

@@ -8,7 +8,7 @@ use Rattle.std.specs.declared.alloc.AllocError.{AllocError}
 use Rattle.std.proofs.lemmas.List.{map-append}
 use Rattle.std.proofs.lemmas.Slice.Eq.{bytes_eq-Decides}
 use Rattle.model.specs.declared.causes.Cause.{Cause}
-use Rattle.model.specs.Deck.Faults.{is_among, is_taken, entry_given, rule_broken, cause_of, returns, label_given, throughout, call_fits, keyword_known, targets_fit}
+use Rattle.model.specs.Deck.Faults.{is_one_of, is_taken, entry_given, rule_broken, cause_of, returns, label_given, throughout, call_fits, keyword_known, targets_fit}
 use Rattle.model.specs.declared.causes.Cause.TheVariants as cause
 use Rattle.model.specs.Deck.Trees.{Bytes, Stmt, Plain, End}
 use Rattle.parser.specs.Labels.{AreSame, with_label}
@@ -19,14 +19,14 @@ texts keys = map (λ k. k.now) keys
 abbrev pub is_text : Bytes → Bor Bytes → Bool
 is_text l k = pointwise nat_eq l k.now
 
-pub among_keys : (l : Bytes) (keys : List (Bor Bytes)) → list_any (is_text l) keys ≡ is_among l (texts keys)
+pub among_keys : (l : Bytes) (keys : List (Bor Bytes)) → list_any (is_text l) keys ≡ is_one_of l (texts keys)
 among_keys l [] = refl
 among_keys l (k ∷ keys) = ap (λ b. is_text l k || b) (among_keys l keys)
 
 pub key_put : (k : Bor Bytes) (keys : List (Bor Bytes)) → texts (if list_any (is_text k.now) keys then keys else keys ++ k ∷ []) ≡ with_label (texts keys) k.now
 key_put k keys =
     ap (λ b. texts (if b then keys else keys ++ k ∷ [])) (among_keys k.now keys)
-    ∙ elim (is_among k.now (texts keys)) as (λ b. texts (if b then keys else keys ++ k ∷ []) ≡ (if b then texts keys else texts keys ++ k.now ∷ [])) [
+    ∙ elim (is_one_of k.now (texts keys)) as (λ b. texts (if b then keys else keys ++ k ∷ []) ≡ (if b then texts keys else texts keys ++ k.now ∷ [])) [
       | true ↦ refl
       | false ↦ map-append (λ (x : Bor Bytes). x.now) keys (k ∷ [])
     ]
@@ -35,26 +35,26 @@ or_assoc : (a b c : Bool) → ((a || b) || c) ≡ (a || (b || c))
 or_assoc true b c = refl
 or_assoc false b c = refl
 
-among_both : (l : Bytes) (xs ys : List Bytes) → is_among l (xs ++ ys) ≡ (is_among l xs || is_among l ys)
+among_both : (l : Bytes) (xs ys : List Bytes) → is_one_of l (xs ++ ys) ≡ (is_one_of l xs || is_one_of l ys)
 among_both l [] ys = refl
-among_both l (x ∷ xs) ys = ap (λ b. bytes_eq l x || b) (among_both l xs ys) ∙ sym (or_assoc (bytes_eq l x) (is_among l xs) (is_among l ys))
+among_both l (x ∷ xs) ys = ap (λ b. bytes_eq l x || b) (among_both l xs ys) ∙ sym (or_assoc (bytes_eq l x) (is_one_of l xs) (is_one_of l ys))
 
 or_false : (b : Bool) → (b || false) ≡ b
 or_false true = refl
 or_false false = refl
 
 -- a label that is there changes nothing
-there_still : (x l : Bytes) (ls : List Bytes) → is_among l ls ≡ true → is_among x ls ≡ (is_among x ls || (bytes_eq x l || false))
-there_still x l ls there = elim (bytes_eq x l) as (λ b. (bytes_eq x l ≡ b) → is_among x ls ≡ (is_among x ls || (b || false))) [
-  | true ↦ λ e. let same : x ≡ l = (bytes_eq-Decides x l).0 e in let among : is_among x ls ≡ true = ap (λ y. is_among y ls) same ∙ there in rw among refl
-  | false ↦ λ _. sym (or_false (is_among x ls))
+there_still : (x l : Bytes) (ls : List Bytes) → is_one_of l ls ≡ true → is_one_of x ls ≡ (is_one_of x ls || (bytes_eq x l || false))
+there_still x l ls there = elim (bytes_eq x l) as (λ b. (bytes_eq x l ≡ b) → is_one_of x ls ≡ (is_one_of x ls || (b || false))) [
+  | true ↦ λ e. let same : x ≡ l = (bytes_eq-Decides x l).0 e in let among : is_one_of x ls ≡ true = ap (λ y. is_one_of y ls) same ∙ there in rw among refl
+  | false ↦ λ _. sym (or_false (is_one_of x ls))
 ] refl
 
 pub put_same : (l : Bytes) (old ls : List Bytes) → AreSame old ls → AreSame (with_label old l) (ls ++ l ∷ [])
 put_same l old ls same x =
-    elim (is_among l old) as (λ b. (is_among l old ≡ b) → is_among x (if b then old else old ++ l ∷ []) ≡ (is_among x ls || is_among x (l ∷ []))) [
+    elim (is_one_of l old) as (λ b. (is_one_of l old ≡ b) → is_one_of x (if b then old else old ++ l ∷ []) ≡ (is_one_of x ls || is_one_of x (l ∷ []))) [
       | true ↦ λ e. same x ∙ there_still x l ls (sym (same l) ∙ e)
-      | false ↦ λ _. among_both x old (l ∷ []) ∙ ap (λ b. b || is_among x (l ∷ [])) (same x)
+      | false ↦ λ _. among_both x old (l ∷ []) ∙ ap (λ b. b || is_one_of x (l ∷ [])) (same x)
     ] refl ∙ sym (among_both x ls (l ∷ []))
 
 -- what a call that puts a label says
@@ -64,7 +64,7 @@ is_put (Err x) new old l given e g = tt
 
 taken_same : (old ls : List Bytes) → AreSame old ls → (given : List Bytes) → is_taken old given ≡ is_taken ls given
 taken_same old ls same [] = refl
-taken_same old ls same (l ∷ more) = ap (λ b. is_among l returns || b) (same l)
+taken_same old ls same (l ∷ more) = ap (λ b. is_one_of l returns || b) (same l)
 
 entry_same : (old ls : List Bytes) → AreSame old ls → (s : Stmt) → entry_given old s ≡ entry_given ls s
 entry_same old ls same (Plain l b g) = refl

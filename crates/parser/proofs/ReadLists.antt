@@ -19,29 +19,29 @@ use Rattle.model.specs.Deck.TreeViews.{stmt_of}
 use Rattle.model.proofs.Decks.Lexing.{piece_of, toks_are}
 use Rattle.model.proofs.Decks.StatementComplete.{stmt_full}
 use Rattle.model.proofs.Decks.StatementSound.{stmt_sound}
-use Rattle.model.specs.Deck.Faults.{tree_or_none, tree_unless, read, faults, faults_after, labels, labels_of_read, tree_of_read, trees, cause_of, told}
+use Rattle.model.specs.Deck.Faults.{tree_or_none, tree_unless, read, faults, faults_after, labels_given, labels_of_read, tree_of_read, deck_trees, cause_of, fault_of}
 use Rattle.model.specs.Deck.Trees.{Bytes, Stmt}
-use Rattle.parser.specs.Reads.{IsRead, Numbered, faults_of, labels_of, numbered, result_of, shown, trees_of}
+use Rattle.parser.specs.Reads.{IsRead, Numbered, faults_of, labels_of, numbered, result_of, result_read, trees_of}
 use Rattle.parser.specs.declared.reading.Read.{Read}
 
 -- ---- the definitions on what is read, and those on statements
 
-pub labels_are : (ss : List Statement) → labels_of (map numbered ss) ≡ labels ss
+pub labels_are : (ss : List Statement) → labels_of (map numbered ss) ≡ labels_given ss
 labels_are [] = refl
 labels_are (s ∷ ss) = ap (λ ls. labels_of_read (read s.text) ++ ls) (labels_are ss)
 
 faults_are : (earlier all : List Bytes) (ss : List Statement) → faults_of earlier all (map numbered ss) ≡ faults_after earlier all ss
 faults_are earlier all [] = refl
-faults_are earlier all (s ∷ ss) = ap (λ fs. told s.number (cause_of earlier all (read s.text)) ++ fs) (faults_are (earlier ++ labels_of_read (read s.text)) all ss)
+faults_are earlier all (s ∷ ss) = ap (λ fs. fault_of s.number (cause_of earlier all (read s.text)) ++ fs) (faults_are (earlier ++ labels_of_read (read s.text)) all ss)
 
 pub all_faults : (ss : List Statement) (rs : List Numbered) → rs ≡ map numbered ss → faults_of [] (labels_of rs) rs ≡ faults ss
 unfolding faults
-all_faults ss rs e = ap (λ xs. faults_of [] (labels_of xs) xs) e ∙ ap (λ ls. faults_of [] ls (map numbered ss)) (labels_are ss) ∙ faults_are [] (labels ss) ss
+all_faults ss rs e = ap (λ xs. faults_of [] (labels_of xs) xs) e ∙ ap (λ ls. faults_of [] ls (map numbered ss)) (labels_are ss) ∙ faults_are [] (labels_given ss) ss
 
-pub faults_found : (ss given : List Statement) (rs now : List Read) (fs : List StmtFault) → given ≡ ss → map shown rs ≡ map numbered given → now ≡ rs
-    → fs ≡ faults_of [] (labels_of (map shown now)) (map shown now) → fs ≡ faults ss
+pub faults_found : (ss given : List Statement) (rs now : List Read) (fs : List StmtFault) → given ≡ ss → map result_read rs ≡ map numbered given → now ≡ rs
+    → fs ≡ faults_of [] (labels_of (map result_read now)) (map result_read now) → fs ≡ faults ss
 faults_found ss given rs now fs g e n is =
-    is ∙ ap (λ xs. faults_of [] (labels_of (map shown xs)) (map shown xs)) n ∙ all_faults ss (map shown rs) (e ∙ ap (map numbered) g)
+    is ∙ ap (λ xs. faults_of [] (labels_of (map result_read xs)) (map result_read xs)) n ∙ all_faults ss (map result_read rs) (e ∙ ap (map numbered) g)
 
 pub none_left : {A : Type 0} (xs : List A) (n : ℕ) → n ≡ length xs → n ≡ 0 → xs ≡ []
 none_left [] n e z = refl
@@ -57,12 +57,12 @@ pub is_something : {A : Type 0} (xs : List A) (b : Bool) → b ≡ (length xs ==
 is_something [] b e f = absurd (cc)
 is_something (x ∷ xs) b e f = λ n. absurd (cc)
 
-trees_are : (ss : List Statement) → trees_of (map numbered ss) ≡ trees ss
-unfolding trees
+trees_are : (ss : List Statement) → trees_of (map numbered ss) ≡ deck_trees ss
+unfolding deck_trees
 trees_are [] = refl
 trees_are (s ∷ ss) = ap (λ ts. tree_of_read (read s.text) ++ ts) (trees_are ss)
 
-pub all_trees : (ss : List Statement) (rs : List Numbered) → rs ≡ map numbered ss → trees_of rs ≡ trees ss
+pub all_trees : (ss : List Statement) (rs : List Numbered) → rs ≡ map numbered ss → trees_of rs ≡ deck_trees ss
 all_trees ss rs e = ap trees_of e ∙ trees_are ss
 
 -- ---- one statement more
@@ -75,71 +75,71 @@ append_nil : {A : Type 0} (xs : List A) → xs ++ [] ≡ xs
 append_nil [] = refl
 append_nil (x ∷ xs) = ap (λ ys. x ∷ ys) (append_nil xs)
 
-taken_more : (rs : List Read) (i : ℕ) (r : Read) → i < length rs → r ≡ get_or rs i r → map shown (take (i + 1) rs) ≡ map shown (take i rs) ++ shown r ∷ []
+taken_more : (rs : List Read) (i : ℕ) (r : Read) → i < length rs → r ≡ get_or rs i r → map result_read (take (i + 1) rs) ≡ map result_read (take i rs) ++ result_read r ∷ []
 taken_more rs i r h e =
-    ap (λ k. map shown (take k rs)) (add-one i) ∙ ap (map shown) (take-suc rs i r h)
-    ∙ map-append shown (take i rs) (get_or rs i r ∷ []) ∙ ap (λ x. map shown (take i rs) ++ shown x ∷ []) (sym e)
+    ap (λ k. map result_read (take k rs)) (add-one i) ∙ ap (map result_read) (take-suc rs i r h)
+    ∙ map-append result_read (take i rs) (get_or rs i r ∷ []) ∙ ap (λ x. map result_read (take i rs) ++ result_read x ∷ []) (sym e)
 
-left_more : (rs : List Read) (i : ℕ) (r : Read) → i < length rs → r ≡ get_or rs i r → map shown (drop i rs) ≡ shown r ∷ map shown (drop (i + 1) rs)
-left_more rs i r h e = ap (map shown) (drop_more rs i r h) ∙ ap (λ x. shown x ∷ map shown (drop (i + 1) rs)) (sym e)
+left_more : (rs : List Read) (i : ℕ) (r : Read) → i < length rs → r ≡ get_or rs i r → map result_read (drop i rs) ≡ result_read r ∷ map result_read (drop (i + 1) rs)
+left_more rs i r h e = ap (map result_read) (drop_more rs i r h) ∙ ap (λ x. result_read x ∷ map result_read (drop (i + 1) rs)) (sym e)
 
 pub labels_turn : (rs : List Read) (i : ℕ) (r : Read) → i < length rs → r ≡ get_or rs i r
-    → labels_of (map shown (take (i + 1) rs)) ≡ labels_of (map shown (take i rs)) ++ labels_of_read (result_of r.tree)
-labels_turn rs i r h e = ap labels_of (taken_more rs i r h e) ∙ labels_both (map shown (take i rs)) (shown r ∷ []) ∙ ap (λ ls. labels_of (map shown (take i rs)) ++ ls) (append_nil (labels_of_read (result_of r.tree)))
+    → labels_of (map result_read (take (i + 1) rs)) ≡ labels_of (map result_read (take i rs)) ++ labels_of_read (result_of r.tree)
+labels_turn rs i r h e = ap labels_of (taken_more rs i r h e) ∙ labels_both (map result_read (take i rs)) (result_read r ∷ []) ∙ ap (λ ls. labels_of (map result_read (take i rs)) ++ ls) (append_nil (labels_of_read (result_of r.tree)))
 
 pub faults_turn : (all : List Bytes) (rs : List Read) (i : ℕ) (r : Read) → i < length rs → r ≡ get_or rs i r
-    → faults_of (labels_of (map shown (take i rs))) all (map shown (drop i rs)) ≡ told r.number (cause_of (labels_of (map shown (take i rs))) all (result_of r.tree)) ++ faults_of (labels_of (map shown (take (i + 1) rs))) all (map shown (drop (i + 1) rs))
+    → faults_of (labels_of (map result_read (take i rs))) all (map result_read (drop i rs)) ≡ fault_of r.number (cause_of (labels_of (map result_read (take i rs))) all (result_of r.tree)) ++ faults_of (labels_of (map result_read (take (i + 1) rs))) all (map result_read (drop (i + 1) rs))
 faults_turn all rs i r h e =
-    let before = labels_of (map shown (take i rs)) in
-    let one = told r.number (cause_of before all (result_of r.tree)) in
-    ap (faults_of before all) (left_more rs i r h e) ∙ ap (λ ls. one ++ faults_of ls all (map shown (drop (i + 1) rs))) (sym (labels_turn rs i r h e))
+    let before = labels_of (map result_read (take i rs)) in
+    let one = fault_of r.number (cause_of before all (result_of r.tree)) in
+    ap (faults_of before all) (left_more rs i r h e) ∙ ap (λ ls. one ++ faults_of ls all (map result_read (drop (i + 1) rs))) (sym (labels_turn rs i r h e))
 
 -- ---- by items, as loops have them
 
 pub read_more : (rs : List Read) (next : List Read) (r : Read) (ss : List Statement) (i : ℕ) (s : Statement) → i < length ss → s ≡ get_or ss i s
-    → next ≡ rs ++ r ∷ [] → shown r ≡ numbered s → map shown rs ++ map numbered (drop i ss) ≡ map numbered ss → map shown next ++ map numbered (drop (i + 1) ss) ≡ map numbered ss
+    → next ≡ rs ++ r ∷ [] → result_read r ≡ numbered s → map result_read rs ++ map numbered (drop i ss) ≡ map numbered ss → map result_read next ++ map numbered (drop (i + 1) ss) ≡ map numbered ss
 read_more rs next r ss i s h is n e so_far =
-    ap (λ xs. map shown xs ++ map numbered (drop (i + 1) ss)) n
-    ∙ ap (λ xs. xs ++ map numbered (drop (i + 1) ss)) (map-append shown rs (r ∷ []))
-    ∙ append_assoc (map shown rs) (shown r ∷ []) (map numbered (drop (i + 1) ss))
-    ∙ ap (λ x. map shown rs ++ x ∷ map numbered (drop (i + 1) ss)) (e ∙ ap numbered is)
-    ∙ ap (λ xs. map shown rs ++ map numbered xs) (sym (drop_more ss i s h)) ∙ so_far
+    ap (λ xs. map result_read xs ++ map numbered (drop (i + 1) ss)) n
+    ∙ ap (λ xs. xs ++ map numbered (drop (i + 1) ss)) (map-append result_read rs (r ∷ []))
+    ∙ append_assoc (map result_read rs) (result_read r ∷ []) (map numbered (drop (i + 1) ss))
+    ∙ ap (λ x. map result_read rs ++ x ∷ map numbered (drop (i + 1) ss)) (e ∙ ap numbered is)
+    ∙ ap (λ xs. map result_read rs ++ map numbered xs) (sym (drop_more ss i s h)) ∙ so_far
 
 pub all_read : {A B : Type 0} (f : A → B) (xs ys : List B) (left : List A) → left ≡ [] → xs ++ map f left ≡ ys → xs ≡ ys
 all_read f xs ys left e so_far = sym (append_nil xs) ∙ ap (λ l. xs ++ map f l) (sym e) ∙ so_far
 
 -- one read less is left, and its tree is kept
-pub tree_more : (ts next : List trees.Stmt) (t : trees.Stmt) (left rest : List Read) (r : Read) (all : List Stmt) → left ≡ r ∷ rest → r.tree ≡ Ok t
-    → next ≡ ts ++ t ∷ [] → map stmt_of ts ++ trees_of (map shown left) ≡ all → map stmt_of next ++ trees_of (map shown rest) ≡ all
+pub tree_more : (ts next : List deck_trees.Stmt) (t : deck_trees.Stmt) (left rest : List Read) (r : Read) (all : List Stmt) → left ≡ r ∷ rest → r.tree ≡ Ok t
+    → next ≡ ts ++ t ∷ [] → map stmt_of ts ++ trees_of (map result_read left) ≡ all → map stmt_of next ++ trees_of (map result_read rest) ≡ all
 tree_more ts next t left rest r all l is n so_far =
-    ap (λ xs. map stmt_of xs ++ trees_of (map shown rest)) n
-    ∙ ap (λ xs. xs ++ trees_of (map shown rest)) (map-append stmt_of ts (t ∷ []))
-    ∙ append_assoc (map stmt_of ts) (stmt_of t ∷ []) (trees_of (map shown rest))
-    ∙ ap (λ x. map stmt_of ts ++ (tree_of_read (result_of x) ++ trees_of (map shown rest))) (sym is)
-    ∙ ap (λ xs. map stmt_of ts ++ trees_of (map shown xs)) (sym l) ∙ so_far
+    ap (λ xs. map stmt_of xs ++ trees_of (map result_read rest)) n
+    ∙ ap (λ xs. xs ++ trees_of (map result_read rest)) (map-append stmt_of ts (t ∷ []))
+    ∙ append_assoc (map stmt_of ts) (stmt_of t ∷ []) (trees_of (map result_read rest))
+    ∙ ap (λ x. map stmt_of ts ++ (tree_of_read (result_of x) ++ trees_of (map result_read rest))) (sym is)
+    ∙ ap (λ xs. map stmt_of ts ++ trees_of (map result_read xs)) (sym l) ∙ so_far
 
-pub no_tree_more : (ts : List trees.Stmt) (c : Cause) (left rest : List Read) (r : Read) (all : List Stmt) → left ≡ r ∷ rest → r.tree ≡ Err c
-    → map stmt_of ts ++ trees_of (map shown left) ≡ all → map stmt_of ts ++ trees_of (map shown rest) ≡ all
+pub no_tree_more : (ts : List deck_trees.Stmt) (c : Cause) (left rest : List Read) (r : Read) (all : List Stmt) → left ≡ r ∷ rest → r.tree ≡ Err c
+    → map stmt_of ts ++ trees_of (map result_read left) ≡ all → map stmt_of ts ++ trees_of (map result_read rest) ≡ all
 no_tree_more ts c left rest r all l is so_far =
-    ap (λ x. map stmt_of ts ++ (tree_of_read (result_of x) ++ trees_of (map shown rest))) (sym is)
-    ∙ ap (λ xs. map stmt_of ts ++ trees_of (map shown xs)) (sym l) ∙ so_far
+    ap (λ x. map stmt_of ts ++ (tree_of_read (result_of x) ++ trees_of (map result_read rest))) (sym is)
+    ∙ ap (λ xs. map stmt_of ts ++ trees_of (map result_read xs)) (sym l) ∙ so_far
 
-pub trees_end : (ts : List trees.Stmt) (left : List Read) (all : List Stmt) → left ≡ [] → map stmt_of ts ++ trees_of (map shown left) ≡ all → map stmt_of ts ≡ all
-trees_end ts left all e so_far = sym (append_nil (map stmt_of ts)) ∙ ap (λ l. map stmt_of ts ++ trees_of (map shown l)) (sym e) ∙ so_far
+pub trees_end : (ts : List deck_trees.Stmt) (left : List Read) (all : List Stmt) → left ≡ [] → map stmt_of ts ++ trees_of (map result_read left) ≡ all → map stmt_of ts ≡ all
+trees_end ts left all e so_far = sym (append_nil (map stmt_of ts)) ∙ ap (λ l. map stmt_of ts ++ trees_of (map result_read l)) (sym e) ∙ so_far
 
 -- the causes that are told so far, with one more
 pub told_more : (all : List Bytes) (rs : List Read) (i : ℕ) (r : Read) (fs next : List StmtFault) (c : Option Cause) (whole : List StmtFault) → i < length rs → r ≡ get_or rs i r
-    → c ≡ cause_of (labels_of (map shown (take i rs))) all (result_of r.tree) → next ≡ fs ++ told r.number c
-    → fs ++ faults_of (labels_of (map shown (take i rs))) all (map shown (drop i rs)) ≡ whole
-    → next ++ faults_of (labels_of (map shown (take (i + 1) rs))) all (map shown (drop (i + 1) rs)) ≡ whole
+    → c ≡ cause_of (labels_of (map result_read (take i rs))) all (result_of r.tree) → next ≡ fs ++ fault_of r.number c
+    → fs ++ faults_of (labels_of (map result_read (take i rs))) all (map result_read (drop i rs)) ≡ whole
+    → next ++ faults_of (labels_of (map result_read (take (i + 1) rs))) all (map result_read (drop (i + 1) rs)) ≡ whole
 told_more all rs i r fs next c whole h is cause n so_far =
-    let rest = faults_of (labels_of (map shown (take (i + 1) rs))) all (map shown (drop (i + 1) rs)) in
-    ap (λ xs. xs ++ rest) n ∙ append_assoc fs (told r.number c) rest
-    ∙ ap (λ x. fs ++ (told r.number x ++ rest)) cause ∙ ap (λ xs. fs ++ xs) (sym (faults_turn all rs i r h is)) ∙ so_far
+    let rest = faults_of (labels_of (map result_read (take (i + 1) rs))) all (map result_read (drop (i + 1) rs)) in
+    ap (λ xs. xs ++ rest) n ∙ append_assoc fs (fault_of r.number c) rest
+    ∙ ap (λ x. fs ++ (fault_of r.number x ++ rest)) cause ∙ ap (λ xs. fs ++ xs) (sym (faults_turn all rs i r h is)) ∙ so_far
 
 pub told_all : (all : List Bytes) (rs : List Read) (i : ℕ) (fs whole : List StmtFault) → drop i rs ≡ []
-    → fs ++ faults_of (labels_of (map shown (take i rs))) all (map shown (drop i rs)) ≡ whole → fs ≡ whole
-told_all all rs i fs whole e so_far = sym (append_nil fs) ∙ ap (λ xs. fs ++ faults_of (labels_of (map shown (take i rs))) all (map shown xs)) (sym e) ∙ so_far
+    → fs ++ faults_of (labels_of (map result_read (take i rs))) all (map result_read (drop i rs)) ≡ whole → fs ≡ whole
+told_all all rs i fs whole e so_far = sym (append_nil fs) ∙ ap (λ xs. fs ++ faults_of (labels_of (map result_read (take i rs))) all (map result_read xs)) (sym e) ∙ so_far
 
 -- what one text gives, by what its tokens give
 pub is_cause : (text : Bytes) (c : Cause) → least_lexical (pieces text) ≡ Some c → read text ≡ Err c
@@ -167,7 +167,7 @@ other_cause found c ts (inl m) none other = absurd (other m)
 other_cause found c ts (inr n) none other = none n.1 ∙ ap Err (sym n.0)
 
 -- what the parser says of all tokens of a text
-pub parsed : (text : Bytes) (tokens given : List Token) (r : Result trees.Stmt Cause) → given ≡ tokens → least_lexical (pieces text) ≡ None → Cut text (map piece_of tokens)
+pub parsed : (text : Bytes) (tokens given : List Token) (r : Result deck_trees.Stmt Cause) → given ≡ tokens → least_lexical (pieces text) ≡ None → Cut text (map piece_of tokens)
     → IfOk r (λ s. Tree (stmt_of s) (toks given)) → IfErr r (λ c. (c ≡ cause.Memory) ⊎ ((c ≡ cause.NoTree) × HasNoTree (toks given))) → IsRead (read text) r
 parsed text tokens given (Ok s) same fair cut t c = is_tree text (stmt_of s) tokens fair cut (subst (λ ts. Tree (stmt_of s) (toks ts)) same t)
 parsed text tokens given (Err x) same fair cut t c = other_cause (read text) x (toks given) c (λ none. is_none text tokens fair cut (subst (λ ts. HasNoTree (toks ts)) same none))

@@ -5,7 +5,7 @@ use Rattle.model.specs.declared.causes.Cause.{Cause}
 use Rattle.model.specs.declared.causes.Cause.TheVariants as cause
 use Rattle.model.specs.declared.causes.StmtFault.{StmtFault}
 use Rattle.model.specs.declared.trees.Stmt as declared
-use Rattle.model.specs.Deck.Faults.{read, labels_of_read, tree_of_read, cause_of, told}
+use Rattle.model.specs.Deck.Faults.{read, labels_of_read, tree_of_read, cause_of, fault_of}
 use Rattle.model.specs.Deck.Trees.{Bytes, Stmt}
 use Rattle.model.specs.Deck.TreeViews.{stmt_of}
 use Rattle.parser.specs.declared.reading.Read.{Read}
@@ -26,8 +26,8 @@ Numbered = ℕ × Result Stmt Cause
 abbrev pub numbered : Statement → Numbered
 numbered s = (s.number, read s.text)
 
-abbrev pub shown : Read → Numbered
-shown r = (r.number, result_of r.tree)
+abbrev pub result_read : Read → Numbered
+result_read r = (r.number, result_of r.tree)
 
 -- ---- the definitions of faults, on what texts give
 
@@ -37,7 +37,7 @@ labels_of (r ∷ rs) = labels_of_read r.1 ++ labels_of rs
 
 abbrev pub faults_of : (earlier all : List Bytes) → List Numbered → List StmtFault
 faults_of earlier all [] = []
-faults_of earlier all (r ∷ rs) = told r.0 (cause_of earlier all r.1) ++ faults_of (earlier ++ labels_of_read r.1) all rs
+faults_of earlier all (r ∷ rs) = fault_of r.0 (cause_of earlier all r.1) ++ faults_of (earlier ++ labels_of_read r.1) all rs
 
 abbrev pub trees_of : List Numbered → List Stmt
 trees_of [] = []

@@ -5,7 +5,7 @@ use Rattle.model.specs.declared.causes.DeckFault.{DeckFault}
 use Rattle.model.specs.declared.causes.DeckFault.TheVariants as fault
 use Rattle.model.specs.declared.causes.StmtFault.{StmtFault}
 use Rattle.model.specs.declared.trees.Program.{Program}
-use Rattle.model.specs.Deck.Faults.{faults, trees}
+use Rattle.model.specs.Deck.Faults.{faults, deck_trees}
 use Rattle.model.specs.Deck.TreeViews.{program_of}
 
 -- these faulty statements, of which there is at least one, are told
@@ -18,5 +18,5 @@ IsRefusal faults (fault.Faulty fs) = AreTold faults fs
 IsRefusal faults fault.Memory = ⊤
 
 abbrev pub IsParsed : List Statement → Result Program (List StmtFault) → Type 0
-IsParsed statements (Ok p) = (faults statements ≡ []) × (program_of p ≡ trees statements)
+IsParsed statements (Ok p) = (faults statements ≡ []) × (program_of p ≡ deck_trees statements)
 IsParsed statements (Err fs) = AreTold (faults statements) fs

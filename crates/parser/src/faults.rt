@@ -3,7 +3,7 @@
 ghost use Rattle.std.specs.Prelude.{◌≡◌, ◌++◌, [], map, IfOk, OnOk};
 ghost use Rattle.model.specs.Deck.Faults as spec;
 ghost use Rattle.parser.specs.Labels.{AreSame};
-ghost use Rattle.parser.specs.Reads.{faults_of, labels_of, result_of, shown};
+ghost use Rattle.parser.specs.Reads.{faults_of, labels_of, result_of, result_read};
 
 use crate::labels::Labels;
 use crate::reading::Read;
@@ -13,7 +13,7 @@ use std::alloc::{AllocError, Global};
 
 // The labels that are given by statements with a tree.
 fn labels(alloc: Global, reads: &[Read]) -> Result<Labels<'_>, AllocError>
-    ensures { IfOk result (λ ls. AreSame ls (labels_of (map shown reads.now))) }
+    ensures { IfOk result (λ ls. AreSame ls (labels_of (map result_read reads.now))) }
 {
     let mut labels = Labels::new(alloc);
     for read in reads {
@@ -33,7 +33,7 @@ fn cause(read: &Read, earlier: &Labels<'_>, all: &Labels<'_>) -> Option<Cause>
 }
 
 fn tell(faults: &mut Seq<StmtFault>, number: u32, cause: Option<Cause>) -> Result<(), AllocError>
-    ensures { OnOk result (faults.new ≡ faults.old ++ spec.told number cause) }
+    ensures { OnOk result (faults.new ≡ faults.old ++ spec.fault_of number cause) }
 {
     match cause {
         Some(cause) => faults.push(StmtFault { number, cause }),
@@ -43,7 +43,7 @@ fn tell(faults: &mut Seq<StmtFault>, number: u32, cause: Option<Cause>) -> Resul
 
 /// The faulty ones of these statements, in order.
 pub(crate) fn faults(alloc: Global, reads: &[Read]) -> Result<Seq<StmtFault>, AllocError>
-    ensures { IfOk result (λ fs. fs ≡ faults_of [] (labels_of (map shown reads.now)) (map shown reads.now)) }
+    ensures { IfOk result (λ fs. fs ≡ faults_of [] (labels_of (map result_read reads.now)) (map result_read reads.now)) }
 {
     let all = labels(alloc, reads)?;
     let mut earlier = Labels::new(alloc);

@@ -76,7 +76,7 @@ impl<'a> Labels<'a> {
 
     /// Whether a label is there.
     pub(crate) fn contains(&self, label: &[u8]) -> bool
-        ensures { result ≡ faults.is_among label.now self.now }
+        ensures { result ≡ faults.is_one_of label.now self.now }
     {
         self.set.contains(label)
     }

@@ -41,7 +41,7 @@ fn parse(alloc: Global, deck: &Deck) -> Result<Result<Program, Seq<StmtFault>>, 
 pub fn parse_deck(alloc: Global, deck: &Deck) -> Result<Program, DeckFault>
     // A deck that is accepted has no faulty statement, and the program has its trees.
     ensures faultless { IfOk result (λ p. spec.faults deck.now.statements ≡ []) }
-    ensures program { IfOk result (λ p. program_of p ≡ spec.trees deck.now.statements) }
+    ensures program { IfOk result (λ p. program_of p ≡ spec.deck_trees deck.now.statements) }
     // A deck that is refused has faulty statements, and all are told; want of memory says nothing of the deck.
     ensures refused { IfErr result (λ f. IsRefusal (spec.faults deck.now.statements) f) }
 {

@@ -3,7 +3,7 @@
 ghost use Rattle.std.specs.Prelude.{◌≡◌, map, IfOk};
 ghost use Rattle.model.specs.Deck.Faults as faults;
 ghost use Rattle.model.specs.Deck.TreeViews.{stmt_of};
-ghost use Rattle.parser.specs.Reads.{IsRead, numbered, shown, trees_of};
+ghost use Rattle.parser.specs.Reads.{IsRead, numbered, result_read, trees_of};
 
 use lexer::lex;
 use model::{Cause, Statement, Stmt};
@@ -27,7 +27,7 @@ fn tree(alloc: Global, text: &[u8]) -> Result<Stmt, Cause>
 }
 
 fn read_statement(alloc: Global, statement: &Statement) -> Result<Read, AllocError>
-    ensures { IfOk result (λ r. shown r ≡ numbered statement.now) }
+    ensures { IfOk result (λ r. result_read r ≡ numbered statement.now) }
 {
     let number = statement.number;
     match tree(alloc, statement.text.as_slice()) {
@@ -38,7 +38,7 @@ fn read_statement(alloc: Global, statement: &Statement) -> Result<Read, AllocErr
 
 /// Reads each statement.
 pub(crate) fn read_all(alloc: Global, statements: &[Statement]) -> Result<Vec<Read>, AllocError>
-    ensures { IfOk result (λ rs. map shown rs.items ≡ map numbered statements.now) }
+    ensures { IfOk result (λ rs. map result_read rs.items ≡ map numbered statements.now) }
 {
     let mut reads = Vec::new(alloc);
     for statement in statements {
@@ -50,7 +50,7 @@ pub(crate) fn read_all(alloc: Global, statements: &[Statement]) -> Result<Vec<Re
 
 /// The trees of those that have one.
 pub(crate) fn trees(alloc: Global, reads: Vec<Read>) -> Result<Vec<Stmt>, AllocError>
-    ensures { IfOk result (λ ts. map stmt_of ts.items ≡ trees_of (map shown reads.items)) }
+    ensures { IfOk result (λ ts. map stmt_of ts.items ≡ trees_of (map result_read reads.items)) }
 {
     let mut trees = Vec::new(alloc);
     for read in reads {

@@ -94,7 +94,7 @@ fn targets_fit(statement: &Stmt, kept: Kept) -> bool
 }
 
 fn is_return(label: &[u8]) -> bool
-    ensures { result ≡ faults.is_among label.now faults.returns }
+    ensures { result ≡ faults.is_one_of label.now faults.returns }
 {
     label == b"RETURN".as_slice()
         || label == b"FRETURN".as_slice()

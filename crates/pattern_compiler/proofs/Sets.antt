@@ -7,10 +7,10 @@ use Rattle.std.specs.Option.{IfSome}
 use Rattle.std.proofs.lemmas.List.FromFn.{get_or-map-range_with_len}
 use Rattle.std.proofs.lemmas.List.Sums.{prefix_len_is, prefix_len-le-length}
 use Rattle.memchr.specs.Find.{IsFirstByte, is_byte}
-use Rattle.model.specs.Pattern.BasicEnds.{is_among}
+use Rattle.model.specs.Pattern.BasicEnds.{is_in_set}
 use Rattle.model.specs.Language.Strings.{has, flags_of, break_to}
 
-pub has-flags_of : (w : List ℕ) (b : ℕ) → b < 256 → has (flags_of w) b ≡ is_among w b
+pub has-flags_of : (w : List ℕ) (b : ℕ) → b < 256 → has (flags_of w) b ≡ is_in_set w b
 has-flags_of w b lt = get_or-map-range_with_len (λ k. list_any (λ x. x == k) w) 0 256 b b false lt (omega arith)
 
 pub prefix_len-same : (p q : ℕ → Bool) (xs : List ℕ) → ((k : ℕ) → p (get_or xs k 0) ≡ q (get_or xs k 0)) → prefix_len p xs ≡ prefix_len q xs
@@ -19,15 +19,15 @@ prefix_len-same p q (x ∷ xs) h =
     ap (λ b. cond b (1 + prefix_len p xs) 0) (h 0)
     ∙ ap (λ n. cond (q x) (1 + n) 0) (prefix_len-same p q xs (λ k. h (suc k)))
 
-pub span_by_flags : (w xs : List ℕ) (flags : List Bool) → flags ≡ flags_of w → ((k : ℕ) → get_or xs k 0 < 256) → prefix_len (has flags) xs ≡ prefix_len (is_among w) xs
+pub span_by_flags : (w xs : List ℕ) (flags : List Bool) → flags ≡ flags_of w → ((k : ℕ) → get_or xs k 0 < 256) → prefix_len (has flags) xs ≡ prefix_len (is_in_set w) xs
 span_by_flags w xs flags e bytes =
     ap (λ fs. prefix_len (has fs) xs) e
-    ∙ prefix_len-same (has (flags_of w)) (is_among w) xs (λ k. has-flags_of w (get_or xs k 0) (bytes k))
+    ∙ prefix_len-same (has (flags_of w)) (is_in_set w) xs (λ k. has-flags_of w (get_or xs k 0) (bytes k))
 
-pub break_by_flags : (w xs : List ℕ) (flags : List Bool) → flags ≡ flags_of w → ((k : ℕ) → get_or xs k 0 < 256) → prefix_len (λ b. not (has flags b)) xs ≡ prefix_len (λ b. not (is_among w b)) xs
+pub break_by_flags : (w xs : List ℕ) (flags : List Bool) → flags ≡ flags_of w → ((k : ℕ) → get_or xs k 0 < 256) → prefix_len (λ b. not (has flags b)) xs ≡ prefix_len (λ b. not (is_in_set w b)) xs
 break_by_flags w xs flags e bytes =
     ap (λ fs. prefix_len (λ b. not (has fs b)) xs) e
-    ∙ prefix_len-same (λ b. not (has (flags_of w) b)) (λ b. not (is_among w b)) xs (λ k. ap not (has-flags_of w (get_or xs k 0) (bytes k)))
+    ∙ prefix_len-same (λ b. not (has (flags_of w) b)) (λ b. not (is_in_set w b)) xs (λ k. ap not (has-flags_of w (get_or xs k 0) (bytes k)))
 
 abbrev pub number_or : ℕ → Option ℕ → ℕ
 number_or d (Some n) = n
@@ -45,29 +45,29 @@ stops_at k n o le h = stop_by (nat_lt k n) refl
         ap (number_or n) h ∙ ap (λ b. number_or n (if b then Some k else None)) t ∙ e
 
 -- where the first byte of a table stands, or the end
-pub first_of_table : (w xs : List ℕ) (flags : List Bool) (o : Option ℕ) → flags ≡ flags_of w → ((k : ℕ) → get_or xs k 0 < 256) → o ≡ break_to xs 0 flags → number_or (length xs) o ≡ prefix_len (λ b. not (is_among w b)) xs
+pub first_of_table : (w xs : List ℕ) (flags : List Bool) (o : Option ℕ) → flags ≡ flags_of w → ((k : ℕ) → get_or xs k 0 < 256) → o ≡ break_to xs 0 flags → number_or (length xs) o ≡ prefix_len (λ b. not (is_in_set w b)) xs
 first_of_table w xs flags o e bytes h =
     let before = prefix_len (λ b. not (has flags b)) xs in
     let within : 0 + before ≤ length xs = omega (arith, prefix_len-le-length (λ b. not (has flags b)) xs) in
     let none : 0 + before ≡ before = omega arith in
     stops_at (0 + before) (length xs) o within h ∙ none ∙ break_by_flags w xs flags e bytes
 
-differs : (a b : ℕ) → ¬ ((b == a) ≡ true) → not (is_among (a ∷ []) b) ≡ true
+differs : (a b : ℕ) → ¬ ((b == a) ≡ true) → not (is_in_set (a ∷ []) b) ≡ true
 differs a b ne = grind (arith, nat_tests, ne)
 
-agrees : (a b : ℕ) → (b == a) ≡ true → not (is_among (a ∷ []) b) ≡ false
+agrees : (a b : ℕ) → (b == a) ≡ true → not (is_in_set (a ∷ []) b) ≡ false
 agrees a b e = grind (arith, nat_tests, e)
 
 -- where a byte first stands, or the end
-pub first_of_byte : (a : ℕ) (xs : List ℕ) (o : Option ℕ) → IsFirstByte (is_byte a) xs o → number_or (length xs) o ≡ prefix_len (λ b. not (is_among (a ∷ []) b)) xs
+pub first_of_byte : (a : ℕ) (xs : List ℕ) (o : Option ℕ) → IsFirstByte (is_byte a) xs o → number_or (length xs) o ≡ prefix_len (λ b. not (is_in_set (a ∷ []) b)) xs
 first_of_byte a xs (Some k) h =
-    sym (prefix_len_is (λ b. not (is_among (a ∷ []) b)) xs k 0 (omega (arith, h.0.high))
-      (λ j lt. differs a (get_or xs j 0) (h.0.before j (omega arith) lt))
-      (λ lt. agrees a (get_or xs k 0) h.1))
+    sym (prefix_len_is (λ b. not (is_in_set (a ∷ []) b)) xs k 0 (omega (arith, h.0.high))
+    (λ j lt. differs a (get_or xs j 0) (h.0.before j (omega arith) lt))
+    (λ lt. agrees a (get_or xs k 0) h.1))
 first_of_byte a xs None h =
-    sym (prefix_len_is (λ b. not (is_among (a ∷ []) b)) xs (length xs) 0 (omega arith)
-      (λ j lt. differs a (get_or xs j 0) (h j (omega arith) lt))
-      (λ lt. absurd (omega arith)))
+    sym (prefix_len_is (λ b. not (is_in_set (a ∷ []) b)) xs (length xs) 0 (omega arith)
+    (λ j lt. differs a (get_or xs j 0) (h j (omega arith) lt))
+    (λ lt. absurd (omega arith)))
 
 pub at_some : {T : Type 0} (o : Option T) (t : T) (P : T → Type 0) → o ≡ Some t → IfSome o P → P t
 at_some o t P e h = subst (λ p. IfSome p P) e h

@@ -15,7 +15,7 @@ use Rattle.pattern_compiler.specs.declared.instr.Kind.TheVariants as kind
 use Rattle.pattern_compiler.specs.declared.instr.Instr.{Instr}
 use Rattle.pattern_compiler.specs.declared.instr.Instr.TheVariants as instr
 
-abbrev pub name_of : Name → p.Name
+abbrev pub name_of : Name → target.Name
 name_of (name.Variable x) = target.Variable x
 name_of (name.Element o i) = target.Element o i
 name_of (name.IntegerKey o k) = target.IntegerKey o k

@@ -2,9 +2,10 @@
 
 ghost use Rattle.std.specs.Prelude.{◌≡◌, ◌≤◌, ◌+◌, [], ◌∷◌, ◌++◌, ℕ, Option, IfOk, OnOk, length};
 ghost use Rattle.model.specs.Pattern.Patterns as pattern;
-ghost use Rattle.model.specs.Pattern.Patterns.{Pat, Expr};
+ghost use Rattle.model.specs.Pattern.Patterns.{Pat};
 ghost use Rattle.model.specs.Pattern.Code.{exits_past, exit_past, alt_code, cat_code, arbno_code, fence_code, cond_code, imm_code};
 ghost use Rattle.model.specs.Pattern.Stands.{Stands};
+ghost use Rattle.model.specs.Deck.Trees.{Expr};
 ghost use Rattle.pattern_compiler.specs.View.{instr_of, name_of, code_of};
 
 use crate::code::PatCode;

@@ -2,7 +2,7 @@
 
 ghost use Rattle.std.specs.Prelude.{◌≡◌, ◌≤◌, ℕ, List, [], ◌∷◌, length, not, IfOk};
 ghost use Rattle.std.specs.List.{prefix_len};
-ghost use Rattle.model.specs.Pattern.BasicEnds.{is_among};
+ghost use Rattle.model.specs.Pattern.BasicEnds.{is_in_set};
 ghost use Rattle.model.specs.Language.Strings.{flags_of};
 
 use memchr::memchr;
@@ -55,7 +55,7 @@ impl Set {
 
     /// Whether a byte is in the set.
     pub fn has(&self, byte: u8) -> bool
-        ensures { result ≡ is_among self.now byte }
+        ensures { result ≡ is_in_set self.now byte }
     {
         match &self.table {
             Some(table) => table.as_ref().has(byte),
@@ -65,7 +65,7 @@ impl Set {
 
     /// How many bytes of the set come first.
     pub fn span_len(&self, bytes: &[u8]) -> usize
-        ensures value { result ≡ prefix_len (is_among self.now) bytes.now }
+        ensures value { result ≡ prefix_len (is_in_set self.now) bytes.now }
         ensures within { result ≤ length bytes.now }
     {
         match &self.table {
@@ -76,7 +76,7 @@ impl Set {
 
     /// How many bytes come before the first of the set.
     pub fn break_len(&self, bytes: &[u8]) -> usize
-        ensures value { result ≡ prefix_len (λ b. not (is_among self.now b)) bytes.now }
+        ensures value { result ≡ prefix_len (λ b. not (is_in_set self.now b)) bytes.now }
         ensures within { result ≤ length bytes.now }
     {
         if let [byte] = self.text.as_slice() {
@@ -91,7 +91,7 @@ impl Set {
 
 // How many bytes of the table come first.
 fn span_by(bytes: &[u8], table: &ByteSet) -> usize
-    ensures value { (w : List ℕ) → table.now ≡ flags_of w → result ≡ prefix_len (is_among w) bytes.now }
+    ensures value { (w : List ℕ) → table.now ≡ flags_of w → result ≡ prefix_len (is_in_set w) bytes.now }
     ensures within { result ≤ length bytes.now }
 {
     span_end(bytes, 0, table)
@@ -99,7 +99,7 @@ fn span_by(bytes: &[u8], table: &ByteSet) -> usize
 
 // How many bytes come before the first of the table.
 fn break_by(bytes: &[u8], table: &ByteSet) -> usize
-    ensures value { (w : List ℕ) → table.now ≡ flags_of w → result ≡ prefix_len (λ b. not (is_among w b)) bytes.now }
+    ensures value { (w : List ℕ) → table.now ≡ flags_of w → result ≡ prefix_len (λ b. not (is_in_set w b)) bytes.now }
     ensures within { result ≤ length bytes.now }
 {
     match break_end(bytes, 0, table) {
@@ -110,7 +110,7 @@ fn break_by(bytes: &[u8], table: &ByteSet) -> usize
 
 // How many bytes come before the first that is this one.
 fn break_at(bytes: &[u8], byte: u8) -> usize
-    ensures value { result ≡ prefix_len (λ b. not (is_among (byte ∷ []) b)) bytes.now }
+    ensures value { result ≡ prefix_len (λ b. not (is_in_set (byte ∷ []) b)) bytes.now }
     ensures within { result ≤ length bytes.now }
 {
     match memchr(byte, bytes) {

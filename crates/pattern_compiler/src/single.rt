@@ -2,9 +2,9 @@
 
 ghost use Rattle.std.specs.Prelude.{◌≡◌, [], ◌∷◌, ℕ, Option, Some, IfOk};
 ghost use Rattle.model.specs.Pattern.Patterns as pattern;
-ghost use Rattle.model.specs.Pattern.Patterns.{Expr};
 ghost use Rattle.model.specs.Pattern.Code.{basic_code, cursor_code, defer_code, defer_basic_code};
 ghost use Rattle.model.specs.Pattern.Stands.{Stands};
+ghost use Rattle.model.specs.Deck.Trees.{Expr};
 ghost use Rattle.pattern_compiler.specs.View.{basic_of, instr_of, kind_of, name_of};
 
 use crate::code::PatCode;

@@ -3,7 +3,7 @@ use Rattle.std.proofs.Common.{◌≡◌, ℕ, refl}
 use Rattle.model.specs.Language.Conversions.{Conv, Got, Bad, Op, Gives, conv, then_conv, answer_of}
 use Rattle.model.specs.Machine.Steps.{PCode, MVal, MW, codes_of}
 use Rattle.model.specs.Language.Operators.{kind_op}
-use Rattle.model.specs.Pattern.Patterns.{Kind, Answer, want_of, with_answer}
+use Rattle.model.specs.Pattern.Patterns.{Kind, Answer, want_of_kind, with_answer}
 use Rattle.model.specs.Pattern.Code.{basic_code}
 use Rattle.model.specs.Language.Values.{Pat}
 use Rattle.world.specs.declared.value.Value.{Value}
@@ -18,8 +18,8 @@ conv-then (Bad e) f w k = refl
 abbrev answer_given : Kind → Conv (Answer PCode) → MW → Op MW MVal
 answer_given k c w = conv c w (λ y. Gives (Pat (basic_code (with_answer k y))) w)
 
-by_known : (k : Kind) (u : MVal) (w : MW) → answer_given k (answer_of codes_of (want_of k) u) w ≡ known_op k u w
-by_known k u w = conv-then (answer_of codes_of (want_of k) u) (with_answer k) w (λ b. Gives (Pat (basic_code b)) w)
+by_known : (k : Kind) (u : MVal) (w : MW) → answer_given k (answer_of codes_of (want_of_kind k) u) w ≡ known_op k u w
+by_known k u w = conv-then (answer_of codes_of (want_of_kind k) u) (with_answer k) w (λ b. Gives (Pat (basic_code b)) w)
 
 pub kind_is_known : (k : Kind) (x : Value) (w : MW) → ((e : ℕ) → x ≡ v.Expression e → ⊥) → kind_op codes_of k (value_of x) w ≡ known_op k (value_of x) w
 kind_is_known k (v.String s) w h = by_known k (value_of (v.String s)) w

@@ -2,7 +2,7 @@
 use Rattle.std.specs.Prelude.{ℕ}
 use Rattle.model.specs.Deck.Trees.{Bytes}
 use Rattle.model.specs.Language.Conversions.{Conv, Got, Op, Gives, conv, then_conv, to_text, to_integer, to_pattern, count_of, set_of, answer_of}
-use Rattle.model.specs.Pattern.Patterns.{Basic, Kind, want_of, with_answer}
+use Rattle.model.specs.Pattern.Patterns.{Basic, Kind, want_of_kind, with_answer}
 use Rattle.model.specs.Pattern.Code.{basic_code}
 use Rattle.model.specs.Language.Values.{Pat}
 use Rattle.model.specs.Machine.Steps.{MVal, MW, codes_of}
@@ -15,7 +15,7 @@ to_set v = then_conv (to_text v) set_of
 
 -- the part that a kind is with this argument
 abbrev pub part_of : Kind → MVal → Conv Basic
-part_of k v = then_conv (answer_of codes_of (want_of k) v) (λ y. Got (with_answer k y))
+part_of k v = then_conv (answer_of codes_of (want_of_kind k) v) (λ y. Got (with_answer k y))
 
 -- the pattern of a kind whose argument isn't an expression
 abbrev pub known_op : Kind → MVal → MW → Op MW MVal

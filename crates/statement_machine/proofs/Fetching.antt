@@ -15,7 +15,7 @@ use Rattle.frames.specs.declared.operand.Operand.{Operand}
 use Rattle.frames.specs.declared.operand.Operand.TheVariants as operand
 use Rattle.frames.specs.View.{operands_of, handlers_of}
 use Rattle.world.specs.Answers.{Answers, AnswersOrFails}
-use Rattle.world.specs.Held.{Held, world_of}
+use Rattle.world.specs.Held.{WorldView, world_of}
 use Rattle.world.specs.Values.{value_of}
 use Rattle.world.specs.declared.value.Value.{Value}
 use Rattle.world.specs.declared.world_operators.Span.{Span}
@@ -30,14 +30,14 @@ use Rattle.statement_machine.proofs.Telling.{no_records}
 use Rattle.world.proofs.Telling.{told_on}
 
 -- on from these operands and handlers after any operation that has this answer
-abbrev pub Goes : (q : ℕ) → Result (record {}) Fault → Held → List m.Operand → List m.Handler → Result (Unit {0}) Halt → State → Type 0
+abbrev pub Goes : (q : ℕ) → Result (record {}) Fault → WorldView → List m.Operand → List m.Handler → Result (Unit {0}) Halt → State → Type 0
 Goes q answer mid ops hs r new = (io : Io) (o : Op MW (record {})) → Answers answer (world_of mid io) o → Left r new io (after_op o hs ops [] (λ u w. Run q ops hs [] w))
 
 -- on with the value of any operation that has this answer
-abbrev pub GoesWith : (q : ℕ) → Result (Option MVal) Fault → Held → List m.Operand → List m.Handler → Result (Unit {0}) Halt → State → Type 0
+abbrev pub GoesWith : (q : ℕ) → Result (Option MVal) Fault → WorldView → List m.Operand → List m.Handler → Result (Unit {0}) Halt → State → Type 0
 GoesWith q answer mid ops hs r new = (io : Io) (o : Op MW MVal) → AnswersOrFails answer (world_of mid io) o → Left r new io (after_op o hs ops [] (λ v w. Run q (OV v ∷ ops) hs [] w))
 
-module _ (im : Image) (q : ℕ) (s new : State) (mid : Held) (r : Result (Unit {0}) Halt) (rest : List Operand) (n : Name) where
+module _ (im : Image) (q : ℕ) (s new : State) (mid : WorldView) (r : Result (Unit {0}) Halt) (rest : List Operand) (n : Name) where
   abbrev hs : List m.Handler
   hs = handlers_of s.handlers
 

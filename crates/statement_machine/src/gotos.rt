@@ -4,8 +4,8 @@ ghost use Rattle.std.specs.Prelude.{◌≡◌, ◌≢◌, ◌∷◌, ℕ, [], Ok
 ghost use Rattle.model.specs.Language.Io.{Io};
 ghost use Rattle.model.specs.Language.Calls.{return_of};
 ghost use Rattle.model.specs.Module.Flow.{V};
-ghost use Rattle.model.specs.Machine.Steps.{to_return};
-ghost use Rattle.model.specs.Module.Images.{module_of, statement_at};
+ghost use Rattle.model.specs.Machine.Steps.{go_to_return};
+ghost use Rattle.model.specs.Module.Images.{module_of, statement_offset};
 ghost use Rattle.model.specs.declared.image.Image.{Image};
 ghost use Rattle.model.specs.declared.instr.ReturnKind.{ReturnKind};
 ghost use Rattle.model.specs.declared.run.Stop.TheVariants.{NoMemory};
@@ -25,7 +25,7 @@ use world::Fault;
 impl State {
     /// To the statement of that number.
     pub(crate) fn goto(&mut self, program: &Module, number: u32)
-        requires there { statement_at program.now.statements number ≢ None }
+        requires there { statement_offset program.now.statements number ≢ None }
         requires operands { self.old.operands ≡ [] }
         requires handlers { self.old.handlers ≡ [] }
         ensures { (next : ℕ) (io : Io) → Left (Ok tt) self.new io (after program.now (Instr.Goto number) next self.old io) }
@@ -56,7 +56,7 @@ impl State {
         requires runnable { IsRunnable program.now }
         requires operands { self.old.operands ≡ [] }
         requires handlers { self.old.handlers ≡ [] }
-        ensures left { (io : Io) → Left result self.new io (to_return (module_of program.now) label.now (return_of label.now) [] (world_of self.old.world io)) }
+        ensures left { (io : Io) → Left result self.new io (go_to_return (module_of program.now) label.now (return_of label.now) [] (world_of self.old.world io)) }
         ensures stop { IfHalted result (λ stop. stop ≡ NoMemory) }
     {
         if return_of(label).is_some() {

@@ -3,7 +3,7 @@
 ghost use Rattle.std.specs.Prelude.{◌≡◌, Option, Some, None, IfOk};
 ghost use Rattle.model.specs.Language.Io.{Io};
 ghost use Rattle.model.specs.Language.Told.{IfTold};
-ghost use Rattle.model.specs.Laws.Agreement.{first_m, mach};
+ghost use Rattle.model.specs.Laws.Agreement.{first_m, machine_at};
 ghost use Rattle.model.specs.Laws.PrintedBefore.{after_s, seen_after};
 ghost use Rattle.model.specs.Machine.Steps as m;
 ghost use Rattle.model.specs.Machine.Steps.{begun, steps};
@@ -87,7 +87,7 @@ pub fn run_from_entry<U: Units>(
 ) -> Status
     // What was printed is what was printed before, followed by what the machine prints.
     ensures run { IfRan result (IfTold (U.told units.old) (U.told units.new) (λ io io'.
-        record { ending = ending_of result; printed = io'.printed } ≡ seen_after io.printed (mach program.now io.left bound))) }
+        record { ending = ending_of result; printed = io'.printed } ≡ seen_after io.printed (machine_at program.now io.left bound))) }
     // What is left to be read on each unit is what the machine leaves there.
     ensures left { IfRan result (IfTold (U.told units.old) (U.told units.new) (λ io io'. io'.left ≡ left_after program.now io.left bound)) }
     ensures kept { IfRan result (Same (U.failures units.old) (U.failures units.new)) }

@@ -6,7 +6,7 @@ use Rattle.model.specs.declared.trees.Argument.{Argument}
 use Rattle.model.specs.declared.trees.Binary.{Binary}
 use Rattle.model.specs.declared.trees.Binary.TheVariants as binary
 use Rattle.model.specs.Deck.Grammar.{grade}
-use Rattle.model.specs.Deck.Parse.{Parser, bind, Next, Ends, Sees, next, on, lefts, rights, graded, one, several, sees, tail}
+use Rattle.model.specs.Deck.Parse.{Parser, bind, Onward, Ends, Sees, next, on, lefts, rights, graded, one_argument, several, sees, tail}
 use Rattle.model.specs.Deck.Tokens.{Tok}
 use Rattle.model.specs.Deck.Trees.{Expr, Combine, Arg, Args, Nil, More}
 use Rattle.model.specs.Deck.TreeViews.{arg_of, args_of}
@@ -22,7 +22,7 @@ one_more f n at below e = let turn : n - at ≡ suc (n - (at + 1)) = omega arith
 pub no_more : {X : Type 0} {x : X} (f : ℕ → X) (n at : ℕ) → n ≤ at → x ≡ f (n - at) → x ≡ f 0
 no_more f n at done e = let none : n - at ≡ 0 = omega arith in e ∙ ap f none
 
-on_miss : {A : Type 0} (x : Next) (k : ℕ) (stop : A) (go : Binary → List Tok → A) → Misses k x → on x k stop go ≡ stop
+on_miss : {A : Type 0} (x : Onward) (k : ℕ) (stop : A) (go : Binary → List Tok → A) → Misses k x → on x k stop go ≡ stop
 unfolding on
 on_miss Ends k stop go p = refl
 on_miss (Sees op ts) k stop go p = let miss : (grade op == k) ≡ false = grind (arith, p) in rw miss refl
@@ -129,7 +129,7 @@ module _ (inner : Parser Expr) (n : ℕ) (ts rest : List Tok) (found : List Argu
   abbrev after_one : Arg → Parser Args
   after_one arg end = if sees mark.Comma end then bind (several inner n (tail end)) (λ args last. Some (More arg args, last)) else Some (More arg Nil, end)
 
-  pub several_go : one inner ts ≡ Some (arg_of x, rest) → sees mark.Comma rest ≡ true → prepend (args_of found) (several inner (suc n) ts) ≡ prepend (args_of (found ++ x ∷ [])) (several inner n (tail rest))
+  pub several_go : one_argument inner ts ≡ Some (arg_of x, rest) → sees mark.Comma rest ≡ true → prepend (args_of found) (several inner (suc n) ts) ≡ prepend (args_of (found ++ x ∷ [])) (several inner n (tail rest))
   unfolding several bind
   several_go o s = ap (λ r. prepend (args_of found) (bind r after_one)) o ∙ rw s (into (several inner n (tail rest)))
     where
@@ -137,7 +137,7 @@ module _ (inner : Parser Expr) (n : ℕ) (ts rest : List Tok) (found : List Argu
       into None = refl
       into (Some p) = rw (args_last found x) (ap (λ y. Some (y, p.1)) (sym (join_assoc (args_of found) (More (arg_of x) Nil) p.0)))
 
-  pub several_end : one inner ts ≡ Some (arg_of x, rest) → sees mark.Comma rest ≡ false → prepend (args_of found) (several inner (suc n) ts) ≡ Some (args_of (found ++ x ∷ []), rest)
+  pub several_end : one_argument inner ts ≡ Some (arg_of x, rest) → sees mark.Comma rest ≡ false → prepend (args_of found) (several inner (suc n) ts) ≡ Some (args_of (found ++ x ∷ []), rest)
   unfolding several bind
   several_end o s = ap (λ r. prepend (args_of found) (bind r after_one)) o ∙ rw (s, args_last found x) refl
 

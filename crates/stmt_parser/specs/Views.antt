@@ -4,7 +4,7 @@ use Rattle.model.specs.declared.tokens.Token.{Token}
 use Rattle.model.specs.declared.trees.Binary.{Binary}
 use Rattle.model.specs.Deck.Grammar.{grade}
 use Rattle.model.specs.Deck.Parse as spec
-use Rattle.model.specs.Deck.Parse.{Next, Ends, Sees, next}
+use Rattle.model.specs.Deck.Parse.{Onward, Ends, Sees, next}
 use Rattle.model.specs.Deck.Tokens.{Tok, Blank, tok}
 use Rattle.model.specs.Deck.Trees as tree
 use Rattle.model.specs.Deck.Trees.{Args}
@@ -46,7 +46,7 @@ abbrev pub SeenAfter : Tok → List Tok → Option Binary → ℕ → Type 0
 SeenAfter t ts o n = Seen (Blank ∷ t ∷ ts) o n
 
 -- no operator of this grade comes next
-abbrev pub Misses : ℕ → Next → Type 0
+abbrev pub Misses : ℕ → Onward → Type 0
 Misses k Ends = ⊤
 Misses k (Sees op ts) = grade op ≡ k → ⊥
 

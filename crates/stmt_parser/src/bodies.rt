@@ -12,9 +12,9 @@ use model::{Body, Expr, Mark};
 use std::alloc::Global;
 
 /// `[B subject [B pattern] [B = [B object]]]`
-#[tactic(auto, unfolding(model::specs::Deck::ParseStatements::body, model::specs::Deck::Parse::bind))]
+#[tactic(auto, unfolding(model::specs::Deck::ParseStatements::body_parser, model::specs::Deck::Parse::bind))]
 pub(crate) fn body(alloc: Global, cursor: &mut Cursor<'_>, depth: usize) -> Result<Body, Stop>
-    ensures { Reads body_of (spec.body depth cursor.old) result cursor.new }
+    ensures { Reads body_of (spec.body_parser depth cursor.old) result cursor.new }
 {
     if !cursor.enter() {
         return Ok(Body::Nothing);
@@ -77,9 +77,9 @@ fn after_pattern(
 }
 
 /// `[B object]`
-#[tactic(auto, unfolding(model::specs::Deck::ParseStatements::object, model::specs::Deck::Parse::bind))]
+#[tactic(auto, unfolding(model::specs::Deck::ParseStatements::object_parser, model::specs::Deck::Parse::bind))]
 fn object(alloc: Global, cursor: &mut Cursor<'_>, depth: usize) -> Result<Option<Expr>, Stop>
-    ensures { Reads object_of (spec.object depth cursor.old) result cursor.new }
+    ensures { Reads object_of (spec.object_parser depth cursor.old) result cursor.new }
 {
     if !cursor.enter() {
         return Ok(None);

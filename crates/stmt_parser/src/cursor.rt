@@ -196,7 +196,7 @@ impl<'a> Cursor<'a> {
 }
 
 fn is_blank(token: &Token<'_>) -> bool
-    ensures { result ≡ ahead.is_blank (tok token.now) }
+    ensures { result ≡ ahead.is_blank_tok (tok token.now) }
 {
     match token.kind {
         TokenKind::Blank => true,

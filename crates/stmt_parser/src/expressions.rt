@@ -145,9 +145,9 @@ fn bracketed(alloc: Global, cursor: &mut Cursor<'_>, depth: usize) -> Result<Exp
 
 /// A name, a call or a reference, after the name.
 #[cycle(expr)]
-#[tactic(auto, unfolding(model::specs::Deck::Parse::named, model::specs::Deck::Parse::bind, model::specs::Deck::Parse::expect))]
+#[tactic(auto, unfolding(model::specs::Deck::Parse::after_name, model::specs::Deck::Parse::bind, model::specs::Deck::Parse::expect))]
 fn named(alloc: Global, cursor: &mut Cursor<'_>, depth: usize, name: &[u8]) -> Result<Expr, Stop>
-    ensures { Reads expr_of (spec.named (spec.whole depth) name.now cursor.old) result cursor.new }
+    ensures { Reads expr_of (spec.after_name (spec.whole depth) name.now cursor.old) result cursor.new }
 {
     let name = Vec::from_slice(alloc, name)?;
     let turns = cursor.len();
@@ -193,9 +193,9 @@ fn several(
 
 /// One argument.
 #[cycle(expr)]
-#[tactic(auto, unfolding(model::specs::Deck::Parse::one, model::specs::Deck::Parse::bind))]
+#[tactic(auto, unfolding(model::specs::Deck::Parse::one_argument, model::specs::Deck::Parse::bind))]
 fn one(alloc: Global, cursor: &mut Cursor<'_>, depth: usize) -> Result<Argument, Stop>
-    ensures { Reads arg_of (spec.one (spec.whole depth) cursor.old) result cursor.new }
+    ensures { Reads arg_of (spec.one_argument (spec.whole depth) cursor.old) result cursor.new }
 {
     cursor.skip();
     if !cursor.starts() {

@@ -89,9 +89,9 @@ fn in_brackets(alloc: Global, cursor: &mut Cursor<'_>, depth: usize) -> Result<P
 }
 
 /// A label, or `$` directly before an element.
-#[tactic(auto, unfolding(model::specs::Deck::ParseStatements::place, model::specs::Deck::Parse::bind))]
+#[tactic(auto, unfolding(model::specs::Deck::ParseStatements::place_parser, model::specs::Deck::Parse::bind))]
 fn place(alloc: Global, cursor: &mut Cursor<'_>, depth: usize) -> Result<Place, Stop>
-    ensures { Reads place_of (spec.place depth cursor.old) result cursor.new }
+    ensures { Reads place_of (spec.place_parser depth cursor.old) result cursor.new }
 {
     if cursor.eat(Mark::Dollar) {
         return Ok(Place::Computed(element(alloc, cursor, depth)?));

@@ -2,7 +2,7 @@
 
 ghost use Rattle.std.specs.Prelude.{◌≡◌, ◌≤◌, length, pos, true, IfOk, map};
 ghost use Rattle.model.specs.Deck.Cut.{all, is_digit};
-ghost use Rattle.model.specs.Deck.Digits.{value};
+ghost use Rattle.model.specs.Deck.Digits.{decimal_value};
 ghost use Rattle.model.specs.Deck.Grammar as grammar;
 ghost use Rattle.model.specs.Deck.Tokens.{between_quotes};
 ghost use Rattle.model.specs.Deck.Trees as tree;
@@ -45,8 +45,8 @@ pub(crate) fn power(alloc: Global, operands: Vec<Expr>, last: Expr) -> Result<Ex
 /// The number that digits stand for.
 pub(crate) fn integer(digits: &[u8]) -> i64
     requires digits { all is_digit digits.now ≡ true }
-    requires small { value digits.now ≤ 9223372036854775807 }
-    ensures { result ≡ pos (value digits.now) }
+    requires small { decimal_value digits.now ≤ 9223372036854775807 }
+    ensures { result ≡ pos (decimal_value digits.now) }
 {
     let mut number: u64 = 0;
     for digit in digits {

@@ -46,9 +46,9 @@ fn all(alloc: Global, tokens: &[Token<'_>]) -> Result<Stmt, Stop>
     }
 }
 
-#[tactic(auto, unfolding(model::specs::Deck::ParseStatements::statement, model::specs::Deck::Parse::bind))]
+#[tactic(auto, unfolding(model::specs::Deck::ParseStatements::statement_parser, model::specs::Deck::Parse::bind))]
 fn statement(alloc: Global, cursor: &mut Cursor<'_>, depth: usize) -> Result<Stmt, Stop>
-    ensures { Reads stmt_of (spec.statement depth cursor.old) result cursor.new }
+    ensures { Reads stmt_of (spec.statement_parser depth cursor.old) result cursor.new }
 {
     if cursor.eat_word(b"END") {
         return after_end(alloc, cursor);
@@ -95,7 +95,7 @@ fn after_end(alloc: Global, cursor: &mut Cursor<'_>) -> Result<Stmt, Stop>
 
 /// A name, where one comes next.
 fn label(alloc: Global, cursor: &mut Cursor<'_>) -> Result<Option<Vec<u8>>, Stop>
-    ensures { Reads label_of (spec.label cursor.old) result cursor.new }
+    ensures { Reads label_of (spec.label_parser cursor.old) result cursor.new }
 {
     if !cursor.starts_word() {
         return Ok(None);

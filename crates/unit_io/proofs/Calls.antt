@@ -5,7 +5,7 @@ use Rattle.std.proofs.lemmas.Bool.{cases_eq}
 use Rattle.std.proofs.lemmas.Bool.Decides.{nat_tests}
 use Rattle.std.proofs.lemmas.List.{append-nil, map-append}
 use Rattle.model.specs.Language.Units.{first_of, rest_of, bytes_on, after_read, after_write, Reads, Writes}
-use Rattle.unit_io.specs.Held.{Held, IsKept, IsRead, IsWritten, side_at, place_of, with_side, left_by, output_of, printed_of, io_of}
+use Rattle.unit_io.specs.Held.{UnitsView, IsKept, IsRead, IsWritten, side_at, place_of, with_side, left_by, output_of, printed_of, io_of}
 use Rattle.unit_io.specs.declared.mem.OpenUnit.{OpenUnit}
 use Rattle.unit_io.specs.declared.mem.Side.{Side}
 use Rattle.unit_io.specs.declared.mem.Side.TheVariants.{Input, Output}
@@ -14,15 +14,15 @@ use Rattle.unit_io.proofs.OpenSides.{side_there, changed_there, side_with, side_
 
 -- ---- a call that finds its unit at a place
 
-module _ (h i : Held) (e : i ≡ h) (unit k : ℕ) (found : place_of 0 unit i.opened ≡ Some k) (o : OpenUnit) (there : o ≡ get_or i.opened k o) where
+module _ (h i : UnitsView) (e : i ≡ h) (unit k : ℕ) (found : place_of 0 unit i.opened ≡ Some k) (o : OpenUnit) (there : o ≡ get_or i.opened k o) where
   pub side_is : side_at unit h.opened ≡ Some o.side
-  side_is = ap (λ (x : Held). side_at unit x.opened) (sym e) ∙ side_there k unit i.opened o found ∙ ap (λ (x : OpenUnit). Some x.side) (sym there)
+  side_is = ap (λ (x : UnitsView). side_at unit x.opened) (sym e) ∙ side_there k unit i.opened o found ∙ ap (λ (x : OpenUnit). Some x.side) (sym there)
 
   pub opened_is : (s : Side) → set i.opened k (record { unit = o.unit; side = s }) ≡ with_side unit s h.opened
   opened_is s =
       ap (λ (x : OpenUnit). set i.opened k (record { unit = x.unit; side = s })) there
       ∙ changed_there k unit i.opened o s found
-      ∙ ap (λ (x : Held). with_side unit s x.opened) e
+      ∙ ap (λ (x : UnitsView). with_side unit s x.opened) e
 
   -- whatever is left to be read
   pub input_kept : (rs rs' : List (List ℕ)) → o.side ≡ Input rs → IsKept i → IsKept (record i { opened = set i.opened k (record { unit = o.unit; side = Input rs' }) })
@@ -46,7 +46,7 @@ module _ (h i : Held) (e : i ≡ h) (unit k : ℕ) (found : place_of 0 unit i.op
   written_is before after bytes ps is longer more =
       let onward : set i.opened k (record { unit = o.unit; side = Output after }) ≡ with_side unit (Output (before ++ bytes ++ 10 ∷ [])) h.opened =
       opened_is (Output after) ∙ ap (λ b. with_side unit (Output b) h.opened) longer in
-      let and_more : ps ≡ h.printed ++ record { unit = unit; bytes = bytes } ∷ [] = more ∙ ap (λ (x : Held). x.printed ++ record { unit = unit; bytes = bytes } ∷ []) e in
+      let and_more : ps ≡ h.printed ++ record { unit = unit; bytes = bytes } ∷ [] = more ∙ ap (λ (x : UnitsView). x.printed ++ record { unit = unit; bytes = bytes } ∷ []) e in
       (before, side_is ∙ ap Some is, λ j. record { opened = onward j; printed = and_more j; failures = (e j).failures })
 
 -- ---- what is told after a read, and what is kept
@@ -55,7 +55,7 @@ left_if : (b : Bool) (rs : List (List ℕ)) (s t : Option Side) → s ≡ Some (
 left_if true rs s t is = ap (λ x. rest_of (left_by x)) (sym is)
 left_if false rs s t is = refl
 
-module _ (unit : ℕ) (got : Option (List ℕ)) (h h' : Held) (read : IsRead unit got h h') where
+module _ (unit : ℕ) (got : Option (List ℕ)) (h h' : UnitsView) (read : IsRead unit got h h') where
   told_less : (u : ℕ) → left_by (side_at u (with_side unit (Input (rest_of read.0)) h.opened)) ≡ (if nat_eq unit u then rest_of (left_by (side_at unit h.opened)) else left_by (side_at u h.opened))
   told_less u = ap left_by (side_with unit u (Input (rest_of read.0)) (Input read.0) h.opened read.1) ∙ left_if (nat_eq unit u) read.0 (side_at unit h.opened) (side_at u h.opened) read.1
 
@@ -82,7 +82,7 @@ itself unit line = grind (arith, nat_tests)
 another : (unit u : ℕ) (line : List ℕ) → unit ≢ u → [] ≡ (if nat_eq u unit then line else [])
 another unit u line n = grind (arith, nat_tests, n)
 
-module _ (unit : ℕ) (bytes : List ℕ) (h h' : Held) (wrote : IsWritten unit bytes h h') where
+module _ (unit : ℕ) (bytes : List ℕ) (h h' : UnitsView) (wrote : IsWritten unit bytes h h') where
   after : List ℕ
   after = wrote.0 ++ bytes ++ 10 ∷ []
 

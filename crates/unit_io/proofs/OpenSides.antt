@@ -4,7 +4,7 @@ use Rattle.std.proofs.lemmas.Option.{none-some}
 use Rattle.std.proofs.lemmas.Bool.{cases_eq}
 use Rattle.std.proofs.lemmas.Bool.Decides.{nat_tests}
 use Rattle.std.specs.Prelude.{if◌then◌else◌}
-use Rattle.unit_io.specs.Held.{Held, IsKept, side_at, output_of, place_of, with_side}
+use Rattle.unit_io.specs.Held.{UnitsView, IsKept, side_at, output_of, place_of, with_side}
 use Rattle.unit_io.specs.declared.mem.OpenUnit.{OpenUnit}
 use Rattle.unit_io.specs.declared.mem.Side.{Side}
 
@@ -21,7 +21,7 @@ pub output_snoc : (os : List OpenUnit) (o : OpenUnit) (unit : ℕ) → output_of
 output_snoc [] o unit h = output_if (nat_eq unit o.unit) (Some o.side) None h
 output_snoc (p ∷ os) o unit h = output_either (nat_eq unit p.unit) (Some p.side) (side_at unit (os ++ o ∷ [])) (side_at unit os) (output_snoc os o unit h)
 
-pub still_kept : (h : Held) (o : OpenUnit) → output_of (Some o.side) ≡ [] → IsKept h → IsKept (record h { opened = h.opened ++ o ∷ [] })
+pub still_kept : (h : UnitsView) (o : OpenUnit) → output_of (Some o.side) ≡ [] → IsKept h → IsKept (record h { opened = h.opened ++ o ∷ [] })
 still_kept h o fresh k = record { long = k.long; kept = λ unit. output_snoc h.opened o unit fresh ∙ k.kept unit }
 
 -- what is known of the place of an open unit, in a list whose first has the place j

@@ -10,7 +10,7 @@ use Rattle.unit_io.specs.declared.mem.Side.{Side}
 use Rattle.unit_io.specs.declared.mem.Side.TheVariants.{Input, Output}
 use Rattle.unit_io.specs.declared.mem.Written.{Written}
 
-pub record Held : Type 0 where
+pub record UnitsView : Type 0 where
   -- in the order of opening
   pub opened : List OpenUnit
   pub printed : List Written
@@ -29,10 +29,10 @@ abbrev pub printed_of : List Written → List (record { unit : ℕ; bytes : List
 printed_of ws = map (λ w. record { unit = w.unit; bytes = w.bytes }) ws
 
 -- what they tell
-abbrev pub io_of : Held → Io
+abbrev pub io_of : UnitsView → Io
 io_of h = record { left = λ unit. left_by (side_at unit h.opened); printed = printed_of h.printed }
 
-abbrev pub failures_of : Held → ℕ → ℕ
+abbrev pub failures_of : UnitsView → ℕ → ℕ
 failures_of h unit = count_of h.failures unit
 
 abbrev pub IsReadable : Option Side → Type 0
@@ -61,17 +61,17 @@ with_side unit side (o ∷ os) = if nat_eq unit o.unit then record { unit = o.un
 -- ---- what calls do
 
 -- the first record left on the unit was taken
-abbrev pub IsRead : ℕ → Option (List ℕ) → Held → Held → Type 0
+abbrev pub IsRead : ℕ → Option (List ℕ) → UnitsView → UnitsView → Type 0
 IsRead unit got old new =
     (records : List (List ℕ)) × (side_at unit old.opened ≡ Some (Input records)) × (got ≡ first_of records) × (new ≡ record old { opened = with_side unit (Input (rest_of records)) old.opened })
 
 -- the record was written at the end
-abbrev pub IsWritten : ℕ → List ℕ → Held → Held → Type 0
+abbrev pub IsWritten : ℕ → List ℕ → UnitsView → UnitsView → Type 0
 IsWritten unit bytes old new =
     (before : List ℕ) × (side_at unit old.opened ≡ Some (Output before)) × (new ≡ record old { opened = with_side unit (Output (before ++ bytes ++ 10 ∷ [])) old.opened; printed = old.printed ++ record { unit = unit; bytes = bytes } ∷ [] })
 
 -- a call was refused
-abbrev pub refused : UnitFault → ℕ → Held → Held
+abbrev pub refused : UnitFault → ℕ → UnitsView → UnitsView
 refused NotOpen unit h = record h { failures = set h.failures unit (one_more (failures_of h unit)) }
 refused fault unit h = h
 
@@ -84,10 +84,10 @@ abbrev pub written_by : Option Side → List ℕ → Option (List ℕ)
 written_by (Some (Output bytes)) written = Some written
 written_by _ written = None
 
-abbrev pub written_to : ℕ → Held → Option (List ℕ)
+abbrev pub written_to : ℕ → UnitsView → Option (List ℕ)
 written_to unit h = written_by (side_at unit h.opened) (bytes_on unit (printed_of h.printed))
 
 -- each unit keeps just what was printed to it
-pub record IsKept (h : Held) : Type 0 where
+pub record IsKept (h : UnitsView) : Type 0 where
   pub long : length h.failures ≡ 256
   pub kept : (unit : ℕ) → output_of (side_at unit h.opened) ≡ bytes_on unit (printed_of h.printed)

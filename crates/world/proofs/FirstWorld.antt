@@ -8,7 +8,7 @@ use Rattle.model.specs.Language.Values.{Str, first_value}
 use Rattle.model.specs.Machine.Steps.{codes_of}
 use Rattle.model.specs.Laws.Agreement.{first_m}
 use Rattle.model.specs.Laws.PrintedBefore.{after_w}
-use Rattle.world.specs.Held.{Held, variable_at, value_in, input_in, output_in, world_of, null_variable, first_patterns, first_variables}
+use Rattle.world.specs.Held.{WorldView, variable_at, value_in, input_in, output_in, world_of, null_variable, first_patterns, first_variables}
 use Rattle.world.specs.declared.world.Variable.{Variable}
 
 -- what f gives of the variable that is found among some, or else this
@@ -67,7 +67,7 @@ first_writes x =
 first_io : (io : Io) → io ≡ record { left = io.left; printed = io.printed ++ [] }
 first_io io = ap (λ ps. record { left = io.left; printed = ps }) (sym (append-nil io.printed))
 
-pub first_holds : (h : Held) (io : Io) → h ≡ record { variables = first_variables; keys = first_keys } → world_of h io ≡ after_w io.printed (first_m io.left)
+pub first_holds : (h : WorldView) (io : Io) → h ≡ record { variables = first_variables; keys = first_keys } → world_of h io ≡ after_w io.printed (first_m io.left)
 first_holds h io is =
     ap (λ z. world_of z io) is
     ∙ (λ i. record {

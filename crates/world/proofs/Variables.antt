@@ -8,7 +8,7 @@ use Rattle.model.specs.Language.Keywords.{Keys}
 use Rattle.model.specs.Language.Values.{set_var}
 use Rattle.world.specs.Values.{value_of}
 use Rattle.world.specs.declared.value.Value.{Value}
-use Rattle.world.specs.Held.{Held, variable_at, value_in, input_in, output_in, world_of}
+use Rattle.world.specs.Held.{WorldView, variable_at, value_in, input_in, output_in, world_of}
 use Rattle.world.specs.declared.world.Variable.{Variable}
 
 -- the variable of one name is this, and all others stay
@@ -42,7 +42,7 @@ puts_var old new ks x v h reads writes io = λ i. record {
 }
 
 -- a variable that is there takes another value
-pub put_there : (vs new : List (Bytes × Variable)) (ks : Keys) (held : Held) (x : Bytes) (old v : Variable) (value : Value) → record { variables = vs; keys = ks } ≡ held → v ≡ record old { value = value } → variable_at x vs ≡ Some old → Puts vs new x v
+pub put_there : (vs new : List (Bytes × Variable)) (ks : Keys) (held : WorldView) (x : Bytes) (old v : Variable) (value : Value) → record { variables = vs; keys = ks } ≡ held → v ≡ record old { value = value } → variable_at x vs ≡ Some old → Puts vs new x v
     → (io : Io) → world_of (record { variables = new; keys = ks }) io ≡ set_var x (value_of value) (world_of held io)
 put_there vs new ks held x old v value is e at h io =
     puts_var vs new ks x v h (ap (λ z. z.input) e ∙ sym (ap input_in at)) (ap (λ z. z.output) e ∙ sym (ap output_in at)) io
@@ -50,7 +50,7 @@ put_there vs new ks held x old v value is e at h io =
     ∙ ap (λ z. set_var x (value_of value) (world_of z io)) is
 
 -- a variable that isn't there is put there
-pub put_new : (vs new : List (Bytes × Variable)) (ks : Keys) (held : Held) (x : Bytes) (value : Value) → record { variables = vs; keys = ks } ≡ held → variable_at x vs ≡ None → Puts vs new x (record { value = value; input = None; output = None })
+pub put_new : (vs new : List (Bytes × Variable)) (ks : Keys) (held : WorldView) (x : Bytes) (value : Value) → record { variables = vs; keys = ks } ≡ held → variable_at x vs ≡ None → Puts vs new x (record { value = value; input = None; output = None })
     → (io : Io) → world_of (record { variables = new; keys = ks }) io ≡ set_var x (value_of value) (world_of held io)
 put_new vs new ks held x value is at h io =
     puts_var vs new ks x (record { value = value; input = None; output = None }) h (sym (ap input_in at)) (sym (ap output_in at)) io

@@ -18,7 +18,7 @@ use Rattle.world.specs.declared.world.Variable.{Variable}
 use Rattle.world.specs.declared.world.Source.{Source}
 use Rattle.world.specs.declared.world.Source.TheVariants as source
 
-pub record Held : Type 0 where
+pub record WorldView : Type 0 where
   -- in the order of first assignment
   pub variables : List (Bytes × Variable)
   pub keys : Keys
@@ -40,7 +40,7 @@ output_in None = None
 output_in (Some v) = v.output
 
 -- the world that it is, with what stands on units
-abbrev pub world_of : Held → Io → MW
+abbrev pub world_of : WorldView → Io → MW
 world_of h io = record {
   vars = λ x. value_in (variable_at x h.variables);
   objects = [];
@@ -65,11 +65,11 @@ abbrev pub taken : (name bytes : Bytes) → MW → Op MW MVal
 taken x r w = let s : Bytes = as_read r w in limited s w (Gives (Str s) (set_var x (Str s) w))
 
 -- the variable of this name has this value, and nothing else changed
-abbrev pub IsSet : p.Name → MVal → Held → Held → Type 0
+abbrev pub IsSet : target.Name → MVal → WorldView → WorldView → Type 0
 IsSet (target.Variable x) v old new = (io : Io) → world_of new io ≡ set_var x v (world_of old io)
 IsSet _ v old new = ⊥
 
-abbrev pub IsSetOrKept : p.Name → MVal → Held → Held → Type 0
+abbrev pub IsSetOrKept : target.Name → MVal → WorldView → WorldView → Type 0
 IsSetOrKept n v old new = (new ≡ old) ⊎ IsSet n v old new
 
 abbrev pub zero_in : KeyValue → Bool
@@ -78,7 +78,7 @@ zero_in (IsText s) = false
 
 -- ---- at first
 
-abbrev pub with_variable : Bytes → Variable → Held → Held
+abbrev pub with_variable : Bytes → Variable → WorldView → WorldView
 with_variable x v h = record h { variables = insert_entry bytes_eq h.variables x v }
 
 abbrev pub pattern_variable : Code → Variable

@@ -27,7 +27,7 @@ fn integer(keywords: &Keywords, id: KeyId) -> i64
 
 // One more, but never past the greatest integer.
 fn counted(n: i64) -> i64
-    ensures { result ≡ keys.counted n }
+    ensures { result ≡ keys.counted_up n }
 {
     if n < i64::MAX { n + 1 } else { n }
 }

@@ -9,7 +9,7 @@ ghost use Rattle.model.specs.Machine.Steps.{MVal};
 ghost use Rattle.model.specs.declared.run.Stop.TheVariants.{NoMemory};
 ghost use Rattle.pattern_compiler.specs.View.{name_of};
 ghost use Rattle.world.specs.Values.{value_of};
-ghost use Rattle.world.specs.Held.{Held, IsSet, IsSetOrKept, world_of, taken, variable_at, value_in};
+ghost use Rattle.world.specs.Held.{WorldView, IsSet, IsSetOrKept, world_of, taken, variable_at, value_in};
 ghost use Rattle.world.specs.Answers.{answer_map, Answers, AnswersOrFails, done, IfStopped, KeepsCounts, stop_of};
 
 use crate::fault::Fault;
@@ -154,7 +154,7 @@ impl World {
 // Writes a value as a record.
 fn print<U: Units>(alloc: Global, units: &mut U, unit: u8, value: &Value) -> Result<(), Fault>
     ensures printed { IfTold (U.told units.old) (U.told units.new) (λ io io'.
-        (h : Held) → Answers (done result) (world_of h io') (print_text unit (to_text (value_of value.now)) (world_of h io))) }
+        (h : WorldView) → Answers (done result) (world_of h io') (print_text unit (to_text (value_of value.now)) (world_of h io))) }
     ensures counts { KeepsCounts result (U.failures units.old) (U.failures units.new) }
 {
     let text = match value.to_text(alloc) {

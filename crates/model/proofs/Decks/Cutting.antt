@@ -8,11 +8,11 @@ use Rattle.model.specs.declared.tokens.Mark.TheVariants as mark
 use Rattle.model.specs.declared.tokens.TokenKind.{TokenKind}
 use Rattle.model.specs.declared.tokens.TokenKind.TheVariants as kind
 use Rattle.model.specs.Deck.Cut.{Class, Space, Letter, Digit, Quote, Star, Dot, Underscore, Sign, Other, class, class_of_sign, is_space, is_word, is_digit, differs, all, written, IsToken, Begins, First, longest, unclosed, stray, Piece, Token, Unclosed, text_of, Cut}
-use Rattle.model.specs.Deck.Pieces.{front, back, Found, found, quoted, starred, by_class, first, pieces_from, pieces}
+use Rattle.model.specs.Deck.Pieces.{front, behind_front, FirstPiece, found, quoted, starred, by_class, first_piece, pieces_from, pieces}
 
 -- ---- bytes that pass
 
-pub front_back : (p : ℕ → Bool) (bs : List ℕ) → bs ≡ front p bs ++ back p bs
+pub front_back : (p : ℕ → Bool) (bs : List ℕ) → bs ≡ front p bs ++ behind_front p bs
 front_back p [] = refl
 front_back p (b ∷ bs) = elim (cases_Bool (p b)) [ inl h ↦ rw h (ap (λ x. b ∷ x) (front_back p bs)) | inr h ↦ rw h refl ]
 
@@ -20,7 +20,7 @@ front_all : (p : ℕ → Bool) (bs : List ℕ) → all p (front p bs) ≡ true
 front_all p [] = refl
 front_all p (b ∷ bs) = elim (cases_Bool (p b)) [ inl h ↦ rw (h, h) (front_all p bs) | inr h ↦ rw h refl ]
 
-back_head : (p : ℕ → Bool) (bs : List ℕ) (c : ℕ) (cs : List ℕ) → back p bs ≡ c ∷ cs → p c ≡ false
+back_head : (p : ℕ → Bool) (bs : List ℕ) (c : ℕ) (cs : List ℕ) → behind_front p bs ≡ c ∷ cs → p c ≡ false
 back_head p [] c cs e = absurd (cc)
 back_head p (b ∷ bs) c cs e = elim (cases_Bool (p b)) [
   | inl h ↦ back_head p bs c cs (rw h at e)
@@ -28,12 +28,12 @@ back_head p (b ∷ bs) c cs e = elim (cases_Bool (p b)) [
 ]
 
 -- where all pass, none fails
-back_none : (p : ℕ → Bool) (bs xs : List ℕ) (c : ℕ) (cs : List ℕ) → back p bs ≡ [] → bs ≡ xs ++ (c ∷ cs) → p c ≡ false → ⊥
+back_none : (p : ℕ → Bool) (bs xs : List ℕ) (c : ℕ) (cs : List ℕ) → behind_front p bs ≡ [] → bs ≡ xs ++ (c ∷ cs) → p c ≡ false → ⊥
 back_none p [] [] c cs e s h = cc
 back_none p [] (x ∷ xs) c cs e s h = cc
 back_none p (b ∷ bs) [] c cs e s h = let same : b ≡ c = cc in let miss : p b ≡ false = ap p same ∙ h in let g : b ∷ bs ≡ [] = rw miss at e in cc
 back_none p (b ∷ bs) (x ∷ xs) c cs e s h = elim (cases_Bool (p b)) [
-  | inl k ↦ (let g : back p bs ≡ [] = rw k at e in let r : bs ≡ xs ++ (c ∷ cs) = cc in back_none p bs xs c cs g r h)
+  | inl k ↦ (let g : behind_front p bs ≡ [] = rw k at e in let r : bs ≡ xs ++ (c ∷ cs) = cc in back_none p bs xs c cs g r h)
   | inr k ↦ (let g : b ∷ bs ≡ [] = rw k at e in cc)
 ]
 
@@ -176,7 +176,7 @@ splits b bs k (x ∷ xs) s =
     let t = subst (λ y. IsToken k (y ∷ xs)) same s.is in
     record { tail = xs; more = s.rest; is = ap (λ y. y ∷ xs) same; rest = rest; token_is = t; kind_is = token_kind k b xs t }
 
-abbrev pub Good : ℕ → List ℕ → Found → Type 0
+abbrev pub Good : ℕ → List ℕ → FirstPiece → Type 0
 Good b bs f = First (b ∷ bs) f.piece × (b ∷ bs ≡ text_of f.piece ++ f.rest)
 
 -- a token is the first piece where every next one there is no longer
@@ -201,8 +201,8 @@ none_begins : (b : ℕ) (bs : List ℕ) → ((next : List ℕ) → kind_by (clas
 none_begins b bs c k token s = let p = splits b bs k token s in let h = p.kind_is in let g = c p.tail in cc
 
 good_run : (b : ℕ) (bs : List ℕ) (k : TokenKind) (p : ℕ → Bool) → ((next : List ℕ) → kind_by (class b) next ≡ Some k) → ((xs : List ℕ) → all p xs ≡ true → IsToken k (b ∷ xs)) → ((xs : List ℕ) → IsToken k (b ∷ xs) → all p xs ≡ true)
-    → Good b bs (found (Token k (b ∷ front p bs)) (back p bs))
-good_run b bs k p c make use_ = good_kind b bs k (front p bs) (back p bs) c (make (front p bs) (front_all p bs)) (front_back p bs) (λ next more t e. front_longest p bs next more (use_ next t) e)
+    → Good b bs (found (Token k (b ∷ front p bs)) (behind_front p bs))
+good_run b bs k p c make use_ = good_kind b bs k (front p bs) (behind_front p bs) c (make (front p bs) (front_all p bs)) (front_back p bs) (λ next more t e. front_longest p bs next more (use_ next t) e)
 
 differs_same : (q b : ℕ) → differs q b ≡ false → b ≡ q
 differs_same q b h = grind (arith, nat_tests)
@@ -213,7 +213,7 @@ differs_self q = grind (arith, nat_tests)
 quote_kind : (b : ℕ) → class b ≡ Quote → (next : List ℕ) → kind_by (class b) next ≡ Some kind.Literal
 quote_kind b c next = ap (λ x. kind_by x next) c
 
-good_quote : (b : ℕ) (bs : List ℕ) → class b ≡ Quote → (left : List ℕ) → back (differs b) bs ≡ left → Good b bs (quoted b (front (differs b) bs) left)
+good_quote : (b : ℕ) (bs : List ℕ) → class b ≡ Quote → (left : List ℕ) → behind_front (differs b) bs ≡ left → Good b bs (quoted b (front (differs b) bs) left)
 good_quote b bs c [] e =
     let whole : bs ≡ front (differs b) bs = front_back (differs b) bs ∙ ap (λ x. front (differs b) bs ++ x) e ∙ append-nil (front (differs b) bs) in
     let none : (k : TokenKind) (token : List ℕ) → Begins (b ∷ bs) k token → ⊥ = λ k token s.
@@ -262,15 +262,15 @@ good_by : (c : Class) (b : ℕ) (bs : List ℕ) → class b ≡ c → Good b bs 
 good_by Space b bs c = good_run b bs kind.Blank is_space (λ o. ap (λ x. kind_by x o) c) (λ xs h. (c, h)) (λ xs t. t.1)
 good_by Letter b bs c = good_run b bs kind.Name is_word (λ o. ap (λ x. kind_by x o) c) (λ xs h. (c, h)) (λ xs t. t.1)
 good_by Digit b bs c = good_run b bs kind.Integer is_digit (λ o. ap (λ x. kind_by x o) c) (λ xs h. (c, h)) (λ xs t. t.1)
-good_by Quote b bs c = good_quote b bs c (back (differs b) bs) refl
+good_by Quote b bs c = good_quote b bs c (behind_front (differs b) bs) refl
 good_by Star b bs c = good_star b bs c
 good_by Dot b bs c = one_byte b bs mark.Dot (λ o. ap (λ x. kind_by x o) c) (ap (λ x. x ∷ []) (dot_is b c))
 good_by (Sign m) b bs c = one_byte b bs m (λ o. ap (λ x. kind_by x o) c) (sign_written b m c)
 good_by Underscore b bs c = (stray b bs (λ q. cc) (none_begins b bs (λ o. ap (λ x. kind_by x o) c)), refl)
 good_by Other b bs c = (stray b bs (λ q. cc) (none_begins b bs (λ o. ap (λ x. kind_by x o) c)), refl)
 
-pub good_first : (b : ℕ) (bs : List ℕ) → Good b bs (first b bs)
-unfolding first
+pub good_first : (b : ℕ) (bs : List ℕ) → Good b bs (first_piece b bs)
+unfolding first_piece
 good_first b bs = good_by (class b) b bs refl
 
 -- ---- the whole text
@@ -293,7 +293,7 @@ cut_from n [] h = refl
 cut_from zero (b ∷ bs) h = absurd (omega arith)
 cut_from (suc n) (b ∷ bs) h =
     let g = good_first b bs in
-    (g.0, ((first b bs).rest, g.1, cut_from n (first b bs).rest (shorter n b bs (text_of (first b bs).piece) (first b bs).rest h g.1 (first_long _ _ g.0))))
+    (g.0, ((first_piece b bs).rest, g.1, cut_from n (first_piece b bs).rest (shorter n b bs (text_of (first_piece b bs).piece) (first_piece b bs).rest h g.1 (first_long _ _ g.0))))
 
 fronts_same : (a b x y : List ℕ) → a ++ x ≡ b ++ y → length a ≡ length b → (a ≡ b) × (x ≡ y)
 fronts_same [] [] x y e h = (refl, e)
@@ -333,11 +333,11 @@ only_from n [] (p ∷ ps) h c = absurd (let l = first_long _ _ c.0 in omega (ari
 only_from zero (b ∷ bs) (p ∷ ps) h c = absurd (omega arith)
 only_from (suc n) (b ∷ bs) (p ∷ ps) h c =
     let g = good_first b bs in
-    let same = first_same (b ∷ bs) p (first b bs).piece c.0 g.0 in
-    let rests = fronts_same (text_of p) (text_of (first b bs).piece) c.1.0 (first b bs).rest (sym c.1.1 ∙ g.1) (ap (λ x. length (text_of x)) same) in
+    let same = first_same (b ∷ bs) p (first_piece b bs).piece c.0 g.0 in
+    let rests = fronts_same (text_of p) (text_of (first_piece b bs).piece) c.1.0 (first_piece b bs).rest (sym c.1.1 ∙ g.1) (ap (λ x. length (text_of x)) same) in
     let cut = subst (λ x. Cut x ps) rests.1 c.1.2 in
-    let more = only_from n (first b bs).rest ps (shorter n b bs (text_of (first b bs).piece) (first b bs).rest h g.1 (first_long _ _ g.0)) cut in
-    ap (λ x. x ∷ ps) same ∙ ap (λ x. (first b bs).piece ∷ x) more
+    let more = only_from n (first_piece b bs).rest ps (shorter n b bs (text_of (first_piece b bs).piece) (first_piece b bs).rest h g.1 (first_long _ _ g.0)) cut in
+    ap (λ x. x ∷ ps) same ∙ ap (λ x. (first_piece b bs).piece ∷ x) more
 
 pub cut_is : (text : List ℕ) → Cut text (pieces text)
 unfolding pieces
@@ -348,7 +348,7 @@ unfolding pieces
 only_is text ps c = only_from (length text) text ps (omega arith) c
 
 -- the first piece, and then those of what is left
-pub pieces_step : (b : ℕ) (bs : List ℕ) → pieces (b ∷ bs) ≡ (first b bs).piece ∷ pieces (first b bs).rest
+pub pieces_step : (b : ℕ) (bs : List ℕ) → pieces (b ∷ bs) ≡ (first_piece b bs).piece ∷ pieces (first_piece b bs).rest
 pieces_step b bs =
     let g = good_first b bs in
-    sym (only_is (b ∷ bs) ((first b bs).piece ∷ pieces (first b bs).rest) (g.0, ((first b bs).rest, g.1, cut_is (first b bs).rest)))
+    sym (only_is (b ∷ bs) ((first_piece b bs).piece ∷ pieces (first_piece b bs).rest) (g.0, ((first_piece b bs).rest, g.1, cut_is (first_piece b bs).rest)))

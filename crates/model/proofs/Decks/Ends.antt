@@ -6,16 +6,17 @@ use Rattle.std.proofs.lemmas.Bool.Decides.{nat_tests}
 use Rattle.model.specs.declared.cards.Statement.{Statement}
 use Rattle.model.specs.declared.causes.Cause.TheVariants as cause
 use Rattle.model.specs.declared.tokens.TokenKind.TheVariants as kind
-use Rattle.model.specs.Deck.Cards.{Card, Column, bytes, is_blank, is_word_first, is_blank_text, cards, ended, first_ended, pieces_of, beginnings, is_end, has_end, kept, first_card, statements_from}
+use Rattle.model.specs.Deck.Cards.{Card, Column, column_bytes, is_word_first, is_blank_text, cards, ended, first_ended, pieces_of, beginnings, is_end, has_end, kept, first_card, statements_from}
 use Rattle.model.specs.Deck.Cut.{Space, Letter, Digit, Quote, Star, Dot, Underscore, class, is_stray, is_unclosed, has, IsToken, First, longest, unclosed, stray, Piece, Token, Stray, Unclosed, Cut, toks_of, least_lexical}
 use Rattle.model.specs.Laws.Decks.{IsPlain, EndsOnce}
 use Rattle.model.specs.Deck.Faults.{read, Accepted, verdict}
 use Rattle.model.specs.Deck.Grammar.{gap}
-use Rattle.model.specs.Deck.Pieces.{pieces, first}
+use Rattle.model.specs.Deck.Pieces.{pieces, first_piece}
 use Rattle.model.specs.Deck.Statements as statements
 use Rattle.model.specs.Deck.Statements.{end_word, IsGoto, next, leaves, IsBody, nothing, evaluate, match, assign, replace, unlabelled, labelled, IsEntry, entry, Tree, plain, end}
 use Rattle.model.specs.Deck.Tokens.{Tok, Blank, Word}
 use Rattle.model.specs.Deck.Trees.{Bytes, Goto, Body, Stmt, Plain, End}
+use Rattle.model.specs.Language.Strings.{is_blank}
 use Rattle.model.proofs.Decks.Cutting.{cut_is, pieces_step, otherwise, sign_only}
 use Rattle.model.proofs.Decks.Verdicts.{accepts, by_cards, Have, read_is}
 use Rattle.model.proofs.Decks.ParseSteps.{if_is}
@@ -93,8 +94,8 @@ word_joined [] [] h = refl
 word_joined [] (b ∷ bs) h = h
 word_joined (w ∷ ws) rest h = let same : (w == w) ≡ true = grind (arith, nat_tests) in rw same (word_joined ws rest h)
 
-first_end : (rest : List ℕ) → Ends rest → (first 69 (78 ∷ 68 ∷ rest)).piece ≡ Token kind.Name end_word
-unfolding first class
+first_end : (rest : List ℕ) → Ends rest → (first_piece 69 (78 ∷ 68 ∷ rest)).piece ≡ Token kind.Name end_word
+unfolding first_piece class
 first_end [] h = refl
 first_end (b ∷ bs) h = let blank : b ≡ 32 = grind (arith, nat_tests) in rw blank refl
 
@@ -102,7 +103,7 @@ first_end (b ∷ bs) h = let blank : b ≡ 32 = grind (arith, nat_tests) in rw b
 text_word : (text : List ℕ) → is_word_first (codes "END") text ≡ true → (rest : List Tok) × (toks_of (pieces text) ≡ Word end_word ∷ rest)
 text_word text h =
     let parts = word_parts (codes "END") text h in
-    let rest = pieces (first 69 (78 ∷ 68 ∷ parts.rest)).rest in
+    let rest = pieces (first_piece 69 (78 ∷ 68 ∷ parts.rest)).rest in
     let step : pieces text ≡ Token kind.Name end_word ∷ rest = ap pieces parts.is ∙ pieces_step 69 (78 ∷ 68 ∷ parts.rest) ∙ ap (λ p. p ∷ rest) (first_end parts.rest parts.ends) in
     (toks_of rest, ap toks_of step)
 
@@ -209,14 +210,14 @@ one_plain s more [] h rest have = absurd have
 one_plain s more (t ∷ ts) h rest have = one_before t ts (read_plain s.text t h have.0) (rest ts have.1)
 
 abbrev of_piece : ℕ → List Column → Statement
-of_piece n p = record { number = n; card = first_card p; text = bytes p }
+of_piece n p = record { number = n; card = first_card p; text = column_bytes p }
 
 kept_ends : (n : ℕ) (ps : List (List Column)) (ss : List Stmt) → has_end ps ≡ true → Have (statements_from n (kept ps)) ss → EndsOnce ss
 kept_ends n [] ss h have = absurd (cc)
 kept_ends n (p ∷ ps) ss h have = elim (cases_Bool (is_end p)) [
   | inl x ↦ one_end (of_piece n p) ss x (rw x at have)
   | inr x ↦ (let more : has_end ps ≡ true = rw x at h in
-      elim (cases_Bool (is_blank_text (bytes p))) [
+      elim (cases_Bool (is_blank_text (column_bytes p))) [
         | inl y ↦ kept_ends n ps ss more (rw (x, y) at have)
         | inr y ↦ one_plain (of_piece n p) (statements_from (n + 1) (kept ps)) ss x (λ ts. kept_ends (n + 1) ps ts more) (rw (x, y) at have)
       ])

@@ -7,7 +7,7 @@ use Rattle.model.specs.declared.tokens.TokenKind.{TokenKind}
 use Rattle.model.specs.declared.tokens.TokenKind.TheVariants as kind
 use Rattle.model.specs.Deck.Cut as cut
 use Rattle.model.specs.Deck.Cut.{IsToken, Piece, Stray, Unclosed, First, longest, unclosed, stray, Cut, toks_of, has, is_stray, is_unclosed, is_too_large, opens_too_many, rows_too_many, least_lexical}
-use Rattle.model.specs.Deck.Digits.{value}
+use Rattle.model.specs.Deck.Digits.{decimal_value}
 use Rattle.model.specs.Deck.Lexed.{Lexed}
 use Rattle.model.specs.Deck.Pieces.{pieces}
 use Rattle.model.specs.Deck.Tokens.{tok_by, toks}
@@ -42,9 +42,9 @@ neither : (a b : Bool) → (a || b) ≡ false → (a ≡ false) × (b ≡ false)
 neither true b h = absurd (cc)
 neither false b h = (refl, h)
 
-fits : (k : TokenKind) (text : List ℕ) → is_too_large (cut.Token k text) ≡ false → k ≡ kind.Integer → value text ≤ 9223372036854775807
+fits : (k : TokenKind) (text : List ℕ) → is_too_large (cut.Token k text) ≡ false → k ≡ kind.Integer → decimal_value text ≤ 9223372036854775807
 fits k text h e =
-    let small : nat_lt 9223372036854775807 (value text) ≡ false = subst (λ x. is_too_large (cut.Token x text) ≡ false) e h in
+    let small : nat_lt 9223372036854775807 (decimal_value text) ≡ false = subst (λ x. is_too_large (cut.Token x text) ≡ false) e h in
     grind (arith, nat_tests)
 
 all_lexed : (ts : List Token) (text : List ℕ) → Cut text (map piece_of ts) → has is_too_large (map piece_of ts) ≡ false → Lexed ts

@@ -10,11 +10,11 @@ use Rattle.model.specs.declared.trees.Binary.TheVariants as binary
 use Rattle.model.specs.Deck.Tokens.{Tok, Blank, Word, Digits, Quoted, Sign}
 use Rattle.model.specs.Deck.Trees.{Expr, Name, Integer, Literal, Keyword, Call, Reference, Apply, Combine, Arg, Absent, Given, Args, Nil, More}
 use Rattle.model.specs.Deck.Grammar.{sign_of, grade, left, right, link, gap, shown, given, Phrase, Element, Grade, One, Several, Spells, name, integer, literal, keyword, applied, brackets, call, reference, plain, looser, combined, absent, present, single, comma}
-use Rattle.model.specs.Deck.Parse.{Parser, bind, Next, Ends, Sees, next, on, either, skip, starts, tok_starts, expect, sees, tail, one, several, subscripts, named, bracketed, prefixed, element_step, element, lefts, rights, graded, whole, finish, expr}
+use Rattle.model.specs.Deck.Parse.{Parser, bind, Onward, Ends, Sees, next, on, binary_or_unary, skip, starts, tok_starts, expect, sees, tail, one_argument, several, subscripts, after_name, bracketed, prefixed, element_step, element, lefts, rights, graded, whole, at_end, expr}
 use Rattle.model.proofs.Decks.ParseSteps.{bind_is}
 
 -- an operator that comes next binds less tightly than this
-abbrev pub Past : ℕ → Next → Type 0
+abbrev pub Past : ℕ → Onward → Type 0
 Past k Ends = Unit {0}
 Past k (Sees op ts) = k < grade op
 
@@ -24,7 +24,7 @@ pub record Stops (k : ℕ) (rest : List Tok) : Type 0 where
   pub less_no : sees mark.Less rest ≡ false
   pub past : Past k (next rest)
 
-past_less : (j k : ℕ) (x : Next) → j ≤ k → Past k x → Past j x
+past_less : (j k : ℕ) (x : Onward) → j ≤ k → Past k x → Past j x
 past_less j k Ends h p = tt
 past_less j k (Sees op ts) h p = omega arith
 
@@ -50,7 +50,7 @@ begins_append ts us b = record {
   cat = λ more. rw (append_assoc ts us more) (b.cat (us ++ more));
 }
 
-either_cat : (op : Binary) (m : Mark) (t : Tok) (ts : List Tok) → tok_starts t ≡ true → either op m (t ∷ ts) ≡ Sees binary.Concatenate (Sign m ∷ t ∷ ts)
+either_cat : (op : Binary) (m : Mark) (t : Tok) (ts : List Tok) → tok_starts t ≡ true → binary_or_unary op m (t ∷ ts) ≡ Sees binary.Concatenate (Sign m ∷ t ∷ ts)
 either_cat op m Blank ts h = absurd (cc)
 either_cat op m (Word s) ts h = refl
 either_cat op m (Digits s) ts h = refl
@@ -131,11 +131,11 @@ link_long binary.Concatenate ts = omega arith
 link_long binary.Alternate ts = omega arith
 
 -- how a step of a loop goes
-pub on_go : {A : Type 0} (x : Next) (k : ℕ) (stop : A) (go : Binary → List Tok → A) (op : Binary) (ts : List Tok) → x ≡ Sees op ts → grade op ≡ k → on x k stop go ≡ go op ts
+pub on_go : {A : Type 0} (x : Onward) (k : ℕ) (stop : A) (go : Binary → List Tok → A) (op : Binary) (ts : List Tok) → x ≡ Sees op ts → grade op ≡ k → on x k stop go ≡ go op ts
 unfolding on
 on_go x k stop go op ts e g = let hit : (grade op == k) ≡ true = grind arith in rw (e, on, hit) refl
 
-on_stop : {A : Type 0} (x : Next) (k : ℕ) (stop : A) (go : Binary → List Tok → A) → Past k x → on x k stop go ≡ stop
+on_stop : {A : Type 0} (x : Onward) (k : ℕ) (stop : A) (go : Binary → List Tok → A) → Past k x → on x k stop go ≡ stop
 unfolding on
 on_stop Ends k stop go p = refl
 on_stop (Sees op ts) k stop go p = let miss : (grade op == k) ≡ false = grind arith in rw miss refl
@@ -343,14 +343,14 @@ module _ (inner : Parser Expr) (bound : ℕ) (inner_full : (e : Expr) (ts : List
   abbrev Full : Phrase → List Tok → Type 0
   Full (Element e) ts = length ts ≤ bound → FullElement e ts
   Full (Grade k e) ts = length ts ≤ bound → FullGrade atom k e ts
-  Full (One arg) ts = length ts < bound → (m : Mark) (rest : List Tok) → Closes m → one inner (ts ++ Sign m ∷ rest) ≡ Some (arg, Sign m ∷ rest)
+  Full (One arg) ts = length ts < bound → (m : Mark) (rest : List Tok) → Closes m → one_argument inner (ts ++ Sign m ∷ rest) ≡ Some (arg, Sign m ∷ rest)
   Full (Several args) ts = length ts < bound → (n : ℕ) (m : Mark) (rest : List Tok) → length ts ≤ n → Bounds m → several inner (suc n) (ts ++ Sign m ∷ rest) ≡ Some (args, Sign m ∷ rest)
 
   begins_grade : {k : ℕ} {e : Expr} {ts : List Tok} → (length ts ≤ bound → FullGrade atom k e ts) → length ts ≤ bound → Begins ts
   begins_grade f h = (f h).begins
 
   full_name : (s : List ℕ) → FindsElement atom (Name s) (Word s ∷ [])
-  unfolding element_step named
+  unfolding element_step after_name
   full_name s rest ho hl = rw (ho, hl) refl
 
   full_integer : (n : ℕ) → FindsElement atom (Integer (pos n)) (Digits n ∷ [])
@@ -400,7 +400,7 @@ module _ (inner : Parser Expr) (bound : ℕ) (inner_full : (e : Expr) (ts : List
       ∙ rw (skip_mark h mark.Close rest) (expect_mark mark.Close e rest (sees_same mark.Close rest at_close)))
 
   call_found : (f : List ℕ) (args : Args) (ts : List Tok) → Full (Several args) ts → length ts < bound → FindsElement atom (Call f (shown args)) (Word f ∷ Sign mark.Open ∷ (ts ++ Sign mark.Close ∷ []))
-  unfolding element_step named sees
+  unfolding element_step after_name sees
   call_found f args ts full short rest ho hl =
       let regroup : (ts ++ Sign mark.Close ∷ []) ++ rest ≡ ts ++ Sign mark.Close ∷ rest = append_assoc ts (Sign mark.Close ∷ []) rest in
       let long : length ts ≤ length (ts ++ Sign mark.Close ∷ rest) = omega (arith, length-append ts (Sign mark.Close ∷ rest)) in
@@ -409,7 +409,7 @@ module _ (inner : Parser Expr) (bound : ℕ) (inner_full : (e : Expr) (ts : List
       ∙ expect_mark mark.Close (Call f (shown args)) rest (sees_same mark.Close rest at_close))
 
   reference_found : (f : List ℕ) (args : Args) (ts : List Tok) → Full (Several args) ts → given args ≡ true → length ts < bound → FindsElement atom (Reference f args) (Word f ∷ Sign mark.Less ∷ (ts ++ Sign mark.Greater ∷ []))
-  unfolding element_step named sees
+  unfolding element_step after_name sees
   reference_found f args ts full all short rest ho hl =
       let regroup : (ts ++ Sign mark.Greater ∷ []) ++ rest ≡ ts ++ Sign mark.Greater ∷ rest = append_assoc ts (Sign mark.Greater ∷ []) rest in
       let long : length ts ≤ length (ts ++ Sign mark.Greater ∷ rest) = omega (arith, length-append ts (Sign mark.Greater ∷ rest)) in
@@ -417,13 +417,13 @@ module _ (inner : Parser Expr) (bound : ℕ) (inner_full : (e : Expr) (ts : List
       (full short (length (ts ++ Sign mark.Greater ∷ rest)) mark.Greater rest long by_greater)
       ∙ rw all (expect_mark mark.Greater (Reference f args) rest (sees_same mark.Greater rest at_greater)))
 
-  absent_found : (g : Bool) (m : Mark) (rest : List Tok) → Closes m → one inner (gap g ++ Sign m ∷ rest) ≡ Some (Absent, Sign m ∷ rest)
-  unfolding one
+  absent_found : (g : Bool) (m : Mark) (rest : List Tok) → Closes m → one_argument inner (gap g ++ Sign m ∷ rest) ≡ Some (Absent, Sign m ∷ rest)
+  unfolding one_argument
   absent_found g m rest c = rw (skip_mark g m rest, mark_starts m rest c) refl
 
   present_found : (e : Expr) (ts : List Tok) (g h : Bool) → Spells (Grade 7 e) ts → length ts < bound → Begins ts → (m : Mark) (rest : List Tok) → Closes m
-      → one inner ((gap g ++ (ts ++ gap h)) ++ Sign m ∷ rest) ≡ Some (Given e, Sign m ∷ rest)
-  unfolding one
+      → one_argument inner ((gap g ++ (ts ++ gap h)) ++ Sign m ∷ rest) ≡ Some (Given e, Sign m ∷ rest)
+  unfolding one_argument
   present_found e ts g h s short begins m rest c =
       let regroup : (gap g ++ (ts ++ gap h)) ++ Sign m ∷ rest ≡ gap g ++ (ts ++ (gap h ++ Sign m ∷ rest)) = simp append_assoc in
       let longer = begins_append ts (gap h ++ Sign m ∷ rest) begins in
@@ -437,7 +437,7 @@ module _ (inner : Parser Expr) (bound : ℕ) (inner_full : (e : Expr) (ts : List
   single_found : (arg : Arg) (ts : List Tok) → Full (One arg) ts → Full (Several (More arg Nil)) ts
   unfolding several
   single_found arg ts full short n m rest h b =
-      bind_is (one inner (ts ++ Sign m ∷ rest)) (after_one n) (arg, Sign m ∷ rest) (full short m rest (closes m b))
+      bind_is (one_argument inner (ts ++ Sign m ∷ rest)) (after_one n) (arg, Sign m ∷ rest) (full short m rest (closes m b))
       ∙ rw (bounds_comma m rest b) refl
 
   comma_found : (arg : Arg) (args : Args) (ts us : List Tok) → Full (One arg) ts → Full (Several args) us → Full (Several (More arg args)) (ts ++ (Sign mark.Comma ∷ us))
@@ -448,7 +448,7 @@ module _ (inner : Parser Expr) (bound : ℕ) (inner_full : (e : Expr) (ts : List
       let one_short : length ts < bound = omega (arith, length-append ts (Sign mark.Comma ∷ us)) in
       let rest_short : length us < bound = omega (arith, length-append ts (Sign mark.Comma ∷ us)) in
       let turns : length us ≤ n = omega (arith, length-append ts (Sign mark.Comma ∷ us)) in
-      rw regroup (bind_is (one inner (ts ++ (Sign mark.Comma ∷ (us ++ Sign m ∷ rest)))) (after_one (suc n)) (arg, Sign mark.Comma ∷ (us ++ Sign m ∷ rest)) (fo one_short mark.Comma (us ++ Sign m ∷ rest) at_comma)
+      rw regroup (bind_is (one_argument inner (ts ++ (Sign mark.Comma ∷ (us ++ Sign m ∷ rest)))) (after_one (suc n)) (arg, Sign mark.Comma ∷ (us ++ Sign m ∷ rest)) (fo one_short mark.Comma (us ++ Sign m ∷ rest) at_comma)
       ∙ bind_is (several inner (suc n) (us ++ Sign m ∷ rest)) (λ x end. Some (More arg x, end)) (args, Sign m ∷ rest) (fs rest_short n m rest turns b))
 
   flat : (t : Tok) (ts : List Tok) → tok_starts t ≡ true → ((us : List Tok) → next (Blank ∷ t ∷ us) ≡ Sees binary.Concatenate (t ∷ us)) → Begins (t ∷ ts)
@@ -550,4 +550,4 @@ pub expr_full : (e : Expr) (ts : List Tok) → Spells (Grade 7 e) ts → expr ts
 unfolding expr
 expr_full e ts s =
     let found : whole (length ts) ts ≡ Some (e, []) = subst (λ x. whole (length ts) x ≡ Some (e, [])) (append-nil ts) (whole_full (length ts) e ts (omega arith) s [] nothing_stops) in
-    ap finish found
+    ap at_end found

@@ -9,7 +9,7 @@ use Rattle.model.specs.declared.trees.Binary.TheVariants as binary
 use Rattle.model.specs.Deck.Tokens.{Tok, Blank, Word, Digits, Quoted, Sign}
 use Rattle.model.specs.Deck.Trees.{Expr, Name, Integer, Literal, Keyword, Call, Reference, Apply, Combine, Arg, Absent, Given, Args, Nil, More}
 use Rattle.model.specs.Deck.Grammar.{sign_of, grade, link, gap, shown, given, Phrase, Element, Grade, One, Several, Spells, name, integer, literal, keyword, applied, brackets, call, reference, plain, looser, combined, absent, present, single, comma}
-use Rattle.model.specs.Deck.Parse.{Parser, bind, next, on, skip, starts, expect, sees, tail, one, several, subscripts, named, bracketed, keyword_of, prefixed, by_mark, role, element_step, element, lefts, rights, graded, whole}
+use Rattle.model.specs.Deck.Parse.{Parser, bind, next, on, skip, starts, expect, sees, tail, one_argument, several, subscripts, after_name, bracketed, keyword_of, prefixed, by_mark, role, element_step, element, lefts, rights, graded, whole}
 use Rattle.model.proofs.Decks.ParseSteps.{bind_some, some_same, if_is, on_is, expect_some, Wanted, opening, close, less, greater, at_comma, sees_is, skip_gap, next_sound, left_side}
 
 -- the front of the tokens is as wanted
@@ -42,8 +42,8 @@ abbrev pub IsSound : Parser Expr → ℕ → Type 0
 IsSound parser k = (ts : List Tok) (p : Expr × List Tok) → parser ts ≡ Some p → Reads (Grade k p.0) ts p.1
 
 module _ (inner : Parser Expr) (inner_sound : IsSound inner 7) where
-  one_sound : (ts : List Tok) (p : Arg × List Tok) → one inner ts ≡ Some p → Reads (One p.0) ts p.1
-  unfolding one
+  one_sound : (ts : List Tok) (p : Arg × List Tok) → one_argument inner ts ≡ Some p → Reads (One p.0) ts p.1
+  unfolding one_argument
   one_sound ts p h =
       let g = skip_gap ts in
       elim (if_is (starts (skip ts)) (bind (inner (skip ts)) (λ e rest. Some (Given e, skip rest))) (Some (Absent, skip ts)) (Some p) h) [
@@ -63,7 +63,7 @@ module _ (inner : Parser Expr) (inner_sound : IsSound inner 7) where
   unfolding several
   several_sound zero ts p h = absurd (cc)
   several_sound (suc n) ts p h =
-      let b = bind_some (one inner ts) (on_comma n) p h in
+      let b = bind_some (one_argument inner ts) (on_comma n) p h in
       let r = one_sound ts b.0 b.1 in
       elim (if_is (sees mark.Comma b.0.1) (bind (several inner n (tail b.0.1)) (λ args end. Some (More b.0.0 args, end))) (Some (More b.0.0 Nil, b.0.1)) (Some p) b.2) [
         | inl c ↦
@@ -78,8 +78,8 @@ module _ (inner : Parser Expr) (inner_sound : IsSound inner 7) where
         | inr c ↦ conclude Several ts (More b.0.0 Nil, b.0.1) p c.1 (record { text = r.text; spelled = single b.0.0 r.text r.spelled; is = r.is })
       ]
 
-  named_sound : (f : List ℕ) (ts : List Tok) (p : Expr × List Tok) → named inner f ts ≡ Some p → Reads (Element p.0) (Word f ∷ ts) p.1
-  unfolding named
+  named_sound : (f : List ℕ) (ts : List Tok) (p : Expr × List Tok) → after_name inner f ts ≡ Some p → Reads (Element p.0) (Word f ∷ ts) p.1
+  unfolding after_name
   named_sound f ts p h =
       elim (if_is (sees mark.Open ts) _ _ (Some p) h) [
         | inl c ↦

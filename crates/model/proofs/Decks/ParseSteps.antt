@@ -9,7 +9,7 @@ use Rattle.model.specs.declared.trees.Binary.{Binary}
 use Rattle.model.specs.declared.trees.Binary.TheVariants as binary
 use Rattle.model.specs.Deck.Tokens.{Tok, Blank, Word, Digits, Quoted, Sign}
 use Rattle.model.specs.Deck.Grammar.{grade, left, right, link, spaced, gap}
-use Rattle.model.specs.Deck.Parse.{Parser, bind, Next, Ends, Sees, next, on, by_role, role, either, infix_by, skip, expect, sees, same, tail, finish}
+use Rattle.model.specs.Deck.Parse.{Parser, bind, Onward, Ends, Sees, next, on, by_role, role, binary_or_unary, infix_by, skip, expect, sees, same, tail, at_end}
 
 pub bind_some : {A B : Type 0} (r : Option (A × List Tok)) (f : A → Parser B) (q : B × List Tok) → bind r f ≡ Some q
     → (p : A × List Tok) × (r ≡ Some p) × (f p.0 p.1 ≡ Some q)
@@ -28,14 +28,14 @@ pub if_is : {A : Type 0} (b : Bool) (x y z : A) → (if b then x else y) ≡ z �
 if_is true x y z h = inl (refl, h)
 if_is false x y z h = inr (refl, h)
 
-pub record Goes {A : Type 0} (x : Next) (k : ℕ) (go : Binary → List Tok → A) (y : A) : Type 0 where
+pub record Goes {A : Type 0} (x : Onward) (k : ℕ) (go : Binary → List Tok → A) (y : A) : Type 0 where
   pub op : Binary
   pub after : List Tok
   pub is : x ≡ Sees op after
   pub at : (grade op == k) ≡ true
   pub gives : go op after ≡ y
 
-pub on_is : {A : Type 0} (x : Next) (k : ℕ) (stop : A) (go : Binary → List Tok → A) (y : A) → on x k stop go ≡ y → (stop ≡ y) ⊎ Goes x k go y
+pub on_is : {A : Type 0} (x : Onward) (k : ℕ) (stop : A) (go : Binary → List Tok → A) (y : A) → on x k stop go ≡ y → (stop ≡ y) ⊎ Goes x k go y
 unfolding on
 on_is Ends k stop go y h = inl h
 on_is (Sees op after) k stop go y h = elim (if_is (grade op == k) (go op after) stop y h) [
@@ -83,11 +83,11 @@ skip_gap (Digits n ∷ ts) = (false, refl)
 skip_gap (Quoted s ∷ ts) = (false, refl)
 skip_gap (Sign n ∷ ts) = (false, refl)
 
-abbrev text_of : Next → List Tok
+abbrev text_of : Onward → List Tok
 text_of Ends = []
 text_of (Sees op ts) = link op ++ ts
 
-either_sound : (op' : Binary) (m : Mark) (ts : List Tok) (op : Binary) (after : List Tok) → link op' ≡ spaced m → either op' m ts ≡ Sees op after → Blank ∷ Sign m ∷ ts ≡ link op ++ after
+either_sound : (op' : Binary) (m : Mark) (ts : List Tok) (op : Binary) (after : List Tok) → link op' ≡ spaced m → binary_or_unary op' m ts ≡ Sees op after → Blank ∷ Sign m ∷ ts ≡ link op ++ after
 either_sound op' m [] op after l h = ap text_of h
 either_sound op' m (Blank ∷ ts) op after l h = ap (λ x. x ++ ts) (sym l) ∙ ap text_of h
 either_sound op' m (Word s ∷ ts) op after l h = ap text_of h
@@ -154,10 +154,10 @@ left_side binary.Alternate k h n = let e : k ≡ 6 = grind arith in (grind arith
 abbrev pub All : {A : Type 0} → Option (A × List Tok) → A → Type 0
 All o a = o ≡ Some (a, [])
 
-finish_at : {A : Type 0} (a : A) (p : A × List Tok) (rest : List Tok) → p.1 ≡ rest → finish (Some (p.0, rest)) ≡ Some a → All (Some p) a
+finish_at : {A : Type 0} (a : A) (p : A × List Tok) (rest : List Tok) → p.1 ≡ rest → at_end (Some (p.0, rest)) ≡ Some a → All (Some p) a
 finish_at a p [] i h = ap₂ (λ x y. Some (x, y)) (some_same p.0 a h) i
 finish_at a p (t ∷ rest) i h = absurd (cc)
 
-pub finish_is : {A : Type 0} (o : Option (A × List Tok)) (a : A) → finish o ≡ Some a → All o a
+pub finish_is : {A : Type 0} (o : Option (A × List Tok)) (a : A) → at_end o ≡ Some a → All o a
 finish_is None a h = absurd (cc)
 finish_is (Some p) a h = finish_at a p p.1 refl h

@@ -7,7 +7,7 @@ use Rattle.std.proofs.lemmas.Bool.Decides.{nat_tests}
 use Rattle.std.proofs.lemmas.List.{length-map, length-take}
 use Rattle.model.specs.declared.cards.Statement.{Statement}
 use Rattle.model.specs.declared.cards.CardRule.TheVariants as rule
-use Rattle.model.specs.Deck.Cards.{Card, to_first, lines, numbered_from, cards, is_blank_text, is_known_control, CardKind, Comment, Control, UnknownControl, Continuation, Start, kind_by_first, kind_of_columns, kind_of, Column, placed, bytes, before_continued, continued, before_texts, texts, into_first, split, pieces_of_texts, pieces_of, is_end, beginnings, first_ended, ended, kept, first_card, statements_from, statements_of, fault, bad_bytes, lost_continuations, unknown_controls, long_statements, faults_of}
+use Rattle.model.specs.Deck.Cards.{Card, to_first, lines, numbered_from, cards, is_blank_text, is_known_control, CardKind, Comment, Control, UnknownControl, Continuation, Start, kind_by_first, kind_of_columns, kind_of, Column, placed, column_bytes, before_continued, continued, before_texts, texts, into_first, split, pieces_of_texts, pieces_of, is_end, beginnings, first_ended, ended, kept, first_card, statements_from, statements_of, fault, bad_bytes, lost_continuations, unknown_controls, long_statements, faults_of}
 use Rattle.model.specs.Laws.Decks.{DecksFit, CardsFit, AcceptedDecksFit}
 use Rattle.model.specs.Deck.Trees.{Stmt}
 use Rattle.model.specs.Deck.Weights.{weight, total}
@@ -154,7 +154,7 @@ end_some : (p : List Column) → is_end p ≡ true → 1 ≤ length p
 end_some [] h = absurd (cc)
 end_some (c ∷ cs) h = omega arith
 
-kept_some : (p : List Column) → is_blank_text (bytes p) ≡ false → 1 ≤ length p
+kept_some : (p : List Column) → is_blank_text (column_bytes p) ≡ false → 1 ≤ length p
 kept_some [] h = absurd (cc)
 kept_some (c ∷ cs) h = omega arith
 
@@ -164,7 +164,7 @@ kept_total (p ∷ ps) =
     let more = kept_total ps in
     elim (cases_Bool (is_end p)) [
       | inl h ↦ (let some = end_some p h in rw h (omega arith, omega arith))
-      | inr h ↦ elim (cases_Bool (is_blank_text (bytes p))) [
+      | inr h ↦ elim (cases_Bool (is_blank_text (column_bytes p))) [
         | inl i ↦ rw (h, i) (omega arith, omega arith)
         | inr i ↦ (let some = kept_some p i in rw (h, i) (omega arith, omega arith))
       ]
@@ -180,7 +180,7 @@ short_pieces (p ∷ ps) h = elim (if_is (nat_lt 4000 (length p)) (fault (first_c
 abbrev on_statements : List Statement → ℕ
 on_statements ss = total (λ s. length s.text) ss
 
-length-bytes : (p : List Column) → length (bytes p) ≡ length p
+length-bytes : (p : List Column) → length (column_bytes p) ≡ length p
 length-bytes p = length-map p (λ c. c.byte)
 
 statements_total : (n : ℕ) (ps : List (List Column)) → on_statements (statements_from n ps) ≡ total length ps

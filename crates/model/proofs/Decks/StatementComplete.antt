@@ -9,7 +9,7 @@ use Rattle.model.specs.Deck.Tokens.{Tok, Blank, Word, Sign}
 use Rattle.model.specs.Deck.Trees.{Bytes, Expr, Place, Computed, Goto, Always, Body, Assign, Replace, Stmt, Plain, End}
 use Rattle.model.specs.Deck.Grammar.{gap, IsElement, IsExpr}
 use Rattle.model.specs.Deck.Statements.{on_success, on_failure, end_word, IsPlace, label, computed, InBrackets, brackets, IsExits, always, success, failure, success_first, failure_first, IsGoto, next, leaves, IsObject, absent, present, IsBody, nothing, evaluate, match, assign, replace, IsLabel, unlabelled, labelled, IsEntry, first, entry, Tree, plain, end, HasNoTree}
-use Rattle.model.specs.Deck.Parse.{Parser, Ends, bind, skip, starts, tok_starts, sees_tok, sees, expect, element, whole, finish}
+use Rattle.model.specs.Deck.Parse.{Parser, Ends, bind, skip, starts, tok_starts, sees_tok, sees, expect, element, whole, at_end}
 use Rattle.model.specs.Deck.Parse as parse
 use Rattle.model.specs.Deck.ParseStatements as spec
 use Rattle.model.specs.Deck.ParseStatements.{sees_word, sees_spaced, starts_spaced, starts_word, word_spaced, from_success, from_failure, stmt}
@@ -71,8 +71,8 @@ module _ (d : ℕ) where
   close_stops false more = (refl, refl)
 
   place_full : {p : Place} {ts : List Tok} → IsPlace p ts → length ts ≤ d → (h : Bool) (rest : List Tok)
-      → spec.place d (ts ++ (gap h ++ Sign mark.Close ∷ rest)) ≡ Some (p, gap h ++ Sign mark.Close ∷ rest)
-  unfolding spec.place sees
+      → spec.place_parser d (ts ++ (gap h ++ Sign mark.Close ∷ rest)) ≡ Some (p, gap h ++ Sign mark.Close ∷ rest)
+  unfolding spec.place_parser sees
   place_full (label l) fits h rest = refl
   place_full (computed e ts s) fits h rest =
       let stops = close_stops h rest in
@@ -93,7 +93,7 @@ module _ (d : ℕ) where
       let regroup : (gap g ++ (ts ++ (gap h ++ Sign mark.Close ∷ []))) ++ rest ≡ gap g ++ (ts ++ (gap h ++ Sign mark.Close ∷ rest)) = simp append_assoc in
       let short : length ts ≤ d = omega (arith, length-append (gap g) (ts ++ (gap h ++ Sign mark.Close ∷ [])), length-append ts (gap h ++ Sign mark.Close ∷ [])) in
       rw (regroup, place_skip s g (gap h ++ Sign mark.Close ∷ rest))
-      (bind_is (spec.place d (ts ++ (gap h ++ Sign mark.Close ∷ rest))) (λ x end. expect mark.Close x (skip end)) (p, gap h ++ Sign mark.Close ∷ rest) (place_full s short h rest)
+      (bind_is (spec.place_parser d (ts ++ (gap h ++ Sign mark.Close ∷ rest))) (λ x end. expect mark.Close x (skip end)) (p, gap h ++ Sign mark.Close ∷ rest) (place_full s short h rest)
       ∙ rw (skip_mark h mark.Close rest) (expect_close p rest))
 
   -- no word comes next
@@ -167,8 +167,8 @@ module _ (d : ℕ) where
       rw (append_assoc (gap g) ts (gap h), exits_skip s g (gap h)) (exits_full s (omega (arith, length-append (gap g) ts)) h)
 
   -- ---- bodies
-  object_full : {o : Option Expr} {ts : List Tok} → IsObject o ts → length ts ≤ d → (rest : List Tok) → Over rest → spec.object d (ts ++ rest) ≡ Some (o, rest)
-  unfolding spec.object
+  object_full : {o : Option Expr} {ts : List Tok} → IsObject o ts → length ts ≤ d → (rest : List Tok) → Over rest → spec.object_parser d (ts ++ rest) ≡ Some (o, rest)
+  unfolding spec.object_parser
   object_full absent fits rest over = rw over.element_no refl
   object_full (present e ts s) fits rest over =
       rw (begins_spaced (ts ++ rest) (begins_append ts rest (expr_begins e ts s)))
@@ -184,8 +184,8 @@ module _ (d : ℕ) where
   equal_seen ts = refl
 
   subject_full : (x : Expr) (ts : List Tok) → IsElement x ts → length ts ≤ d → (rest : List Tok) → sees mark.Open rest ≡ false → sees mark.Less rest ≡ false
-      → spec.body d (Blank ∷ (ts ++ rest)) ≡ spec.after_subject d x rest
-  unfolding spec.body
+      → spec.body_parser d (Blank ∷ (ts ++ rest)) ≡ spec.after_subject d x rest
+  unfolding spec.body_parser
   subject_full x ts s fits rest no_open no_less =
       rw (begins_spaced (ts ++ rest) (begins_append ts rest (element_begins x ts s)))
       (bind_is (element d (ts ++ rest)) (spec.after_subject d) (x, rest) (element_full d x ts fits s rest no_open no_less))
@@ -201,8 +201,8 @@ module _ (d : ℕ) where
   unfolding sees
   blank_no ts = (refl, refl)
 
-  body_full : {b : Body} {ts : List Tok} → IsBody b ts → length ts ≤ d → (rest : List Tok) → After rest → spec.body d (ts ++ rest) ≡ Some (b, rest)
-  unfolding spec.body spec.after_subject spec.after_pattern
+  body_full : {b : Body} {ts : List Tok} → IsBody b ts → length ts ≤ d → (rest : List Tok) → After rest → spec.body_parser d (ts ++ rest) ≡ Some (b, rest)
+  unfolding spec.body_parser spec.after_subject spec.after_pattern
   body_full nothing fits rest after = rw after.over.element_no refl
   body_full (evaluate x ts s) fits rest after =
       subject_full x ts s (omega arith) rest after.over.open_no after.over.less_no ∙ rw (after.no_equal, after.over.element_no) refl
@@ -213,7 +213,7 @@ module _ (d : ℕ) where
   body_full (assign x o ts us s t) fits rest after =
       let none = blank_no (Sign mark.Equal ∷ (us ++ rest)) in
       rw (append_assoc ts (Blank ∷ Sign mark.Equal ∷ us) rest) (subject_full x ts s (omega (arith, length-append ts (Blank ∷ Sign mark.Equal ∷ us))) (Blank ∷ Sign mark.Equal ∷ (us ++ rest)) none.0 none.1
-      ∙ rw (equal_seen (us ++ rest)) (bind_is (spec.object d (us ++ rest)) (λ y end. Some (Assign x y, end)) (o, rest) (object_full t (omega (arith, length-append ts (Blank ∷ Sign mark.Equal ∷ us))) rest after.over)))
+      ∙ rw (equal_seen (us ++ rest)) (bind_is (spec.object_parser d (us ++ rest)) (λ y end. Some (Assign x y, end)) (o, rest) (object_full t (omega (arith, length-append ts (Blank ∷ Sign mark.Equal ∷ us))) rest after.over)))
   body_full (replace x p o ts us vs s t u) fits rest after =
       let tail_of : List Tok = us ++ (Blank ∷ Sign mark.Equal ∷ vs) in
       let none = blank_no (us ++ (Blank ∷ Sign mark.Equal ∷ (vs ++ rest))) in
@@ -221,12 +221,12 @@ module _ (d : ℕ) where
       let long : length ts + suc (length us + suc (suc (length vs))) ≤ d = omega (arith, length-append ts (Blank ∷ tail_of), length-append us (Blank ∷ Sign mark.Equal ∷ vs)) in
       rw regroup (subject_full x ts s (omega arith) (Blank ∷ (us ++ (Blank ∷ Sign mark.Equal ∷ (vs ++ rest)))) none.0 none.1
       ∙ pattern_full x p us t (omega arith) (Blank ∷ Sign mark.Equal ∷ (vs ++ rest)) (over_equal (vs ++ rest))
-      ∙ rw (equal_seen (vs ++ rest)) (bind_is (spec.object d (vs ++ rest)) (λ y end. Some (Replace x p y, end)) (o, rest) (object_full u (omega arith) rest after.over)))
+      ∙ rw (equal_seen (vs ++ rest)) (bind_is (spec.object_parser d (vs ++ rest)) (λ y end. Some (Replace x p y, end)) (o, rest) (object_full u (omega arith) rest after.over)))
 
   -- ---- statements
   no_label : {b : Body} {us : List Tok} → IsBody b us → {g : Goto} {vs : List Tok} → IsGoto g vs → (h : Bool)
-      → spec.statement d (us ++ (vs ++ gap h)) ≡ spec.after_label d None (us ++ (vs ++ gap h))
-  unfolding spec.statement sees_word bind
+      → spec.statement_parser d (us ++ (vs ++ gap h)) ≡ spec.after_label d None (us ++ (vs ++ gap h))
+  unfolding spec.statement_parser sees_word bind
   no_label nothing next true = refl
   no_label nothing next false = refl
   no_label nothing (leaves x ts g s) h = refl
@@ -244,7 +244,7 @@ module _ (d : ℕ) where
       → spec.after_label d l (us ++ (vs ++ gap h)) ≡ Some (Plain l b g, [])
   unfolding spec.after_label
   plain_full l {b} {us} s {g} {vs} t h body_fits goto_fits =
-      bind_is (spec.body d (us ++ (vs ++ gap h))) (λ x rest. bind (spec.goto d rest) (λ y end. Some (Plain l x y, skip end))) (b, vs ++ gap h)
+      bind_is (spec.body_parser d (us ++ (vs ++ gap h))) (λ x rest. bind (spec.goto d rest) (λ y end. Some (Plain l x y, skip end))) (b, vs ++ gap h)
       (body_full s body_fits (vs ++ gap h) (record { over = over_goto t h; no_equal = equal_no t h }))
       ∙ bind_is (spec.goto d (vs ++ gap h)) (λ y end. Some (Plain l b y, skip end)) (g, gap h) (goto_full t goto_fits h)
       ∙ ap (λ rest. Some (Plain l b g, rest)) (skip_nothing h)
@@ -257,18 +257,18 @@ module _ (d : ℕ) where
       known false h = h
 
   with_label : {l : Option Bytes} {ls : List Tok} → IsLabel l ls → {b : Body} {us : List Tok} → IsBody b us → {g : Goto} {vs : List Tok} → IsGoto g vs → (h : Bool)
-      → spec.statement d (ls ++ (us ++ (vs ++ gap h))) ≡ spec.after_label d l (us ++ (vs ++ gap h))
-  unfolding spec.statement sees_word bind
+      → spec.statement_parser d (ls ++ (us ++ (vs ++ gap h))) ≡ spec.after_label d l (us ++ (vs ++ gap h))
+  unfolding spec.statement_parser sees_word bind
   with_label unlabelled s t h = no_label s t h
   with_label (labelled l n) s t h = rw (differs l n) refl
 
-  end_full : {l : Option Bytes} {ts : List Tok} → IsEntry l ts → (h : Bool) → spec.statement d (Word end_word ∷ (ts ++ gap h)) ≡ Some (End l, [])
-  unfolding spec.statement spec.after_end sees_word word_spaced starts_word bind
+  end_full : {l : Option Bytes} {ts : List Tok} → IsEntry l ts → (h : Bool) → spec.statement_parser d (Word end_word ∷ (ts ++ gap h)) ≡ Some (End l, [])
+  unfolding spec.statement_parser spec.after_end sees_word word_spaced starts_word bind
   end_full first true = ap (λ rest. Some (End None, rest)) (skip_nothing true)
   end_full first false = ap (λ rest. Some (End None, rest)) (skip_nothing false)
   end_full (entry l) h = ap (λ rest. Some (End (Some l), rest)) (skip_nothing h)
 
-  statement_full : {s : Stmt} {ts : List Tok} → Tree s ts → length ts ≤ d → spec.statement d ts ≡ Some (s, [])
+  statement_full : {s : Stmt} {ts : List Tok} → Tree s ts → length ts ≤ d → spec.statement_parser d ts ≡ Some (s, [])
   statement_full (plain l b g ts us vs h i s t) fits =
       let long : length us + length vs ≤ d = omega (arith, length-append ts (us ++ (vs ++ gap h)), length-append us (vs ++ gap h), length-append vs (gap h)) in
       with_label i s t h ∙ plain_full l s t h (omega arith) (omega arith)
@@ -276,7 +276,7 @@ module _ (d : ℕ) where
 
 pub stmt_full : (ts : List Tok) (s : Stmt) → Tree s ts → stmt ts ≡ Some s
 unfolding stmt
-stmt_full ts s t = ap finish (statement_full (length ts) t (omega arith))
+stmt_full ts s t = ap at_end (statement_full (length ts) t (omega arith))
 
 pub no_tree : (ts : List Tok) → stmt ts ≡ None → HasNoTree ts
 no_tree ts none s t = let some = stmt_full ts s t in absurd (cc)

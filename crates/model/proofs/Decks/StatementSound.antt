@@ -10,7 +10,7 @@ use Rattle.model.specs.Deck.Grammar.{gap, IsElement, IsExpr}
 use Rattle.model.specs.Deck.Statements.{on_success, on_failure, end_word, IsPlace, label, computed, InBrackets, brackets, IsExits, always, success, failure, success_first, failure_first, IsGoto, next, leaves, IsObject, absent, present, IsBody, nothing, evaluate, match, assign, replace, IsLabel, unlabelled, labelled, IsEntry, first, entry, Tree, plain, end}
 use Rattle.model.specs.Deck.Parse.{Parser, bind, skip, starts, sees, tail, expect, element, whole}
 use Rattle.model.specs.Deck.ParseStatements as spec
-use Rattle.model.specs.Deck.ParseStatements.{sees_word, is_blank, sees_spaced, starts_spaced, starts_word, word_spaced, from_success, from_failure, stmt}
+use Rattle.model.specs.Deck.ParseStatements.{sees_word, is_blank_tok, sees_spaced, starts_spaced, starts_word, word_spaced, from_success, from_failure, stmt}
 use Rattle.model.proofs.Decks.ParseSteps.{bind_some, some_same, if_is, Wanted, opening, close, at_equal, at_colon, at_dollar, bind_is, sees_is, skip_gap, All, finish_is}
 use Rattle.model.proofs.Decks.ParseSound.{Front, conclude_as, join2, join3, closed, elements_sound, whole_sound}
 
@@ -19,7 +19,7 @@ and_true : (a b : Bool) → (a && b) ≡ true → (a ≡ true) × (b ≡ true)
 and_true true b h = (refl, h)
 and_true false b h = absurd (cc)
 
-blank_is : (t : Tok) → is_blank t ≡ true → t ≡ Blank
+blank_is : (t : Tok) → is_blank_tok t ≡ true → t ≡ Blank
 blank_is Blank h = refl
 blank_is _ h = absurd (cc)
 
@@ -27,13 +27,13 @@ sees_spaced_is : (m : Mark) → Wanted m → (ts : List Tok) → sees_spaced m t
 unfolding sees_spaced
 sees_spaced_is m w [] h = absurd (cc)
 sees_spaced_is m w (t ∷ ts) h =
-    let b = and_true (is_blank t) (sees m ts) h in
+    let b = and_true (is_blank_tok t) (sees m ts) h in
     ap (λ x. x ∷ ts) (blank_is t b.0) ∙ ap (λ x. Blank ∷ x) (sees_is m w ts b.1)
 
 starts_spaced_is : (ts : List Tok) → starts_spaced ts ≡ true → ts ≡ Blank ∷ tail ts
 unfolding starts_spaced
 starts_spaced_is [] h = absurd (cc)
-starts_spaced_is (t ∷ ts) h = ap (λ x. x ∷ ts) (blank_is t (and_true (is_blank t) (starts ts) h).0)
+starts_spaced_is (t ∷ ts) h = ap (λ x. x ∷ ts) (blank_is t (and_true (is_blank_tok t) (starts ts) h).0)
 
 sees_word_is : (w : Bytes) (ts : List Tok) → sees_word w ts ≡ true → ts ≡ Word w ∷ tail ts
 unfolding sees_word
@@ -54,7 +54,7 @@ word_spaced_is : (ts : List Tok) → word_spaced ts ≡ true → (l : Bytes) × 
 unfolding word_spaced
 word_spaced_is [] h = absurd (cc)
 word_spaced_is (t ∷ ts) h =
-    let b = and_true (is_blank t) (starts_word ts) h in
+    let b = and_true (is_blank_tok t) (starts_word ts) h in
     let w = word_is_next ts b.1 in
     (w.0, ap (λ x. x ∷ ts) (blank_is t b.0) ∙ ap (λ x. Blank ∷ x) w.1)
 
@@ -64,8 +64,8 @@ module _ (d : ℕ) where
   named_sound (Word l ∷ ts) p h = conclude_as IsPlace (Word l ∷ ts) (Label l, ts) p h (record { text = Word l ∷ []; spelled = label l; is = refl })
   named_sound _ p h = absurd (cc)
 
-  place_sound : (ts : List Tok) (p : Place × List Tok) → spec.place d ts ≡ Some p → Front (IsPlace p.0) ts p.1
-  unfolding spec.place
+  place_sound : (ts : List Tok) (p : Place × List Tok) → spec.place_parser d ts ≡ Some p → Front (IsPlace p.0) ts p.1
+  unfolding spec.place_parser
   place_sound ts p h = elim (if_is (sees mark.Dollar ts) (bind (element d (tail ts)) (λ e rest. Some (Computed e, rest))) (spec.place_named d ts) (Some p) h) [
     | inl c ↦
         let b = bind_some (element d (tail ts)) (λ e rest. Some (Computed e, rest)) p c.1 in
@@ -80,9 +80,9 @@ module _ (d : ℕ) where
 
   in_brackets_sound : (ts : List Tok) (p : Place × List Tok) → spec.in_brackets d ts ≡ Some p → Front (InBrackets p.0) ts p.1
   unfolding spec.in_brackets
-  in_brackets_sound ts p h = elim (if_is (sees mark.Open ts) (bind (spec.place d (skip (tail ts))) (λ x rest. expect mark.Close x (skip rest))) None (Some p) h) [
+  in_brackets_sound ts p h = elim (if_is (sees mark.Open ts) (bind (spec.place_parser d (skip (tail ts))) (λ x rest. expect mark.Close x (skip rest))) None (Some p) h) [
     | inl c ↦
-        let b = bind_some (spec.place d (skip (tail ts))) (λ x rest. expect mark.Close x (skip rest)) p c.1 in
+        let b = bind_some (spec.place_parser d (skip (tail ts))) (λ x rest. expect mark.Close x (skip rest)) p c.1 in
         let r = place_sound (skip (tail ts)) b.0 b.1 in
         let g = skip_gap (tail ts) in
         let i = skip_gap b.0.1 in
@@ -171,8 +171,8 @@ module _ (d : ℕ) where
   ]
 
   -- ---- bodies
-  object_sound : (ts : List Tok) (p : Option Expr × List Tok) → spec.object d ts ≡ Some p → Front (IsObject p.0) ts p.1
-  unfolding spec.object
+  object_sound : (ts : List Tok) (p : Option Expr × List Tok) → spec.object_parser d ts ≡ Some p → Front (IsObject p.0) ts p.1
+  unfolding spec.object_parser
   object_sound ts p h = elim (if_is (starts_spaced ts) (bind (whole d (tail ts)) (λ e rest. Some (Some e, rest))) (Some (None, ts)) (Some p) h) [
     | inl c ↦
         let b = bind_some (whole d (tail ts)) (λ e rest. Some (Some e, rest)) p c.1 in
@@ -189,9 +189,9 @@ module _ (d : ℕ) where
     after_pattern_sound : (p : Expr) (ps : List Tok) → IsExpr p ps → (ts : List Tok) (q : Body × List Tok) → spec.after_pattern d x p ts ≡ Some q
         → Front (λ us. IsBody q.0 (Blank ∷ (xs ++ (Blank ∷ (ps ++ us))))) ts q.1
     unfolding spec.after_pattern
-    after_pattern_sound p ps i ts q h = elim (if_is (sees_spaced mark.Equal ts) (bind (spec.object d (tail (tail ts))) (λ o rest. Some (Replace x p o, rest))) (Some (Match x p, ts)) (Some q) h) [
+    after_pattern_sound p ps i ts q h = elim (if_is (sees_spaced mark.Equal ts) (bind (spec.object_parser d (tail (tail ts))) (λ o rest. Some (Replace x p o, rest))) (Some (Match x p, ts)) (Some q) h) [
       | inl c ↦
-          let b = bind_some (spec.object d (tail (tail ts))) (λ o rest. Some (Replace x p o, rest)) q c.1 in
+          let b = bind_some (spec.object_parser d (tail (tail ts))) (λ o rest. Some (Replace x p o, rest)) q c.1 in
           let r = object_sound (tail (tail ts)) b.0 b.1 in
           conclude_as (λ y us. IsBody y (Blank ∷ (xs ++ (Blank ∷ (ps ++ us))))) ts (Replace x p b.0.0, b.0.1) q b.2
           (record { text = Blank ∷ Sign mark.Equal ∷ r.text; spelled = replace x p b.0.0 xs ps r.text is_subject i r.spelled; is = after_equal ts c.0 r.text b.0.1 r.is })
@@ -201,9 +201,9 @@ module _ (d : ℕ) where
 
     after_subject_sound : (ts : List Tok) (q : Body × List Tok) → spec.after_subject d x ts ≡ Some q → Front (λ us. IsBody q.0 (Blank ∷ (xs ++ us))) ts q.1
     unfolding spec.after_subject
-    after_subject_sound ts q h = elim (if_is (sees_spaced mark.Equal ts) (bind (spec.object d (tail (tail ts))) (λ o rest. Some (Assign x o, rest))) _ (Some q) h) [
+    after_subject_sound ts q h = elim (if_is (sees_spaced mark.Equal ts) (bind (spec.object_parser d (tail (tail ts))) (λ o rest. Some (Assign x o, rest))) _ (Some q) h) [
       | inl c ↦
-          let b = bind_some (spec.object d (tail (tail ts))) (λ o rest. Some (Assign x o, rest)) q c.1 in
+          let b = bind_some (spec.object_parser d (tail (tail ts))) (λ o rest. Some (Assign x o, rest)) q c.1 in
           let r = object_sound (tail (tail ts)) b.0 b.1 in
           conclude_as (λ y us. IsBody y (Blank ∷ (xs ++ us))) ts (Assign x b.0.0, b.0.1) q b.2
           (record { text = Blank ∷ Sign mark.Equal ∷ r.text; spelled = assign x b.0.0 xs r.text is_subject r.spelled; is = after_equal ts c.0 r.text b.0.1 r.is })
@@ -222,8 +222,8 @@ module _ (d : ℕ) where
       ]
     ]
 
-  body_sound : (ts : List Tok) (p : Body × List Tok) → spec.body d ts ≡ Some p → Front (IsBody p.0) ts p.1
-  unfolding spec.body
+  body_sound : (ts : List Tok) (p : Body × List Tok) → spec.body_parser d ts ≡ Some p → Front (IsBody p.0) ts p.1
+  unfolding spec.body_parser
   body_sound ts p h = elim (if_is (starts_spaced ts) (bind (element d (tail ts)) (spec.after_subject d)) (Some (Nothing, ts)) (Some p) h) [
     | inl c ↦
         let b = bind_some (element d (tail ts)) (spec.after_subject d) p c.1 in
@@ -244,7 +244,7 @@ module _ (d : ℕ) where
   plain_sound : (l : Option Bytes) (ls ts : List Tok) (s : Stmt) → IsLabel l ls → spec.after_label d l ts ≡ Some (s, []) → Tree s (ls ++ ts)
   unfolding spec.after_label
   plain_sound l ls ts s i h =
-      let b = bind_some (spec.body d ts) (λ b rest. bind (spec.goto d rest) (λ g end. Some (Plain l b g, skip end))) (s, []) h in
+      let b = bind_some (spec.body_parser d ts) (λ b rest. bind (spec.goto d rest) (λ g end. Some (Plain l b g, skip end))) (s, []) h in
       let rb = body_sound ts b.0 b.1 in
       let g = bind_some (spec.goto d b.0.1) (λ g end. Some (Plain l b.0.0 g, skip end)) (s, []) b.2 in
       let rg = goto_sound b.0.1 g.0 g.1 in
@@ -267,16 +267,16 @@ module _ (d : ℕ) where
 
   end_sound : (ts : List Tok) (s : Stmt) → spec.after_end ts ≡ Some (s, []) → Tree s (Word end_word ∷ ts)
   unfolding spec.after_end
-  end_sound ts s h = elim (if_is (word_spaced ts) (bind (spec.label (tail ts)) to_end) (Some (End None, skip ts)) (Some (s, [])) h) [
+  end_sound ts s h = elim (if_is (word_spaced ts) (bind (spec.label_parser (tail ts)) to_end) (Some (End None, skip ts)) (Some (s, [])) h) [
     | inl c ↦
         let w = word_spaced_is ts c.0 in
-        let read : bind (spec.label (tail ts)) to_end ≡ Some (End (Some w.0), skip (tail (tail ts))) = ap (λ us. bind (spec.label (tail us)) to_end) w.1 ∙ bind_is (Some (Some w.0, tail (tail ts))) to_end (Some w.0, tail (tail ts)) refl in
+        let read : bind (spec.label_parser (tail ts)) to_end ≡ Some (End (Some w.0), skip (tail (tail ts))) = ap (λ us. bind (spec.label_parser (tail us)) to_end) w.1 ∙ bind_is (Some (Some w.0, tail (tail ts))) to_end (Some w.0, tail (tail ts)) refl in
         end_of (Some w.0) (Blank ∷ Word w.0 ∷ []) ts (tail (tail ts)) s (entry w.0) w.1 (sym read ∙ c.1)
     | inr c ↦ end_of None [] ts ts s first refl c.1
   ]
 
   -- a first word that isn't END is a label
-  label_sound : (ts : List Tok) (s : Stmt) → sees_word end_word ts ≡ false → bind (spec.label ts) (spec.after_label d) ≡ Some (s, []) → Tree s ts
+  label_sound : (ts : List Tok) (s : Stmt) → sees_word end_word ts ≡ false → bind (spec.label_parser ts) (spec.after_label d) ≡ Some (s, []) → Tree s ts
   unfolding sees_word bind
   label_sound [] s w h = plain_sound None [] [] s unlabelled h
   label_sound (Word l ∷ ts) s w h = plain_sound (Some l) (Word l ∷ []) ts s (labelled l (λ e. absurd (let t = (bytes_eq-Decides l end_word).1 e in cc))) h
@@ -285,13 +285,13 @@ module _ (d : ℕ) where
   label_sound (Quoted q ∷ ts) s w h = plain_sound None [] (Quoted q ∷ ts) s unlabelled h
   label_sound (Sign m ∷ ts) s w h = plain_sound None [] (Sign m ∷ ts) s unlabelled h
 
-  statement_sound : (ts : List Tok) (s : Stmt) → spec.statement d ts ≡ Some (s, []) → Tree s ts
-  unfolding spec.statement
-  statement_sound ts s h = elim (if_is (sees_word end_word ts) (spec.after_end (tail ts)) (bind (spec.label ts) (spec.after_label d)) (Some (s, [])) h) [
+  statement_sound : (ts : List Tok) (s : Stmt) → spec.statement_parser d ts ≡ Some (s, []) → Tree s ts
+  unfolding spec.statement_parser
+  statement_sound ts s h = elim (if_is (sees_word end_word ts) (spec.after_end (tail ts)) (bind (spec.label_parser ts) (spec.after_label d)) (Some (s, [])) h) [
     | inl c ↦ subst (λ x. Tree s x) (sym (sees_word_is end_word ts c.0)) (end_sound (tail ts) s c.1)
     | inr c ↦ label_sound ts s c.0 c.1
   ]
 
 pub stmt_sound : (ts : List Tok) (s : Stmt) → stmt ts ≡ Some s → Tree s ts
 unfolding stmt
-stmt_sound ts s h = statement_sound (length ts) ts s (finish_is (spec.statement (length ts) ts) s h)
+stmt_sound ts s h = statement_sound (length ts) ts s (finish_is (spec.statement_parser (length ts) ts) s h)

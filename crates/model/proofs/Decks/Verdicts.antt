@@ -10,7 +10,7 @@ use Rattle.model.specs.declared.causes.StmtFault.{StmtFault}
 use Rattle.model.specs.Deck.Cards.{Card, cards, deck, deck_of, ended, fault, faults_of, least, statements_of}
 use Rattle.model.specs.Deck.Cards as c
 use Rattle.model.specs.Deck.Cut.{least_lexical, toks_of}
-use Rattle.model.specs.Deck.Faults.{read, tree_unless, tree_or_none, cause_of, told, faults, faults_after, trees, tree_of_read, labels, labels_of_read, Accepted, verdict, verdict_of_cards, verdict_of_faults}
+use Rattle.model.specs.Deck.Faults.{read, tree_unless, tree_or_none, cause_of, fault_of, faults, faults_after, deck_trees, tree_of_read, labels_given, labels_of_read, Accepted, verdict, verdict_of_cards, verdict_of_faults}
 use Rattle.model.specs.Deck.ParseStatements.{stmt}
 use Rattle.model.specs.Deck.Pieces.{pieces}
 use Rattle.model.specs.Deck.Trees.{Bytes, Stmt}
@@ -52,17 +52,17 @@ read_is text s h = tree_alone (least_lexical (pieces text)) (stmt (toks_of (piec
 
 -- ---- statements without faults have trees
 
-have_one : (earlier all : List Bytes) (s : Statement) (more : List Statement) (r : Result Stmt Cause) → read s.text ≡ r → told s.number (cause_of earlier all r) ≡ []
-    → Have more (trees more) → Have (s ∷ more) (tree_of_read r ++ trees more)
+have_one : (earlier all : List Bytes) (s : Statement) (more : List Statement) (r : Result Stmt Cause) → read s.text ≡ r → fault_of s.number (cause_of earlier all r) ≡ []
+    → Have more (deck_trees more) → Have (s ∷ more) (tree_of_read r ++ deck_trees more)
 have_one earlier all s more (Ok t) e h rest = (e, rest)
 have_one earlier all s more (Err f) e h rest = absurd (cc)
 
-have_trees : (earlier all : List Bytes) (statements : List Statement) → faults_after earlier all statements ≡ [] → Have statements (trees statements)
-unfolding trees
+have_trees : (earlier all : List Bytes) (statements : List Statement) → faults_after earlier all statements ≡ [] → Have statements (deck_trees statements)
+unfolding deck_trees
 have_trees earlier all [] h = tt
 have_trees earlier all (s ∷ more) h =
-    let first = none_left (told s.number (cause_of earlier all (read s.text))) (faults_after (earlier ++ labels_of_read (read s.text)) all more) h in
-    let others = none_right (told s.number (cause_of earlier all (read s.text))) (faults_after (earlier ++ labels_of_read (read s.text)) all more) h in
+    let first = none_left (fault_of s.number (cause_of earlier all (read s.text))) (faults_after (earlier ++ labels_of_read (read s.text)) all more) h in
+    let others = none_right (fault_of s.number (cause_of earlier all (read s.text))) (faults_after (earlier ++ labels_of_read (read s.text)) all more) h in
     have_one earlier all s more (read s.text) refl first (have_trees (earlier ++ labels_of_read (read s.text)) all more others)
 
 -- ---- cards without faults
@@ -78,7 +78,7 @@ pub record ByCards (text : List ℕ) (statements : List Statement) : Type 0 wher
   pub clean : faults_of used ≡ []
   pub are : statements ≡ statements_of used
 
-by_verdict : (used : List Card) (statements : List Statement) (f : Option CardFault) → c.verdict used f ≡ Ok statements → (f ≡ None) × (statements_of used ≡ statements)
+by_verdict : (used : List Card) (statements : List Statement) (f : Option CardFault) → c.cards_verdict used f ≡ Ok statements → (f ≡ None) × (statements_of used ≡ statements)
 by_verdict used statements None h = (refl, cc)
 by_verdict used statements (Some f) h = absurd (cc)
 
@@ -108,8 +108,8 @@ by_deck : (text : List ℕ) (ss : List Stmt) (r : Result (List Statement) CardFa
 unfolding faults
 by_deck text ss (Err f) e h = absurd (cc)
 by_deck text ss (Ok statements) e h =
-    let v = by_faults (faults statements) (trees statements) ss h in
-    record { statements = statements; given = e; have = subst (λ x. Have statements x) v.1 (have_trees [] (labels statements) statements v.0) }
+    let v = by_faults (faults statements) (deck_trees statements) ss h in
+    record { statements = statements; given = e; have = subst (λ x. Have statements x) v.1 (have_trees [] (labels_given statements) statements v.0) }
 
 pub accepts : (text : List ℕ) (ss : List Stmt) → verdict text ≡ Accepted ss → Accepts text ss
 unfolding verdict

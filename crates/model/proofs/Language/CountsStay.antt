@@ -1,14 +1,14 @@
 -- Going deeper, the rules used stay where something was found, told or answered.
 use Rattle.std.proofs.Common.{◌≡◌, ℕ, zero, suc, ◌+◌, ◌-◌, ◌≤◌, List, [], ◌∷◌, Option, Some, None, refl, sym, ap, ◌∙◌, subst, arith}
-use Rattle.model.specs.Deck.Trees.{Nil, More, Absent, Given}
+use Rattle.model.specs.Deck.Trees.{Nil, More, Absent, Given, Expr}
 use Rattle.model.specs.Language.Programs.{Program, program}
-use Rattle.model.specs.Pattern.Patterns.{Basic, Pat, Plain, Succeed, Abort, Fence, Cat, Alt, Arbno, FenceOf, Cond, Imm, At, Defer, DeferBasic, Expr, Kind, Pending, Want, Answer, IsPattern, IsSaid, Ask, AskFor, SayThat, with_answer, Running, Failed, Asks, Matched}
+use Rattle.model.specs.Pattern.Patterns.{Basic, Pat, Plain, Succeed, Abort, Fence, Cat, Alt, Arbno, FenceOf, Cond, Imm, At, Defer, DeferBasic, Kind, Pending, Want, Answer, IsPattern, IsSaid, Ask, AskFor, SayThat, with_answer, Running, Failed, Asks, Matched}
 use Rattle.model.specs.Pattern.BasicEnds.{ends_at}
-use Rattle.model.specs.Pattern.Search.{Hit, Miss, Stop, Deep, Wait, on_miss, on_hit, try_each, Goal, Part, Closing, Saying, Found', Script, Next, told, given, given_argument, rule as search_rule, search, started, scan}
+use Rattle.model.specs.Pattern.Search.{Hit, Miss, Stop, Deep, Wait, on_miss, on_hit, try_each, Goal, Part, Closing, Saying, Found', Script, SearchOn, told_that, given_pattern, given_argument, search_rule as search_rule, search, started, scan}
 use Rattle.model.specs.Language.Operators.{assign_op, told_value}
-use Rattle.model.specs.Language.Meaning.{Val, W, Res, Done, Fails, Ends, Open, Settled, Query, QVal, QName, QArgs, QBody, QExec, QMatch, Span, Rule, Ret, Fail, Stop as Stops, Ask as Asking, Seek, Event, told_at, match_rule, sought, rule, run_rule, after, follow, meaning}
+use Rattle.model.specs.Language.Meaning.{Val, W, Res, Done, Fails, Ends, Open, Settled, Query, QVal, QName, QArgs, QBody, QExec, QMatch, Span, Rule, Ret, Fail, Stop as Stops, Ask as Asking, Seek, SearchEvent, told_at, match_rule, sought, rule, run_rule, after, follow, meaning}
 use Rattle.model.specs.Laws.Agreement.{first_w}
-use Rattle.model.specs.Language.RulesUsed.{if_missed, if_hit, end_counts, each_count, told_count, given_count, argument_count, NextCount, rule_count, search_count, scan_count, said_count, evaluated_count, match_count, own_count, after_count, event_count, follow_count, count, rules_used}
+use Rattle.model.specs.Language.RulesUsed.{if_missed, if_hit, end_counts, each_count, told_count, given_count, argument_count, NextCount, rule_count, search_count, scan_count, said_count, evaluated_count, match_count, own_count, after_count, event_count, follow_count, query_count, rules_used}
 use Rattle.model.specs.Laws.Meaning.{AnswersStay, MatchesStay, CountsStay, RulesStay}
 use Rattle.model.proofs.Pattern.SearchGrows.{Grows as Finds, NextGrows, search_grows, EventGrows, scan_grows}
 use Rattle.model.proofs.Language.MeaningGrows.{Before, Goes_on, Later, later, Grows, same, open_to, at_depth, zero_and, suc_and, grows, stays, follow_stays}
@@ -58,12 +58,12 @@ fence_kept (Miss t) i j h = h
 fence_kept Stop i j h = h
 fence_kept (Wait v) i j h = h
 
-told_kept : (v : Ask Expr) (k : Script → Found') (p q : Script → ℕ) → ((t : Script) → Kept (k t) (p t) (q t)) → (t : Script) → Kept (told v k t) (told_count p t) (told_count q t)
+told_kept : (v : Ask Expr) (k : Script → Found') (p q : Script → ℕ) → ((t : Script) → Kept (k t) (p t) (q t)) → (t : Script) → Kept (told_that v k t) (told_count p t) (told_count q t)
 told_kept v k p q h [] = refl
 told_kept v k p q h (IsSaid ∷ t) = h t
 told_kept v k p q h (_ ∷ t) = refl
 
-given_kept : (x : Expr) (k : Pat → Script → Found') (p q : Pat → Script → ℕ) → ((r : Pat) (t : Script) → Kept (k r t) (p r t) (q r t)) → (t : Script) → Kept (given x k t) (given_count p t) (given_count q t)
+given_kept : (x : Expr) (k : Pat → Script → Found') (p q : Pat → Script → ℕ) → ((r : Pat) (t : Script) → Kept (k r t) (p r t) (q r t)) → (t : Script) → Kept (given_pattern x k t) (given_count p t) (given_count q t)
 given_kept x k p q h [] = refl
 given_kept x k p q h (IsPattern r ∷ t) = h r t
 given_kept x k p q h (_ ∷ t) = refl
@@ -72,10 +72,10 @@ argument_kept : (b : Kind) (x : Expr) (k : Basic → Script → Found') (p q : A
 argument_kept b x k p q h [] = refl
 argument_kept b x k p q h (y ∷ t) = h y t
 
-abbrev NextKept : Next → NextCount → NextCount → Type 0
+abbrev NextKept : SearchOn → NextCount → NextCount → Type 0
 NextKept f n m = (rest : List Goal) (c : ℕ) (a : Pending) (t : Script) → Kept (f rest c a t) (n rest c a t) (m rest c a t)
 
-module _ (s : List ℕ) (f g : Next) (n m : NextCount) (gr : NextGrows f g) (h : NextKept f n m) where
+module _ (s : List ℕ) (f g : SearchOn) (n m : NextCount) (gr : NextGrows f g) (h : NextKept f n m) where
   each_kept : (b : Basic) (rest : List Goal) (a : Pending) (es : List ℕ) (t : Script) → Kept (try_each (λ e u. f rest e a u) es t) (each_count (λ e u. f rest e a u) (λ e u. end_counts b + n rest e a u) es t) (each_count (λ e u. g rest e a u) (λ e u. end_counts b + m rest e a u) es t)
   each_kept b rest a [] t = refl
   each_kept b rest a (e ∷ es) t =
@@ -107,17 +107,17 @@ search_kept s (suc n) (x ∷ rest) c a t =
 -- ---- of a scan
 
 -- the same, where the event is told
-abbrev EventKept : Event → ℕ → ℕ → Type 0
+abbrev EventKept : SearchEvent → ℕ → ℕ → Type 0
 EventKept Running i j = Unit {0}
 EventKept x i j = j ≡ i
 
-event_and : (x : Event) (i j p q : ℕ) → j ≡ i → EventKept x p q → EventKept x (i + p) (j + q)
+event_and : (x : SearchEvent) (i j p q : ℕ) → j ≡ i → EventKept x p q → EventKept x (i + p) (j + q)
 event_and Running i j p q e h = tt
 event_and Failed i j p q e h = omega (arith, e, h)
 event_and (Asks v) i j p q e h = omega (arith, e, h)
 event_and (Matched b c a) i j p q e h = omega (arith, e, h)
 
-started_kept : (b : ℕ) (x y : Found') (k : Script → Event) (i j : ℕ) (p q : Script → ℕ) → Finds x y → Kept x i j → ((t : Script) → EventKept (k t) (p t) (q t)) → EventKept (started b x k) (suc i + if_missed x p) (suc j + if_missed y q)
+started_kept : (b : ℕ) (x y : Found') (k : Script → SearchEvent) (i j : ℕ) (p q : Script → ℕ) → Finds x y → Kept x i j → ((t : Script) → EventKept (k t) (p t) (q t)) → EventKept (started b x k) (suc i + if_missed x p) (suc j + if_missed y q)
 started_kept b Deep y k i j p q g h l = tt
 started_kept b (Hit e a t) y k i j p q g h l = subst (λ z. suc j + if_missed z q ≡ suc i + 0) (sym g) (ap (λ n. suc n + 0) h)
 started_kept b (Miss t) y k i j p q g h l = subst (λ z. EventKept (k t) (suc i + p t) (suc j + if_missed z q)) (sym g) (event_and (k t) (suc i) (suc j) (p t) (q t) (ap suc h) (l t))
@@ -172,15 +172,15 @@ evaluated_same : {A : Type 0} {r r' : Res Val} (f : Val → W → Res A) (g : W 
 evaluated_same f g k i j h (same {r = r}) = same_of (after r f g) (ap (λ l. evaluated_count l k r) h)
 evaluated_same f g k i j h (open_to l) = tt
 
-sought_same : {A : Type 0} (v : W) (o o' : Option Event) (k : Event → Res A) (p q : Event → ℕ) → ((e : Event) → o ≡ Some e → o' ≡ Some e) → ((e : Event) → Same (k e) (p e) (q e)) → Same (sought o v k) (event_count o p) (event_count o' q)
+sought_same : {A : Type 0} (v : W) (o o' : Option SearchEvent) (k : SearchEvent → Res A) (p q : SearchEvent → ℕ) → ((e : SearchEvent) → o ≡ Some e → o' ≡ Some e) → ((e : SearchEvent) → Same (k e) (p e) (q e)) → Same (sought o v k) (event_count o p) (event_count o' q)
 sought_same v None o' k p q st h = tt
 sought_same v (Some e) o' k p q st h = subst (λ o. Same (k e) (p e) (event_count o q)) (sym (st e refl)) (h e)
 
 module _ (prog : Program) where
   abbrev Counted : ℕ → Type 0
-  Counted n = (q : Query) (w : W) → Same (meaning prog n q w) (count prog n q w) (count prog (suc n) q w)
+  Counted n = (q : Query) (w : W) → Same (meaning prog n q w) (query_count prog n q w) (query_count prog (suc n) q w)
 
-  follow_same : {A : Type 0} (n : ℕ) → Counted n → (v : W) (p : Rule A) → Goes_on v p → Same (follow (suc n) (λ r u. meaning prog n r u) p) (follow_count (suc n) (λ r u. meaning prog n r u) (λ r u. count prog n r u) p) (follow_count (suc (suc n)) (λ r u. meaning prog (suc n) r u) (λ r u. count prog (suc n) r u) p)
+  follow_same : {A : Type 0} (n : ℕ) → Counted n → (v : W) (p : Rule A) → Goes_on v p → Same (follow (suc n) (λ r u. meaning prog n r u) p) (follow_count (suc n) (λ r u. meaning prog n r u) (λ r u. query_count prog n r u) p) (follow_count (suc (suc n)) (λ r u. meaning prog (suc n) r u) (λ r u. query_count prog (suc n) r u) p)
   follow_same n h v (Ret a w) g = refl
   follow_same n h v (Fail w) g = refl
   follow_same n h v (Stops e w) g = refl
@@ -189,7 +189,7 @@ module _ (prog : Program) where
   follow_same n h v (Seek s w k) g = sought_same w (s (suc n)) (s (suc (suc n))) _ _ _ (λ e x. g.1 (suc n) e x) (λ e. follow_same n h w (k e) (g.2 e))
 
   -- a match's own: where it ends the run at a question, what is asked has ended it
-  match_same : (n : ℕ) (s : List ℕ) (p : Pat) (left : ℕ) (t : Script) (w : W) (x y : Event) (i j : ℕ) → EventGrows x y → EventKept x i j
+  match_same : (n : ℕ) (s : List ℕ) (p : Pat) (left : ℕ) (t : Script) (w : W) (x y : SearchEvent) (i j : ℕ) → EventGrows x y → EventKept x i j
       → Same (sought (told_at x) w (λ e. follow (suc n) (λ r u. meaning prog n r u) (match_rule s p left t w e))) (match_count (λ r u. meaning prog n r u) x i w) (match_count (λ r u. meaning prog (suc n) r u) y j w)
   match_same n s p left t w Running y i j g h = tt
   match_same n s p left t w Failed y i j g h = subst (λ z. match_count (λ r u. meaning prog (suc n) r u) z j w ≡ i) (sym g) h
@@ -213,15 +213,15 @@ module _ (prog : Program) where
       match_same n s p left t w (scan s (suc n) p left 0 t) (scan s (suc (suc n)) p left 0 t) _ _ (scan_grows s (suc n) p left 0 t) (scan_kept s (suc n) p left 0 t)
 
   counted : (n : ℕ) → Counted n
-  unfolding meaning count
+  unfolding meaning query_count
   counted zero q w = tt
   counted (suc n) q w = same_and (meaning prog (suc n) q w) _ _ _ _ (own_same n q w) (follow_same n (counted n) w (rule prog q w) (on prog q w))
 
-  counts_by : (n d : ℕ) (q : Query) (w : W) → Settled (meaning prog n q w) → count prog (d + n) q w ≡ count prog n q w
-  counts_by n zero q w h = ap (λ k. count prog k q w) (zero_and n)
+  counts_by : (n d : ℕ) (q : Query) (w : W) → Settled (meaning prog n q w) → query_count prog (d + n) q w ≡ query_count prog n q w
+  counts_by n zero q w h = ap (λ k. query_count prog k q w) (zero_and n)
   counts_by n (suc d) q w h =
       let s : Settled (meaning prog (d + n) q w) = subst Settled (sym (stays prog (on prog) n d q w h)) h in
-      ap (λ k. count prog k q w) (suc_and d n) ∙ same_settled (meaning prog (d + n) q w) s (counted (d + n) q w) ∙ counts_by n d q w h
+      ap (λ k. query_count prog k q w) (suc_and d n) ∙ same_settled (meaning prog (d + n) q w) s (counted (d + n) q w) ∙ counts_by n d q w h
 
 back : (n m : ℕ) → n ≤ m → (m - n) + n ≡ m
 back n m le = omega (arith, le)
@@ -233,7 +233,7 @@ pub matches_stay : MatchesStay
 matches_stay prog n m le s p left t w h = answers_stay prog n m le (QMatch s p left t) w h
 
 pub counts_stay : CountsStay
-counts_stay prog n m le q w h = subst (λ k. count prog k q w ≡ count prog n q w) (back n m le) (counts_by prog n (m - n) q w h)
+counts_stay prog n m le q w h = subst (λ k. query_count prog k q w ≡ query_count prog n q w) (back n m le) (counts_by prog n (m - n) q w h)
 
 pub rules_stay : RulesStay
 rules_stay deck inputs n m le e h = subst (λ k. rules_used k deck inputs ≡ rules_used n deck inputs) (back n m le) (by (m - n))

@@ -4,7 +4,7 @@ use Rattle.model.specs.declared.run.Ending.{Ending}
 use Rattle.model.specs.Language.Programs.{Program, program}
 use Rattle.model.specs.Language.Values.{printed_of}
 use Rattle.model.specs.Language.Meaning.{W, Res, Done, Fails, Ends, Open, Settled, run_rule, run, meaning}
-use Rattle.model.specs.Laws.Agreement.{Records, IsBeginning, seen_of, first_w, mean, EndingStays, PrintedGrows}
+use Rattle.model.specs.Laws.Agreement.{Records, IsBeginning, seen_of, first_w, meaning_at, EndingStays, PrintedGrows}
 use Rattle.model.proofs.Language.MeaningGrows.{before_refl, Goes_on, Later, later, Grows, same, open_to, grows, follow_grows, follow_stays, zero_and, suc_and}
 use Rattle.model.proofs.Language.MeaningPrints.{on}
 
@@ -41,10 +41,10 @@ beginning_on : (a b c : Records) → IsBeginning a b → IsBeginning b c → IsB
 beginning_on a b c (m, h) (n, k) = (m ++ n, k ∙ ap (λ l. l ++ n) h ∙ append_assoc a m n)
 
 pub printed_grows : PrintedGrows
-printed_grows deck inputs n zero = let e = zero_and n in subst (λ k. IsBeginning (mean n deck inputs).printed (mean k deck inputs).printed) (sym e) (grows_printed (same {r = run (program deck) n (first_w inputs)}))
+printed_grows deck inputs n zero = let e = zero_and n in subst (λ k. IsBeginning (meaning_at n deck inputs).printed (meaning_at k deck inputs).printed) (sym e) (grows_printed (same {r = run (program deck) n (first_w inputs)}))
 printed_grows deck inputs n (suc d) =
     let w = first_w inputs in
     let prog = program deck in
-    subst (λ k. IsBeginning (mean n deck inputs).printed (mean k deck inputs).printed) (sym (suc_and d n))
+    subst (λ k. IsBeginning (meaning_at n deck inputs).printed (meaning_at k deck inputs).printed) (sym (suc_and d n))
     (beginning_on _ _ _ (printed_grows deck inputs n d)
     (grows_printed (follow_grows (suc (d + n)) (λ r u. meaning prog (d + n) r u) (λ r u. meaning prog (suc (d + n)) r u) (grows prog (on prog) (d + n)) (later prog (on prog) (suc (d + n))) w (run_rule prog w) (run_on prog w))))

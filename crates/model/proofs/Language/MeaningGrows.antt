@@ -2,7 +2,7 @@
 use Rattle.std.proofs.Common.{◌≡◌, ℕ, zero, suc, ◌+◌, Option, Some, None, List, [], ◌++◌, refl, sym, ap, ◌∙◌, subst, append_assoc, append-nil, arith}
 use Rattle.model.specs.Language.Programs.{Program}
 use Rattle.model.specs.Language.Values.{World, printed_of}
-use Rattle.model.specs.Language.Meaning.{W, Res, Done, Fails, Ends, Open, Settled, Query, Ans, Rule, Ret, Fail, Stop, Ask, Seek, Event, sought, rule, after, follow, meaning}
+use Rattle.model.specs.Language.Meaning.{W, Res, Done, Fails, Ends, Open, Settled, Query, Ans, Rule, Ret, Fail, Stop, Ask, Seek, SearchEvent, sought, rule, after, follow, meaning}
 
 world_in : {A : Type 0} → Res A → W
 world_in (Done a w) = w
@@ -27,7 +27,7 @@ Goes_on v (Ret a w) = Before v w
 Goes_on v (Fail w) = Before v w
 Goes_on v (Stop e w) = Before v w
 Goes_on v (Ask q w k f) = Before v w × ((a : Ans q) (u : W) → Before w u → Goes_on u (k a u)) × ((u : W) → Before w u → Goes_on u (f u))
-Goes_on v (Seek g w k) = Before v w × ((n : ℕ) (e : Event) → g n ≡ Some e → g (suc n) ≡ Some e) × ((e : Event) → Goes_on w (k e))
+Goes_on v (Seek g w k) = Before v w × ((n : ℕ) (e : SearchEvent) → g n ≡ Some e → g (suc n) ≡ Some e) × ((e : SearchEvent) → Goes_on w (k e))
 
 abbrev pub Later : {A : Type 0} → W → Res A → Type 0
 Later v (Done a w) = Before v w
@@ -50,7 +50,7 @@ after_later v (Fails w) k f l hk hf = later_trans v w (f w) l (hf w l)
 after_later v (Ends e w) k f l hk hf = l
 after_later v (Open w) k f l hk hf = l
 
-sought_later : {A : Type 0} (v : W) (o : Option Event) (k : Event → Res A) → ((e : Event) → Later v (k e)) → Later v (sought o v k)
+sought_later : {A : Type 0} (v : W) (o : Option SearchEvent) (k : SearchEvent → Res A) → ((e : SearchEvent) → Later v (k e)) → Later v (sought o v k)
 sought_later v None k h = before_refl v
 sought_later v (Some e) k h = h e
 
@@ -79,7 +79,7 @@ after_grows v k l f g (open_to {w = u} {r = Fails w} h) b hk hf lk lf = open_to 
 after_grows v k l f g (open_to {r = Ends e w} h) b hk hf lk lf = open_to h
 after_grows v k l f g (open_to {r = Open w} h) b hk hf lk lf = open_to h
 
-sought_grows : {A : Type 0} (v : W) (o o' : Option Event) (k l : Event → Res A) → ((e : Event) → o ≡ Some e → o' ≡ Some e) → ((e : Event) → Grows (k e) (l e)) → ((e : Event) → Later v (l e)) → Grows (sought o v k) (sought o' v l)
+sought_grows : {A : Type 0} (v : W) (o o' : Option SearchEvent) (k l : SearchEvent → Res A) → ((e : SearchEvent) → o ≡ Some e → o' ≡ Some e) → ((e : SearchEvent) → Grows (k e) (l e)) → ((e : SearchEvent) → Later v (l e)) → Grows (sought o v k) (sought o' v l)
 sought_grows v None o' k l st hk hl = open_to (sought_later v o' l hl)
 sought_grows v (Some e) o' k l st hk hl = subst (λ o. Grows (k e) (sought o v l)) (sym (st e refl)) (hk e)
 

@@ -12,14 +12,14 @@ use Rattle.model.specs.Deck.Trees.{Bytes, Expr, Name, Integer, Literal, Keyword,
 use Rattle.model.specs.Language.Names.{key_named, prim_named}
 use Rattle.model.specs.Deck.Target as target
 use Rattle.model.specs.Language.Programs.{Program}
-use Rattle.model.specs.Language.Values.{Str, Pattern, trees, Function, Defined, Constructor, Field, enter_stmt, count_failure}
+use Rattle.model.specs.Language.Values.{Str, Pattern, pattern_trees, Function, Defined, Constructor, Field, enter_stmt, count_failure}
 use Rattle.model.specs.Language.Conversions.{Op, Conv, Got, Bad, to_label, answer_of}
 use Rattle.model.specs.Language.Operators.{told_value}
 use Rattle.model.specs.Language.Calls.{Kept, return_of, kept_of, enter_call}
 use Rattle.model.specs.Language.Primitives.{Outcome, Returns, Calls}
 use Rattle.model.specs.Pattern.Patterns.{Answer, IsSaid, IsFailed, Running, Failed, Asks, Matched, AskFor, SayThat}
 use Rattle.model.specs.Pattern.Search.{Script, scan}
-use Rattle.model.specs.Language.Meaning.{Val, W, Back, Query, QVal, QName, QArgs, QBody, QExec, QMatch, Rule, Ret, Fail, Stop, Ask, Seek, Event, doing, told_at, again, answering, match_rule, two_values, value_and_name, key_rule, function_op, object_rule, set_key_rule, key_target, assign_rule, onward_of, other_of, over_limit, to_known, to_return, to_text_label, go_on, exec_rule, entered, call_rule, finish, function_rule, rule}
+use Rattle.model.specs.Language.Meaning.{Val, W, Back, Query, QVal, QName, QArgs, QBody, QExec, QMatch, Rule, Ret, Fail, Stop, Ask, Seek, SearchEvent, doing, told_at, again, answering, match_rule, two_values, value_and_name, key_rule, function_op, object_rule, set_key_rule, key_target, assign_rule, onward_of, other_of, over_limit, to_known, to_return, to_text_label, go_on, exec_rule, entered, call_rule, after_primitive, function_rule, rule}
 use Rattle.model.proofs.Pattern.Laws.{scan_stays}
 use Rattle.model.proofs.Language.MeaningGrows.{Before, before_refl, before_trans, Goes_on}
 use Rattle.model.proofs.Language.OperationsPrint.{OpOn, gon, ron, fon, same_printed, arith_on, sign_on, cat_on, alt_on, cond_on, imm_on, indir_on, fetch_on, assign_on, assign_all_on, splice_on, keyset_on, match_on, element_on, prim_on, enter_on, leave_on, as_value_on, as_name_on, construct_on, select_on}
@@ -65,7 +65,7 @@ key_on (Some k) w = first w
 
 function_on : (o : Option PrimId) (f : Bytes) (vs : List Val) (w : W) → OpOn w (function_op o f vs w)
 function_on None f vs w = gon (first w)
-function_on (Some p) f vs w = prim_on trees p vs w
+function_on (Some p) f vs w = prim_on pattern_trees p vs w
 
 -- ---- statements
 
@@ -90,24 +90,24 @@ answering_on : (s : Bytes) (p : Pattern) (left : ℕ) (t : Script) (c : Conv (An
 answering_on s p left t (Got y) w = again_on s p left t y w w (first w)
 answering_on s p left t (Bad e) w = first w
 
-match_rule_on : (s : Bytes) (p : Pattern) (left : ℕ) (t : Script) (w : W) (e : Event) → Goes_on w (match_rule s p left t w e)
+match_rule_on : (s : Bytes) (p : Pattern) (left : ℕ) (t : Script) (w : W) (e : SearchEvent) → Goes_on w (match_rule s p left t w e)
 match_rule_on s p left t w Running = first w
 match_rule_on s p left t w Failed = first w
 match_rule_on s p left t w (Matched b e a) = then_goes _ (assign_all_on a w) (λ _ x h. h)
 match_rule_on s p left t w (Asks (SayThat n v)) = then_goes _ (assign_on n (told_value v) w) (λ _ x h. again_on s p left t IsSaid w x h)
-match_rule_on s p left t w (Asks (AskFor e k)) = (first w, (λ v x h. answering_on s p left t (answer_of trees k v) x), (λ x h. again_on s p left t IsFailed x x (first x)))
+match_rule_on s p left t w (Asks (AskFor e k)) = (first w, (λ v x h. answering_on s p left t (answer_of pattern_trees k v) x), (λ x h. again_on s p left t IsFailed x x (first x)))
 
-pub told_some : (x : Event) (e : Event) → told_at x ≡ Some e → (x ≡ Running → ⊥)
+pub told_some : (x : SearchEvent) (e : SearchEvent) → told_at x ≡ Some e → (x ≡ Running → ⊥)
 told_some x e h r = is_none (sym h ∙ ap told_at r)
   where
-    IsSome : Option Event → Type 0
+    IsSome : Option SearchEvent → Type 0
     IsSome None = ⊥
     IsSome (Some e) = Unit {0}
 
     is_none : Some e ≡ None → ⊥
     is_none q = subst IsSome q tt
 
-match_stays : (s : Bytes) (p : Pattern) (left : ℕ) (t : Script) (n : ℕ) (e : Event) → told_at (scan s n p left 0 t) ≡ Some e → told_at (scan s (suc n) p left 0 t) ≡ Some e
+match_stays : (s : Bytes) (p : Pattern) (left : ℕ) (t : Script) (n : ℕ) (e : SearchEvent) → told_at (scan s n p left 0 t) ≡ Some e → told_at (scan s (suc n) p left 0 t) ≡ Some e
 match_stays s p left t n e h = ap told_at (scan_stays s n (suc n) (omega arith) p left 0 t (told_some (scan s n p left 0 t) e h)) ∙ h
 
 module _ (prog : Program) where
@@ -148,7 +148,7 @@ module _ (prog : Program) where
   call_on f vs (Some (Constructor fields)) w k h = then_from k (construct_on f fields vs w) h
   call_on f vs (Some Field) w k h = then_from k (select_on f vs w) h
 
-  finish_on : {A : Type 0} (r : Outcome Pattern Expr) (w : W) (k : Back → W → Rule A) → ((g : Back) (x : W) → Goes_on x (k g x)) → Goes_on w (finish prog r w k)
+  finish_on : {A : Type 0} (r : Outcome Pattern Expr) (w : W) (k : Back → W → Rule A) → ((g : Back) (x : W) → Goes_on x (k g x)) → Goes_on w (after_primitive prog r w k)
   finish_on (Returns g) w k h = h g w
   finish_on (Calls f vs) w k h = call_on f vs (w.plain.functions f) w k h
 
@@ -173,15 +173,15 @@ module _ (prog : Program) where
   on (QVal (Apply u.Minus e)) w = (first w, (λ v x i. last (sign_on sign.Minus v x)), (λ x i. first x))
   on (QVal (Apply u.Interrogate e)) w = (first w, (λ v x i. first x), (λ x i. first x))
   on (QVal (Apply u.Negate e)) w = (first w, (λ v x i. first x), (λ x i. first x))
-  on (QVal (Combine b.Conditional x y)) w = with_name_on x y w _ (cond_on trees)
-  on (QVal (Combine b.Immediate x y)) w = with_name_on x y w _ (imm_on trees)
+  on (QVal (Combine b.Conditional x y)) w = with_name_on x y w _ (cond_on pattern_trees)
+  on (QVal (Combine b.Immediate x y)) w = with_name_on x y w _ (imm_on pattern_trees)
   on (QVal (Combine b.Power x y)) w = two_on x y w _ (arith_on a.Power)
   on (QVal (Combine b.Multiply x y)) w = two_on x y w _ (arith_on a.Multiply)
   on (QVal (Combine b.Divide x y)) w = two_on x y w _ (arith_on a.Divide)
   on (QVal (Combine b.Add x y)) w = two_on x y w _ (arith_on a.Add)
   on (QVal (Combine b.Subtract x y)) w = two_on x y w _ (arith_on a.Subtract)
-  on (QVal (Combine b.Concatenate x y)) w = two_on x y w _ (cat_on trees)
-  on (QVal (Combine b.Alternate x y)) w = two_on x y w _ (alt_on trees)
+  on (QVal (Combine b.Concatenate x y)) w = two_on x y w _ (cat_on pattern_trees)
+  on (QVal (Combine b.Alternate x y)) w = two_on x y w _ (alt_on pattern_trees)
   on (QName (Name x)) w = first w
   on (QName (Apply u.Indirect e)) w = (first w, (λ v x i. last (indir_on v x)), (λ x i. first x))
   on (QName (Reference s args)) w = then_from _ (fetch_on (target.Variable s) w) (λ a x. (first x, (λ vs y i. last (element_on a vs y)), (λ y i. first y)))
@@ -194,8 +194,8 @@ module _ (prog : Program) where
   on (QBody (Evaluate e)) w = (first w, (λ v x i. first x), (λ x i. first x))
   on (QBody (Assign x o)) w = assign_rule_on (key_target x) x o w
   on (QBody (Match s p)) w =
-      (first w, (λ c x h. (first x, (λ d v i. then_goes _ (match_on trees c d v) (λ g z j. (j, (λ r q k. first q), (λ q k. first q)))), (λ v i. first v))), (λ x h. first x))
+      (first w, (λ c x h. (first x, (λ d v i. then_goes _ (match_on pattern_trees c d v) (λ g z j. (j, (λ r q k. first q), (λ q k. first q)))), (λ v i. first v))), (λ x h. first x))
   on (QBody (Replace s p o)) w =
-      (first w, (λ n x h. then_from _ (fetch_on n x) (λ c x1. (first x1, (λ d v i. then_goes _ (match_on trees c d v) (λ g z j. (j, (λ r q k. object_on o q _ (λ t y. last (splice_on n g.subject r.start r.end t y))), (λ q k. first q)))), (λ v i. first v)))), (λ x h. first x))
+      (first w, (λ n x h. then_from _ (fetch_on n x) (λ c x1. (first x1, (λ d v i. then_goes _ (match_on pattern_trees c d v) (λ g z j. (j, (λ r q k. object_on o q _ (λ t y. last (splice_on n g.subject r.start r.end t y))), (λ q k. first q)))), (λ v i. first v)))), (λ x h. first x))
   on (QExec k) w = exec_on k (prog.at k) w
   on (QMatch s p left t) w = (first w, match_stays s p left t, (λ e. match_rule_on s p left t w e))

@@ -8,17 +8,17 @@ use Rattle.model.specs.declared.keys.KeyId.{KeyId}
 use Rattle.model.specs.declared.primitives.PrimId.{PrimId}
 use Rattle.model.specs.declared.primitives.PrimId.TheVariants as p
 use Rattle.model.specs.Deck.Trees.{Bytes}
-use Rattle.model.specs.Language.Keywords.{counted, return_name}
+use Rattle.model.specs.Language.Keywords.{counted_up, return_name}
 use Rattle.model.specs.Deck.Target.{Name, Variable, Element, IntegerKey, StringKey}
 use Rattle.model.specs.Language.Names.{prim_named}
-use Rattle.model.specs.Pattern.Patterns.{Kind, KLen, KPos, KRPos, KTab, KRTab, KAny, KNotAny, KSpan, KBreak, Pending, want_of}
+use Rattle.model.specs.Pattern.Patterns.{Kind, KLen, KPos, KRPos, KTab, KRTab, KAny, KNotAny, KSpan, KBreak, Pending, want_of_kind}
 use Rattle.model.specs.Language.Values.{Value, Str, Int, Pat, Nam, Exp, Obj, Makes, Constructor, Field, Bounds, Entry, Object, ArrayOf, TableOf, RecordOf, World, set_io, set_var, set_keys, keys_of}
 use Rattle.model.specs.Language.Conversions.{Op, Gives, Refuses, Faults, Conv, Got, Bad, conv, then_op, to_text, to_integer, to_pattern, to_name, to_variable, is_null, answer_of}
-use Rattle.model.specs.Language.Operators.{arith_of, arith_op, sign_of, sign_op, two_patterns, joined, join_rest, cat_op, alt_op, cond_op, imm_op, indir_op, take_record, fetch_var, there, fetch_op, print_text, write_var, with_item, put_objects, put_object, assign_op, assign_all, splice_op, keyset_op, kind_op, match_op}
+use Rattle.model.specs.Language.Operators.{arith_of, arith_op, sign_of, sign_op, two_patterns, text_joined, join_rest, cat_op, alt_op, cond_op, imm_op, indir_op, take_record, fetch_var, there, fetch_op, print_text, write_var, with_item, put_objects, put_object, assign_op, assign_all, splice_op, keyset_op, kind_op, match_op}
 use Rattle.model.specs.Language.Prototypes.{FunctionPrototype, function_prototype, TypePrototype, type_prototype, array_prototype}
-use Rattle.model.specs.Language.Aggregates.{new_object, array_op, type_of, copy_of, copy_op, row_count, all_integers, named_element, key_name, table_element, element_in, element_op, named_field, field_in, field_op, rows_array, table_array, as_array, place_from, place_of}
-use Rattle.model.specs.Language.Calls.{Returned, AValue, AName, Saved, Kept, bind_arguments, saved_of, kept_of, restore, back, or_no_name, enter_call, leave_op, as_value, as_name, construct_op, select_op, arg_at}
-use Rattle.model.specs.Language.Primitives.{Outcome, Returns, holds_if, compare_op, same_value, same_op, repeated, remainder, or_fail, converted, set_function, set_fields, data_op, entry_label, define_op, unit_number, unit_op, set_reads, set_writes, returned, item_op, applied, prim_op}
+use Rattle.model.specs.Language.Aggregates.{new_object, array_op, type_of, copy_of, copy_op, row_count, all_integers, named_element, keyed_name, table_element, element_in, element_op, named_field, field_in, field_op, rows_array, table_array, as_array, place_from, index_of}
+use Rattle.model.specs.Language.Calls.{Returned, AValue, AName, Saved, Kept, bind_arguments, saved_of, kept_of, restore, back_to_caller, or_no_name, enter_call, leave_op, as_value, as_name, construct_op, select_op, arg_at}
+use Rattle.model.specs.Language.Primitives.{Outcome, Returns, holds_if, compare_op, same_value, same_op, repeated, remainder, or_fail, converted, set_function, set_fields, data_op, to_entry_label, define_op, unit_number, unit_op, set_reads, set_writes, returned, item_op, applied, prim_op}
 use Rattle.model.specs.Laws.Agreement.{Records}
 use Rattle.model.specs.Laws.PrintedBefore.{after_w}
 
@@ -62,7 +62,7 @@ module _ {P E : Type 0} (before : Records) where
   rest_after mk None a b w = two_after mk mk.cat a b w
 
   pub cat_after : (mk : Makes P E) (a b : Value P E) (w : World P E) → cat_op mk a b (aft w) ≡ sh (cat_op mk a b w)
-  cat_after mk a b w = if_on (is_null a) _ _ _ _ refl (if_on (is_null b) _ _ _ _ refl (rest_after mk (joined (to_text a) (to_text b)) a b w))
+  cat_after mk a b w = if_on (is_null a) _ _ _ _ refl (if_on (is_null b) _ _ _ _ refl (rest_after mk (text_joined (to_text a) (to_text b)) a b w))
 
   pub alt_after : (mk : Makes P E) (a b : Value P E) (w : World P E) → alt_op mk a b (aft w) ≡ sh (alt_op mk a b w)
   alt_after mk a b w = two_after mk mk.alt a b w
@@ -132,11 +132,11 @@ module _ {P E : Type 0} (before : Records) where
 
   kind_after : (mk : Makes P E) (k : Kind) (a : Value P E) (w : World P E) → kind_op mk k a (aft w) ≡ sh (kind_op mk k a w)
   kind_after mk k (Exp e) w = refl
-  kind_after mk k (Str s) w = by_conv w (answer_of mk (want_of k) (Str s)) _ _ (λ y. refl)
-  kind_after mk k (Int z) w = by_conv w (answer_of mk (want_of k) (Int z)) _ _ (λ y. refl)
-  kind_after mk k (Pat p) w = by_conv w (answer_of mk (want_of k) (Pat p)) _ _ (λ y. refl)
-  kind_after mk k (Nam n) w = by_conv w (answer_of mk (want_of k) (Nam n)) _ _ (λ y. refl)
-  kind_after mk k (Obj n) w = by_conv w (answer_of mk (want_of k) (Obj n)) _ _ (λ y. refl)
+  kind_after mk k (Str s) w = by_conv w (answer_of mk (want_of_kind k) (Str s)) _ _ (λ y. refl)
+  kind_after mk k (Int z) w = by_conv w (answer_of mk (want_of_kind k) (Int z)) _ _ (λ y. refl)
+  kind_after mk k (Pat p) w = by_conv w (answer_of mk (want_of_kind k) (Pat p)) _ _ (λ y. refl)
+  kind_after mk k (Nam n) w = by_conv w (answer_of mk (want_of_kind k) (Nam n)) _ _ (λ y. refl)
+  kind_after mk k (Obj n) w = by_conv w (answer_of mk (want_of_kind k) (Obj n)) _ _ (λ y. refl)
 
   pub match_after : (mk : Makes P E) (a b : Value P E) (w : World P E) → match_op mk a b (aft w) ≡ sh (match_op mk a b w)
   match_after mk a b w = by_conv w (to_text a) _ _ (λ s. by_conv w (to_pattern mk b) _ _ (λ p. refl))
@@ -170,7 +170,7 @@ module _ {P E : Type 0} (before : Records) where
 
   table_after : (k : ℕ) (vs : List (Value P E)) (w : World P E) → table_element k vs (aft w) ≡ sh (table_element k vs w)
   table_after k [] w = refl
-  table_after k (v ∷ []) w = by_conv w (key_name k v) _ _ (λ n. refl)
+  table_after k (v ∷ []) w = by_conv w (keyed_name k v) _ _ (λ n. refl)
   table_after k (v ∷ u ∷ vs) w = refl
 
   in_after : (k : ℕ) (o : Option (Object (Value P E))) (vs : List (Value P E)) (w : World P E) → element_in k o vs (aft w) ≡ sh (element_in k o vs w)
@@ -195,7 +195,7 @@ module _ {P E : Type 0} (before : Records) where
   field_in_after f k None w = refl
   field_in_after f k (Some (ArrayOf bs vs)) w = refl
   field_in_after f k (Some (TableOf es)) w = refl
-  field_in_after f k (Some (RecordOf t fs vs)) w = named_field_after k (place_of 0 f fs) w
+  field_in_after f k (Some (RecordOf t fs vs)) w = named_field_after k (index_of 0 f fs) w
 
   field_after : (f : Bytes) (a : Value P E) (w : World P E) → field_op f a (aft w) ≡ sh (field_op f a w)
   field_after f (Str s) w = refl
@@ -326,7 +326,7 @@ module _ {P E : Type 0} (before : Records) where
   prim_after mk p.Copy vs w = returned_after _ _ (copy_after (arg_at vs 0) w)
   prim_after mk p.Convert vs w = returned_after _ _ (by_conv w (to_text (arg_at vs 1)) _ _ (λ t. converted_after mk (arg_at vs 0) t w))
   prim_after mk p.Data vs w = returned_after _ _ (by_conv w (to_text (arg_at vs 0)) _ _ (λ s. data_after (type_prototype s) w))
-  prim_after mk p.Define vs w = returned_after _ _ (by_conv w (to_text (arg_at vs 0)) _ _ (λ s. by_conv w (entry_label (arg_at vs 1)) _ _ (λ l. define_after l (function_prototype s) w)))
+  prim_after mk p.Define vs w = returned_after _ _ (by_conv w (to_text (arg_at vs 0)) _ _ (λ s. by_conv w (to_entry_label (arg_at vs 1)) _ _ (λ l. define_after l (function_prototype s) w)))
   prim_after mk p.Input vs w = returned_after _ _ (by_conv w (to_variable (arg_at vs 0)) _ _ (λ x. unit_after 5 (arg_at vs 1) w (λ u. Gives (Str []) (set_reads x (Some u) w)) _ (λ u. refl)))
   prim_after mk p.Output vs w = returned_after _ _ (by_conv w (to_variable (arg_at vs 0)) _ _ (λ x. unit_after 6 (arg_at vs 1) w (λ u. Gives (Str []) (set_writes x (Some u) w)) _ (λ u. refl)))
   prim_after mk p.Detach vs w = returned_after _ _ (by_conv w (to_variable (arg_at vs 0)) _ _ (λ x. refl))
@@ -343,7 +343,7 @@ module _ {P E : Type 0} (before : Records) where
 
   pub enter_after : (f : Bytes) (xs ys : List Bytes) (vs : List (Value P E)) (w : World P E) → enter_call f xs ys vs (aft w) ≡ aft (enter_call f xs ys vs w)
   enter_after f xs ys vs w =
-      ap (λ v. set_keys (record (keys_of v) { fnclevel = counted (keys_of v).fnclevel }) v)
+      ap (λ v. set_keys (record (keys_of v) { fnclevel = counted_up (keys_of v).fnclevel }) v)
       (ap (bind_arguments ys []) (bind_after xs vs (set_var f (Str []) w)) ∙ bind_after ys [] (bind_arguments xs vs (set_var f (Str []) w)))
 
   saved_after : (xs : List Bytes) (w : World P E) → saved_of xs (aft w) ≡ saved_of xs w
@@ -357,7 +357,7 @@ module _ {P E : Type 0} (before : Records) where
   restore_after [] w = refl
   restore_after (x ∷ s) w = ap (set_var x.var x.value) (restore_after s w)
 
-  back_after : (r : ReturnKind) (c : Kept P E) (w : World P E) → back r c (aft w) ≡ aft (back r c w)
+  back_after : (r : ReturnKind) (c : Kept P E) (w : World P E) → back_to_caller r c (aft w) ≡ aft (back_to_caller r c w)
   back_after r c w = ap (λ v. set_keys (record (keys_of v) { stno = c.stno; fnclevel = c.fnclevel; rtntype = return_name r }) v) (restore_after c.saved w)
 
   pub leave_after : (r : ReturnKind) (c : Kept P E) (w : World P E) → leave_op r c (aft w) ≡ sh (leave_op r c w)

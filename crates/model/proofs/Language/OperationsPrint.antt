@@ -11,14 +11,14 @@ use Rattle.model.specs.declared.primitives.PrimId.TheVariants as p
 use Rattle.model.specs.Deck.Trees.{Bytes}
 use Rattle.model.specs.Deck.Target.{Name, Variable, Element, IntegerKey, StringKey}
 use Rattle.model.specs.Language.Names.{prim_named}
-use Rattle.model.specs.Pattern.Patterns.{Kind, KLen, KPos, KRPos, KTab, KRTab, KAny, KNotAny, KSpan, KBreak, Pending, want_of}
+use Rattle.model.specs.Pattern.Patterns.{Kind, KLen, KPos, KRPos, KTab, KRTab, KAny, KNotAny, KSpan, KBreak, Pending, want_of_kind}
 use Rattle.model.specs.Language.Values.{Value, Str, Int, Pat, Nam, Exp, Obj, Makes, Bounds, Entry, Object, ArrayOf, TableOf, RecordOf, World, set_var, printed_of}
 use Rattle.model.specs.Language.Conversions.{Op, Gives, Refuses, Faults, Conv, Got, Bad, conv, then_op, to_text, to_integer, to_pattern, to_name, to_variable, is_null, answer_of}
-use Rattle.model.specs.Language.Operators.{arith_of, arith_op, sign_of, sign_op, two_patterns, joined, join_rest, cat_op, alt_op, cond_op, imm_op, indir_op, take_record, fetch_var, there, fetch_op, print_text, write_var, with_item, put_objects, put_object, assign_op, assign_all, splice_op, keyset_op, kind_op, match_op}
+use Rattle.model.specs.Language.Operators.{arith_of, arith_op, sign_of, sign_op, two_patterns, text_joined, join_rest, cat_op, alt_op, cond_op, imm_op, indir_op, take_record, fetch_var, there, fetch_op, print_text, write_var, with_item, put_objects, put_object, assign_op, assign_all, splice_op, keyset_op, kind_op, match_op}
 use Rattle.model.specs.Language.Prototypes.{FunctionPrototype, function_prototype, TypePrototype, type_prototype, array_prototype}
-use Rattle.model.specs.Language.Aggregates.{field_values, new_object, array_op, copy_of, copy_op, all_integers, named_element, key_name, table_element, element_in, element_op, named_field, field_in, field_op, rows_array, table_array, as_array, place_from, place_of}
+use Rattle.model.specs.Language.Aggregates.{field_values, new_object, array_op, copy_of, copy_op, all_integers, named_element, keyed_name, table_element, element_in, element_op, named_field, field_in, field_op, rows_array, table_array, as_array, place_from, index_of}
 use Rattle.model.specs.Language.Calls.{Returned, AValue, AName, Saved, Kept, bind_arguments, restore, or_no_name, enter_call, leave_op, as_value, as_name, construct_op, select_op, arg_at}
-use Rattle.model.specs.Language.Primitives.{Outcome, holds_if, compare_op, same_value, same_op, repeated, remainder, or_fail, converted, set_fields, data_op, entry_label, define_op, unit_number, unit_op, set_reads, set_writes, returned, item_op, applied, prim_op}
+use Rattle.model.specs.Language.Primitives.{Outcome, holds_if, compare_op, same_value, same_op, repeated, remainder, or_fail, converted, set_fields, data_op, to_entry_label, define_op, unit_number, unit_op, set_reads, set_writes, returned, item_op, applied, prim_op}
 use Rattle.model.proofs.Language.MeaningGrows.{Before, before_refl, before_trans}
 
 -- each world of an operation comes after this one
@@ -78,7 +78,7 @@ module _ {P E : Type 0} where
   rest_on mk None a b w = two_on mk mk.cat a b w
 
   pub cat_on : (mk : Makes P E) (a b : Value P E) (w : World P E) → OpOn w (cat_op mk a b w)
-  cat_on mk a b w = if_on w (is_null a) (Gives b w) _ (kept w) (if_on w (is_null b) (Gives a w) _ (kept w) (rest_on mk (joined (to_text a) (to_text b)) a b w))
+  cat_on mk a b w = if_on w (is_null a) (Gives b w) _ (kept w) (if_on w (is_null b) (Gives a w) _ (kept w) (rest_on mk (text_joined (to_text a) (to_text b)) a b w))
 
   pub alt_on : (mk : Makes P E) (a b : Value P E) (w : World P E) → OpOn w (alt_op mk a b w)
   alt_on mk a b w = two_on mk mk.alt a b w
@@ -148,11 +148,11 @@ module _ {P E : Type 0} where
 
   kind_on : (mk : Makes P E) (k : Kind) (a : Value P E) (w : World P E) → OpOn w (kind_op mk k a w)
   kind_on mk k (Exp e) w = kept w
-  kind_on mk k (Str s) w = by_conv w (answer_of mk (want_of k) (Str s)) _ (λ y. kept w)
-  kind_on mk k (Int z) w = by_conv w (answer_of mk (want_of k) (Int z)) _ (λ y. kept w)
-  kind_on mk k (Pat p) w = by_conv w (answer_of mk (want_of k) (Pat p)) _ (λ y. kept w)
-  kind_on mk k (Nam n) w = by_conv w (answer_of mk (want_of k) (Nam n)) _ (λ y. kept w)
-  kind_on mk k (Obj n) w = by_conv w (answer_of mk (want_of k) (Obj n)) _ (λ y. kept w)
+  kind_on mk k (Str s) w = by_conv w (answer_of mk (want_of_kind k) (Str s)) _ (λ y. kept w)
+  kind_on mk k (Int z) w = by_conv w (answer_of mk (want_of_kind k) (Int z)) _ (λ y. kept w)
+  kind_on mk k (Pat p) w = by_conv w (answer_of mk (want_of_kind k) (Pat p)) _ (λ y. kept w)
+  kind_on mk k (Nam n) w = by_conv w (answer_of mk (want_of_kind k) (Nam n)) _ (λ y. kept w)
+  kind_on mk k (Obj n) w = by_conv w (answer_of mk (want_of_kind k) (Obj n)) _ (λ y. kept w)
 
   pub match_on : (mk : Makes P E) (a b : Value P E) (w : World P E) → OpOn w (match_op mk a b w)
   match_on mk a b w = by_conv w (to_text a) _ (λ s. by_conv w (to_pattern mk b) _ (λ p. kept w))
@@ -186,7 +186,7 @@ module _ {P E : Type 0} where
 
   table_on : (k : ℕ) (vs : List (Value P E)) (w : World P E) → OpOn w (table_element k vs w)
   table_on k [] w = faulted w
-  table_on k (v ∷ []) w = by_conv w (key_name k v) _ (λ n. kept w)
+  table_on k (v ∷ []) w = by_conv w (keyed_name k v) _ (λ n. kept w)
   table_on k (v ∷ u ∷ vs) w = faulted w
 
   in_on : (k : ℕ) (o : Option (Object (Value P E))) (vs : List (Value P E)) (w : World P E) → OpOn w (element_in k o vs w)
@@ -211,7 +211,7 @@ module _ {P E : Type 0} where
   field_in_on f k None w = faulted w
   field_in_on f k (Some (ArrayOf bs vs)) w = faulted w
   field_in_on f k (Some (TableOf es)) w = faulted w
-  field_in_on f k (Some (RecordOf t fs vs)) w = named_field_on k (place_of 0 f fs) w
+  field_in_on f k (Some (RecordOf t fs vs)) w = named_field_on k (index_of 0 f fs) w
 
   field_on : (f : Bytes) (a : Value P E) (w : World P E) → OpOn w (field_op f a w)
   field_on f (Str s) w = faulted w
@@ -331,7 +331,7 @@ module _ {P E : Type 0} where
   prim_on mk p.Copy vs w = returned_on (copy_on (arg_at vs 0) w)
   prim_on mk p.Convert vs w = returned_on (by_conv w (to_text (arg_at vs 1)) _ (λ t. converted_on mk (arg_at vs 0) t w))
   prim_on mk p.Data vs w = returned_on (by_conv w (to_text (arg_at vs 0)) _ (λ s. data_on (type_prototype s) w))
-  prim_on mk p.Define vs w = returned_on (by_conv w (to_text (arg_at vs 0)) _ (λ s. by_conv w (entry_label (arg_at vs 1)) _ (λ l. define_on l (function_prototype s) w)))
+  prim_on mk p.Define vs w = returned_on (by_conv w (to_text (arg_at vs 0)) _ (λ s. by_conv w (to_entry_label (arg_at vs 1)) _ (λ l. define_on l (function_prototype s) w)))
   prim_on mk p.Input vs w = returned_on (by_conv w (to_variable (arg_at vs 0)) _ (λ x. unit_on 5 (arg_at vs 1) w (λ u. Gives (Str []) (set_reads x (Some u) w)) (λ u. gon (same_printed w _ refl))))
   prim_on mk p.Output vs w = returned_on (by_conv w (to_variable (arg_at vs 0)) _ (λ x. unit_on 6 (arg_at vs 1) w (λ u. Gives (Str []) (set_writes x (Some u) w)) (λ u. gon (same_printed w _ refl))))
   prim_on mk p.Detach vs w = returned_on (by_conv w (to_variable (arg_at vs 0)) _ (λ x. gon (same_printed w _ refl)))

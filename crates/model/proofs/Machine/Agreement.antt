@@ -6,7 +6,7 @@ use Rattle.model.specs.declared.run.Ending.TheVariants as ending
 use Rattle.model.specs.Deck.Trees.{Bytes, Expr}
 use Rattle.model.specs.Language.Programs.{Program, program}
 use Rattle.model.specs.Pattern.Patterns as p
-use Rattle.model.specs.Language.Values.{Value, trees, printed_of, first_value}
+use Rattle.model.specs.Language.Values.{Value, pattern_trees, printed_of, first_value}
 use Rattle.model.specs.Language.Meaning.{W, Res, Done, Fails, Ends, Open, Settled, run_rule, run}
 use Rattle.model.specs.Machine.Steps.{MW, codes_of, Module, State, Run, InMatch, Over, Stuck, to_stmt, begun, steps, world_of}
 use Rattle.model.specs.Module.Images.{module_of}
@@ -21,8 +21,8 @@ use Rattle.model.proofs.Machine.Asking.{stops}
 use Rattle.model.proofs.Language.MeaningPrints.{on}
 use Rattle.model.proofs.Machine.StepsPrint.{steps_on}
 
-abbrev machine_at : Module → ℕ → MW → State
-machine_at img k m = steps img k (begun img m)
+abbrev state_at : Module → ℕ → MW → State
+state_at img k m = steps img k (begun img m)
 
 module _ (prog : Program) (img : Module) (trees_at : ℕ → Option Expr) (placed : Placed prog img trees_at) (w : W) (m : MW) (wr : WR trees_at w m) where
   abbrev pub Never : record {} → W → State → Type 0
@@ -61,8 +61,8 @@ module _ (prog : Program) (img : Module) (trees_at : ℕ → Option Expr) (place
 
   -- what is known at the depth n: an ending of both, or the machine runs on after k steps or more
   data Known (k n : ℕ) : Type 0 where
-    both_end : (e : Ending) (v : W) (j : ℕ) (m' : MW) → run prog n w ≡ Ends e v → machine_at img j m ≡ Over e m' → printed_of m' ≡ printed_of v → Known k n
-    both_go : (v : W) (j : ℕ) → k ≤ j → run prog n w ≡ Open v → Still prog img trees_at (machine_at img j m) v → Known k n
+    both_end : (e : Ending) (v : W) (j : ℕ) (m' : MW) → run prog n w ≡ Ends e v → state_at img j m ≡ Over e m' → printed_of m' ≡ printed_of v → Known k n
+    both_go : (v : W) (j : ℕ) → k ≤ j → run prog n w ≡ Open v → Still prog img trees_at (state_at img j m) v → Known k n
 
   known_of : (k n : ℕ) (r : Res (record {})) → run prog n w ≡ r → Settled r ⊎ (Unit {0}) → Fits prog img trees_at k (begun img m) Never Nowhere r → Known k n
   known_of k n (Done a v) e s x = absurd x.2
@@ -109,19 +109,19 @@ is_over (Stuck m) = ⊥
 
 module _ (prog : Program) (img : Module) (trees_at : ℕ → Option Expr) (placed : Placed prog img trees_at) (w : W) (m : MW) (wr : WR trees_at w m) where
   -- more steps
-  on_from : (k j : ℕ) → machine_at img (k + j) m ≡ steps img j (machine_at img k m)
+  on_from : (k j : ℕ) → state_at img (k + j) m ≡ steps img j (state_at img k m)
   on_from k j = steps_add prog img trees_at k j (begun img m)
 
-  over_on : (k j : ℕ) (e : Ending) (m' : MW) → machine_at img k m ≡ Over e m' → machine_at img (k + j) m ≡ Over e m'
+  over_on : (k j : ℕ) (e : Ending) (m' : MW) → state_at img k m ≡ Over e m' → state_at img (k + j) m ≡ Over e m'
   over_on k j e m' h = on_from k j ∙ ap (steps img j) h ∙ over_stays img j e m'
 
-  stuck_on : (k j : ℕ) (m' : MW) → machine_at img k m ≡ Stuck m' → machine_at img (k + j) m ≡ Stuck m'
+  stuck_on : (k j : ℕ) (m' : MW) → state_at img k m ≡ Stuck m' → state_at img (k + j) m ≡ Stuck m'
   stuck_on k j m' h = on_from k j ∙ ap (steps img j) h ∙ stuck_stays img j m'
 
-  two_overs : (k j : ℕ) (e f : Ending) (m1 m2 : MW) → machine_at img k m ≡ Over e m1 → machine_at img j m ≡ Over f m2 → Over e m1 ≡ Over f m2
+  two_overs : (k j : ℕ) (e f : Ending) (m1 m2 : MW) → state_at img k m ≡ Over e m1 → state_at img j m ≡ Over f m2 → Over e m1 ≡ Over f m2
   two_overs k j e f m1 m2 h g =
       let swap : k + j ≡ j + k = omega arith in
-      sym (over_on k j e m1 h) ∙ ap (λ n. machine_at img n m) swap ∙ over_on j k f m2 g
+      sym (over_on k j e m1 h) ∙ ap (λ n. state_at img n m) swap ∙ over_on j k f m2 g
 
   still_prints : (s : State) (v : W) → Still prog img trees_at s v → printed_of (world_of s) ≡ printed_of v
   still_prints (Run p o h f m) v x = x
@@ -130,10 +130,10 @@ module _ (prog : Program) (img : Module) (trees_at : ℕ → Option Expr) (place
   still_prints (Stuck m) v x = absurd x
 
   -- a machine that is over or stuck doesn't run on later
-  not_still : (k j : ℕ) (s : State) (v : W) → k ≤ j → machine_at img k m ≡ s → steps img (j - k) s ≡ s → (Still prog img trees_at s v → ⊥) → Still prog img trees_at (machine_at img j m) v → ⊥
+  not_still : (k j : ℕ) (s : State) (v : W) → k ≤ j → state_at img k m ≡ s → steps img (j - k) s ≡ s → (Still prog img trees_at s v → ⊥) → Still prog img trees_at (state_at img j m) v → ⊥
   not_still k j s v le h st never x =
       let e : k + (j - k) ≡ j = omega arith in
-      never (subst (λ s. Still prog img trees_at s v) (ap (λ n. machine_at img n m) (sym e) ∙ on_from k (j - k) ∙ ap (steps img (j - k)) h ∙ st) x)
+      never (subst (λ s. Still prog img trees_at s v) (ap (λ n. state_at img n m) (sym e) ∙ on_from k (j - k) ∙ ap (steps img (j - k)) h ∙ st) x)
 
   -- ---- what is seen of both
 
@@ -160,61 +160,61 @@ module _ (prog : Program) (img : Module) (trees_at : ℕ → Option Expr) (place
   same_is a b e = ([], e ∙ sym (append-nil a))
 
   -- one ending on both sides
-  both : (n j : ℕ) (f : Ending) (v : W) (m2 : MW) → run prog n w ≡ Ends f v → machine_at img j m ≡ Over f m2 → printed_of m2 ≡ printed_of v → seen_at (machine_at img j m) ≡ seen_of (run prog n w)
+  both : (n j : ℕ) (f : Ending) (v : W) (m2 : MW) → run prog n w ≡ Ends f v → state_at img j m ≡ Over f m2 → printed_of m2 ≡ printed_of v → seen_at (state_at img j m) ≡ seen_of (run prog n w)
   both n j f v m2 me ov pr = ap seen_at ov ∙ ap (λ l. record { ending = Some f; printed = l }) pr ∙ sym (ap seen_of me)
 
-  ends : (n : ℕ) (e : Ending) → (seen_of (run prog n w)).ending ≡ Some e → (k : ℕ) × (seen_at (machine_at img k m) ≡ seen_of (run prog n w))
+  ends : (n : ℕ) (e : Ending) → (seen_of (run prog n w)).ending ≡ Some e → (k : ℕ) × (seen_at (state_at img k m) ≡ seen_of (run prog n w))
   ends n e h = go (known_fits prog img trees_at placed w m wr n)
     where
-      go : Known prog img trees_at placed w m wr 0 n → (k : ℕ) × (seen_at (machine_at img k m) ≡ seen_of (run prog n w))
+      go : Known prog img trees_at placed w m wr 0 n → (k : ℕ) × (seen_at (state_at img k m) ≡ seen_of (run prog n w))
       go (both_end f v j m2 me ov pr) = (j, both n j f v m2 me ov pr)
       go (both_go v j le me st) = not_ended (sym (ap (λ r. (seen_of r).ending) me) ∙ h)
 
-  ends_only : (k : ℕ) (e : Ending) → (seen_at (machine_at img k m)).ending ≡ Some e → (n : ℕ) × (seen_of (run prog n w) ≡ seen_at (machine_at img k m))
-  ends_only k e h = state (machine_at img k m) refl
+  ends_only : (k : ℕ) (e : Ending) → (seen_at (state_at img k m)).ending ≡ Some e → (n : ℕ) × (seen_of (run prog n w) ≡ seen_at (state_at img k m))
+  ends_only k e h = state (state_at img k m) refl
     where
-      known_end : (e' : Ending) (m' : MW) → machine_at img k m ≡ Over e' m' → (n : ℕ) × Known prog img trees_at placed w m wr k n → (n : ℕ) × (seen_of (run prog n w) ≡ seen_at (machine_at img k m))
+      known_end : (e' : Ending) (m' : MW) → state_at img k m ≡ Over e' m' → (n : ℕ) × Known prog img trees_at placed w m wr k n → (n : ℕ) × (seen_of (run prog n w) ≡ seen_at (state_at img k m))
       known_end e' m' at (n, both_end f v j m2 me ov pr) = (n, sym (both n j f v m2 me ov pr) ∙ ap seen_at (ov ∙ sym (two_overs k j e' f m' m2 at ov) ∙ sym at))
       known_end e' m' at (n, both_go v j le me st) = absurd (not_still k j (Over e' m') v le at (over_stays img (j - k) e' m') (λ x. x) st)
 
-      state : (s : State) → machine_at img k m ≡ s → (n : ℕ) × (seen_of (run prog n w) ≡ seen_at (machine_at img k m))
+      state : (s : State) → state_at img k m ≡ s → (n : ℕ) × (seen_of (run prog n w) ≡ seen_at (state_at img k m))
       state (Run p o i f x) q = not_ended (ap (λ s. (seen_at s).ending) (sym q) ∙ h)
       state (InMatch g st f x) q = not_ended (ap (λ s. (seen_at s).ending) (sym q) ∙ h)
       state (Over e' m') q = known_end e' m' q (known prog img trees_at placed w m wr k)
       state (Stuck x) q = not_ended (ap (λ s. (seen_at s).ending) (sym q) ∙ h)
 
-  prints : (n : ℕ) → (k : ℕ) × IsBeginning (seen_of (run prog n w)).printed (seen_at (machine_at img k m)).printed
+  prints : (n : ℕ) → (k : ℕ) × IsBeginning (seen_of (run prog n w)).printed (seen_at (state_at img k m)).printed
   prints n = go (known_fits prog img trees_at placed w m wr n)
     where
-      go : Known prog img trees_at placed w m wr 0 n → (k : ℕ) × IsBeginning (seen_of (run prog n w)).printed (seen_at (machine_at img k m)).printed
+      go : Known prog img trees_at placed w m wr 0 n → (k : ℕ) × IsBeginning (seen_of (run prog n w)).printed (seen_at (state_at img k m)).printed
       go (both_end f v j m2 me ov pr) = (j, same_is _ _ (ap (λ s. s.printed) (both n j f v m2 me ov pr)))
-      go (both_go v j le me st) = (j, same_is _ _ (seen_printed (machine_at img j m) ∙ still_prints (machine_at img j m) v st ∙ sym (ap (λ r. (seen_of r).printed) me)))
+      go (both_go v j le me st) = (j, same_is _ _ (seen_printed (state_at img j m) ∙ still_prints (state_at img j m) v st ∙ sym (ap (λ r. (seen_of r).printed) me)))
 
-  prints_only : (k : ℕ) → (n : ℕ) × IsBeginning (seen_at (machine_at img k m)).printed (seen_of (run prog n w)).printed
+  prints_only : (k : ℕ) → (n : ℕ) × IsBeginning (seen_at (state_at img k m)).printed (seen_of (run prog n w)).printed
   prints_only k = go (known prog img trees_at placed w m wr k)
     where
-      go : (n : ℕ) × Known prog img trees_at placed w m wr k n → (n : ℕ) × IsBeginning (seen_at (machine_at img k m)).printed (seen_of (run prog n w)).printed
+      go : (n : ℕ) × Known prog img trees_at placed w m wr k n → (n : ℕ) × IsBeginning (seen_at (state_at img k m)).printed (seen_of (run prog n w)).printed
       go (n, both_end f v j m2 me ov pr) =
           let swap : j + k ≡ k + j = omega arith in (
             n,
-            begins _ _ _ _ (seen_printed (machine_at img k m)) (before_is (steps_on img j (machine_at img k m)))
-                (ap (λ s. printed_of (world_of s)) (sym (on_from k j) ∙ ap (λ n. machine_at img n m) (sym swap) ∙ over_on j k f m2 ov) ∙ pr ∙ sym (ap (λ r. (seen_of r).printed) me)),
+            begins _ _ _ _ (seen_printed (state_at img k m)) (before_is (steps_on img j (state_at img k m)))
+                (ap (λ s. printed_of (world_of s)) (sym (on_from k j) ∙ ap (λ n. state_at img n m) (sym swap) ∙ over_on j k f m2 ov) ∙ pr ∙ sym (ap (λ r. (seen_of r).printed) me)),
           )
       go (n, both_go v j le me st) =
           let e : k + (j - k) ≡ j = omega arith in (
             n,
-            begins _ _ _ _ (seen_printed (machine_at img k m)) (before_is (steps_on img (j - k) (machine_at img k m)))
-                (ap (λ s. printed_of (world_of s)) (sym (on_from k (j - k)) ∙ ap (λ n. machine_at img n m) e) ∙ still_prints (machine_at img j m) v st ∙ sym (ap (λ r. (seen_of r).printed) me)),
+            begins _ _ _ _ (seen_printed (state_at img k m)) (before_is (steps_on img (j - k) (state_at img k m)))
+                (ap (λ s. printed_of (world_of s)) (sym (on_from k (j - k)) ∙ ap (λ n. state_at img n m) e) ∙ still_prints (state_at img j m) v st ∙ sym (ap (λ r. (seen_of r).printed) me)),
           )
 
   -- no step lacks what it needs
-  pub never_stuck : (k : ℕ) (m' : MW) → machine_at img k m ≡ Stuck m' → ⊥
+  pub never_stuck : (k : ℕ) (m' : MW) → state_at img k m ≡ Stuck m' → ⊥
   never_stuck k m' h = go (known prog img trees_at placed w m wr k)
     where
       go : (n : ℕ) × Known prog img trees_at placed w m wr k n → ⊥
       go (n, both_end f v j m2 me ov pr) =
           let swap : j + k ≡ k + j = omega arith in
-          subst is_over (sym (over_on j k f m2 ov) ∙ ap (λ n. machine_at img n m) swap ∙ stuck_on k j m' h) tt
+          subst is_over (sym (over_on j k f m2 ov) ∙ ap (λ n. state_at img n m) swap ∙ stuck_on k j m' h) tt
       go (n, both_go v j le me st) = not_still k j (Stuck m') v le h (stuck_stays img (j - k) m') (λ x. x) st
 
 -- ---- the first worlds
@@ -223,7 +223,7 @@ if_vr : (at : ℕ → Option Expr) (b : Bool) {v u : Value p.Pat Expr} {m n : Va
 if_vr at true h k = h
 if_vr at false h k = k
 
-first_value_same : (at : ℕ → Option Expr) (x : Bytes) → VR at (first_value trees x) (first_value codes_of x)
+first_value_same : (at : ℕ → Option Expr) (x : Bytes) → VR at (first_value pattern_trees x) (first_value codes_of x)
 first_value_same at x =
     if_vr at (bytes_eq x (codes "ARB")) (rpat refl)
     (if_vr at (bytes_eq x (codes "BAL")) (rpat refl)

@@ -11,7 +11,7 @@ use Rattle.model.specs.Language.Programs.{Program}
 use Rattle.model.specs.Language.Values.{Pattern}
 use Rattle.model.specs.Language.Conversions.{Op}
 use Rattle.model.specs.Language.Operators.{Begun}
-use Rattle.model.specs.Language.Meaning.{Val, W, QVal, QName, QArgs, QMatch, Span, Rule, Ret, Fail, Stop, Ask, Seek, fault, doing}
+use Rattle.model.specs.Language.Meaning.{Val, W, QVal, QName, QArgs, QMatch, Span, Rule, Ret, Fail, Stop, Ask, Seek, error_rule, doing}
 use Rattle.model.specs.Machine.Steps.{PCode, MVal, MW, Module, Operand, OV, ON, Frame, InCall, InEval, found_as, Handler, OnBegin, OnTry, State, Run, InMatch, Over, cut, error_at, fail_to, after_op, pop_many, act, step_at, steps}
 use Rattle.model.specs.Module.Placed.{Is, CodeV, CodeN, CodeA, Placed}
 use Rattle.model.specs.Machine.Alike.{VR, VRs, WR}
@@ -116,7 +116,7 @@ module _ (prog : Program) (img : Module) (trees_at : ℕ → Option Expr) (place
   op_follows S hs ops fs k k' (faults e {w} {m} wr) hk hf = stops 0 (omega arith) (m, wr, ap (λ k. Over (ending.Error e k.stno) m) (keys_same trees_at wr))
 
   -- a fault of the meaning is one of the machine
-  pub faulted : {A : Type 0} {r n : ℕ} (e : ErrorCode) {Q : A → W → State → Type 0} {F : W → State → Type 0} {w : W} {m : MW} → R w m → Fw r n (error_at e m) Q F (fault e w)
+  pub faulted : {A : Type 0} {r n : ℕ} (e : ErrorCode) {Q : A → W → State → Type 0} {F : W → State → Type 0} {w : W} {m : MW} → R w m → Fw r n (error_at e m) Q F (error_rule e w)
   faulted e {m = m} wr = stops 0 (omega arith) (m, wr, ap (λ k. Over (ending.Error e k.stno) m) (keys_same trees_at wr))
 
   -- what is done where a value, a name or nothing is left

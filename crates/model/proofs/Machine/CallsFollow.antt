@@ -14,9 +14,9 @@ use Rattle.model.specs.Language.Operators.{fetch_op}
 use Rattle.model.specs.Language.Aggregates.{element_op}
 use Rattle.model.specs.Language.Calls.{Kept, return_of, kept_of}
 use Rattle.model.specs.Language.Primitives.{Outcome, prim_op}
-use Rattle.model.specs.Language.Meaning.{Val, W, Back, QArgs, Rule, ask, doing, function_op, entered, call_rule, finish, function_rule}
+use Rattle.model.specs.Language.Meaning.{Val, W, Back, QArgs, Rule, ask, doing, function_op, entered, call_rule, after_primitive, function_rule}
 use Rattle.model.specs.Machine.Steps as machine
-use Rattle.model.specs.Machine.Steps.{PCode, codes_of, MVal, MW, MBack, Module, Operand, OV, ON, Frame, InCall, Caller, State, Run, fail_to, resume, to_stmt, to_known, to_return, load, pop, pop_many, call, calls, primitive, put_name, act, steps}
+use Rattle.model.specs.Machine.Steps.{PCode, codes_of, MVal, MW, MBack, Module, Operand, OV, ON, Frame, InCall, Caller, State, Run, fail_to, resume, to_stmt, go_to_known, go_to_return, load, pop, pop_many, call_function, calls, primitive, put_name, act, steps}
 use Rattle.model.specs.Module.Placed.{Is, TextAt, CallAt, CodeA, Placed}
 use Rattle.model.specs.Machine.Alike.{VR, VRs, GR, WR}
 use Rattle.model.proofs.Machine.Following.{Here, push_all, rank}
@@ -33,12 +33,12 @@ module _ (prog : Program) (img : Module) (trees_at : ℕ → Option Expr) (place
       → KeptR trees_at k k' → R w m → 2 ≤ rk
       → ((g : Back) (g' : MBack) (w1 : W) (m1 : MW) → GR trees_at g g' → R w1 m1 → Fw prog img trees_at placed rk 0 (resume c fs g' m1) Q F (f g w1))
       → ((w1 : W) (m1 : MW) → R w1 m1 → F w1 (fail_to c.hs c.ops fs m1))
-      → Fw prog img trees_at placed rk 1 (to_return img entry r (InCall k' c ∷ fs) m) Q F (entered prog k r (prog.label entry) w f)
+      → Fw prog img trees_at placed rk 1 (go_to_return img entry r (InCall k' c ∷ fs) m) Q F (entered prog k r (prog.label entry) w f)
   entered_follows c fs k k' f entry (Some r) hk wr up hg hf = op_follows prog img trees_at placed (GR trees_at) c.hs c.ops fs f (λ g w1. resume c fs g w1) (leave_same trees_at r hk wr) (λ g g' w1 m1 x r1. shift prog img trees_at placed 0 0 (omega arith) refl (hg g g' w1 m1 x r1)) hf
   entered_follows {A} {rk} {Q} {F} {w} {m} c fs k k' f entry None hk wr up hg hf =
-      same prog img trees_at placed (ap (λ o. to_known img o (InCall k' c ∷ fs) m) (placed.labels entry)) (go (prog.label entry) refl)
+      same prog img trees_at placed (ap (λ o. go_to_known img o (InCall k' c ∷ fs) m) (placed.labels entry)) (go (prog.label entry) refl)
     where
-      go : (o : Option ℕ) → prog.label entry ≡ o → Fw prog img trees_at placed rk 1 (to_known img o (InCall k' c ∷ fs) m) Q F (entered prog k None o w f)
+      go : (o : Option ℕ) → prog.label entry ≡ o → Fw prog img trees_at placed rk 1 (go_to_known img o (InCall k' c ∷ fs) m) Q F (entered prog k None o w f)
       go None e = faulted prog img trees_at placed error.UndefinedLabel wr
       go (Some j) e =
           let g = placed.gone_to entry j e in
@@ -63,7 +63,7 @@ module _ (prog : Program) (img : Module) (trees_at : ℕ → Option Expr) (place
       → VRs trees_at vs ms → R w m → 2 ≤ rk
       → ((g : Back) (g' : MBack) (w1 : W) (m1 : MW) → GR trees_at g g' → R w1 m1 → Fw prog img trees_at placed rk 0 (resume c fs g' m1) Q F (k g w1))
       → ((w1 : W) (m1 : MW) → R w1 m1 → F w1 (fail_to c.hs c.ops fs m1))
-      → Fw prog img trees_at placed rk 1 (call img f ms d c fs m) Q F (call_rule prog f vs d w k)
+      → Fw prog img trees_at placed rk 1 (call_function img f ms d c fs m) Q F (call_rule prog f vs d w k)
   call_follows c fs k f None hs wr up hg hf = faulted prog img trees_at placed error.UndefinedFunction wr
   call_follows {w = w} {m} c fs k f (Some (Defined entry xs ys)) hs wr up hg hf =
       entered_follows c fs (kept_of f xs ys w) (kept_of f xs ys m) k entry (return_of entry) (kept_same trees_at f xs ys wr) (enter_call_same trees_at f xs ys hs wr) up hg hf
@@ -75,10 +75,10 @@ module _ (prog : Program) (img : Module) (trees_at : ℕ → Option Expr) (place
       → OutcomeR trees_at r r' → R w m → 2 ≤ rk
       → ((g : Back) (g' : MBack) (w1 : W) (m1 : MW) → GR trees_at g g' → R w1 m1 → Fw prog img trees_at placed rk 0 (resume c fs g' m1) Q F (k g w1))
       → ((w1 : W) (m1 : MW) → R w1 m1 → F w1 (fail_to c.hs c.ops fs m1))
-      → Fw prog img trees_at placed rk 1 (machine.finish img r' c fs m) Q F (finish prog r w k)
+      → Fw prog img trees_at placed rk 1 (machine.finish_primitive img r' c fs m) Q F (after_primitive prog r w k)
   finish_follows c fs k (returns x) wr up hg hf = shift prog img trees_at placed 0 0 (omega arith) refl (hg _ _ _ _ x wr)
   finish_follows {rk = rk} {Q} {F} {w} {m} c fs k (calling f {vs} {ms} hs) wr up hg hf =
-      by_plain trees_at (λ m. Fw prog img trees_at placed rk 1 (call img f ms (m.plain.functions f) c fs m) Q F (call_rule prog f vs (w.plain.functions f) w k)) wr (λ wr'. call_follows c fs k f (w.plain.functions f) hs wr' up hg hf)
+      by_plain trees_at (λ m. Fw prog img trees_at placed rk 1 (call_function img f ms (m.plain.functions f) c fs m) Q F (call_rule prog f vs (w.plain.functions f) w k)) wr (λ wr'. call_follows c fs k f (w.plain.functions f) hs wr' up hg hf)
 
   abbrev pub caller_at : Here → Bool → Caller
   caller_at h want = record { ops = h.ops; hs = h.hs; place = h.q; want_name = want }
@@ -100,7 +100,7 @@ module _ (prog : Program) (img : Module) (trees_at : ℕ → Option Expr) (place
       asks = omega (arith, up)
 
       go : (us : List Val) (w1 : W) (xs : List MVal) (m1 : MW) → VRs trees_at us xs → length xs ≡ n → R w1 m1 → (o : Option PrimId) → CallAt prog img trees_at prim call' o f n r h.q
-          → Fw prog img trees_at placed rk 7 (Run r (push_all xs h.ops) h.hs h.fs m1) Q (Fv prog img trees_at placed h) (doing (function_op o f us w1) (λ r w2. finish prog r w2 k))
+          → Fw prog img trees_at placed rk 7 (Run r (push_all xs h.ops) h.hs h.fs m1) Q (Fv prog img trees_at placed h) (doing (function_op o f us w1) (λ r w2. after_primitive prog r w2 k))
       go us w1 xs m1 hu len r1 (Some x) is =
           shift prog img trees_at placed 1 1 (omega arith)
           (one prog img trees_at placed r h.q (prim x n) (push_all xs h.ops) h.hs h.fs m1 is ∙ does_prim x n r (push_all xs h.ops) m1
@@ -112,7 +112,7 @@ module _ (prog : Program) (img : Module) (trees_at : ℕ → Option Expr) (place
           (one prog img trees_at placed r h.q (call' i n) (push_all xs h.ops) h.hs h.fs m1 is ∙ does_call i n r (push_all xs h.ops) m1
           ∙ ap (λ o. load o m1 (λ f. calls img want f n h.q (push_all xs h.ops) h.hs h.fs m1)) str
           ∙ ap (λ n. calls img want f n h.q (push_all xs h.ops) h.hs h.fs m1) (sym len)
-          ∙ pop_pushed xs h.ops m1 (λ vs rest. call img f vs (m1.plain.functions f) (record { ops = rest; hs = h.hs; place = h.q; want_name = want }) h.fs m1))
+          ∙ pop_pushed xs h.ops m1 (λ vs rest. call_function img f vs (m1.plain.functions f) (record { ops = rest; hs = h.hs; place = h.q; want_name = want }) h.fs m1))
           (finish_follows (caller_at h want) h.fs k (calling f hu) r1 asks hg fails)
 
   -- the name of a variable, put on the stack

@@ -14,7 +14,7 @@ use Rattle.model.specs.Deck.Trees.{Expr, Name, Integer, Literal, Keyword, Call, 
 use Rattle.model.specs.Deck.Target as target
 use Rattle.model.specs.Language.Names.{key_named}
 use Rattle.model.specs.Language.Programs.{Program}
-use Rattle.model.specs.Language.Values.{Str, Int, Pat, Nam, Exp, trees}
+use Rattle.model.specs.Language.Values.{Str, Int, Pat, Nam, Exp, pattern_trees}
 use Rattle.model.specs.Language.Conversions.{Op}
 use Rattle.model.specs.Language.Operators.{arith_op, sign_op, cat_op, alt_op, cond_op, imm_op}
 use Rattle.model.specs.Language.Meaning.{Val, W, QVal, QName, QArgs, Ret, ask, doing, two_values, value_and_name, key_rule, rule}
@@ -117,9 +117,9 @@ module _ (prog : Program) (img : Module) (trees_at : ℕ → Option Expr) (place
         ap (λ o. steps img 1 (Run t o h.hs h.fs m1)) (cut_all h.ops) ∙ one prog img trees_at placed t h.q op.Null h.ops h.hs h.fs m1 is4,
       )))
   val_local (Combine b.Conditional x y) h (r, s, cx, cy, is) w m wr =
-      with_name b.Conditional h r s (cond_op trees) (cond_op codes_of) op.Cond (λ x n m. refl) (λ u x n w m hu r. cond_same trees_at n hu r) cx cy is wr
+      with_name b.Conditional h r s (cond_op pattern_trees) (cond_op codes_of) op.Cond (λ x n m. refl) (λ u x n w m hu r. cond_same trees_at n hu r) cx cy is wr
   val_local (Combine b.Immediate x y) h (r, s, cx, cy, is) w m wr =
-      with_name b.Immediate h r s (imm_op trees) (imm_op codes_of) op.Imm (λ x n m. refl) (λ u x n w m hu r. imm_same trees_at n hu r) cx cy is wr
+      with_name b.Immediate h r s (imm_op pattern_trees) (imm_op codes_of) op.Imm (λ x n m. refl) (λ u x n w m hu r. imm_same trees_at n hu r) cx cy is wr
   val_local (Combine b.Power x y) h (r, s, cx, cy, is) w m wr =
       binary b.Power h r s (arith_op a.Power) (arith_op a.Power) (op.Arith a.Power) (λ x y m. refl) (λ u v x y w m hu hv r. arith_same trees_at a.Power hu hv r) cx cy is wr
   val_local (Combine b.Multiply x y) h (r, s, cx, cy, is) w m wr =
@@ -131,9 +131,9 @@ module _ (prog : Program) (img : Module) (trees_at : ℕ → Option Expr) (place
   val_local (Combine b.Subtract x y) h (r, s, cx, cy, is) w m wr =
       binary b.Subtract h r s (arith_op a.Subtract) (arith_op a.Subtract) (op.Arith a.Subtract) (λ x y m. refl) (λ u v x y w m hu hv r. arith_same trees_at a.Subtract hu hv r) cx cy is wr
   val_local (Combine b.Concatenate x y) h (r, s, cx, cy, is) w m wr =
-      binary b.Concatenate h r s (cat_op trees) (cat_op codes_of) op.Cat (λ x y m. refl) (λ u v x y w m hu hv r. cat_same trees_at hu hv r) cx cy is wr
+      binary b.Concatenate h r s (cat_op pattern_trees) (cat_op codes_of) op.Cat (λ x y m. refl) (λ u v x y w m hu hv r. cat_same trees_at hu hv r) cx cy is wr
   val_local (Combine b.Alternate x y) h (r, s, cx, cy, is) w m wr =
-      binary b.Alternate h r s (alt_op trees) (alt_op codes_of) op.Alt (λ x y m. refl) (λ u v x y w m hu hv r. alt_same trees_at hu hv r) cx cy is wr
+      binary b.Alternate h r s (alt_op pattern_trees) (alt_op codes_of) op.Alt (λ x y m. refl) (λ u v x y w m hu hv r. alt_same trees_at hu hv r) cx cy is wr
 
   pub name_local : (e : Expr) (h : Here) → CodeN prog img trees_at e h.p h.q → (w : W) (m : MW) → R w m
       → Fw prog img trees_at placed (rank (QName e)) 7 (Run h.p h.ops h.hs h.fs m) (Qn prog img trees_at placed h) (Fv prog img trees_at placed h) (rule prog (QName e) w)

@@ -4,7 +4,7 @@ use Rattle.model.specs.declared.run.Ending.{Ending}
 use Rattle.model.specs.Deck.Trees.{Bytes, Expr, Call, Reference, Apply, Combine, Args, Nil, More, Absent, Given, Body, Nothing, Evaluate, Match, Assign, Replace}
 use Rattle.model.specs.Language.Programs.{Program}
 use Rattle.model.specs.Language.Values.{Pattern, printed_of}
-use Rattle.model.specs.Language.Meaning.{W, Res, Done, Fails, Ends, Open, Settled, Query, QVal, QName, QArgs, QBody, QExec, QMatch, Ans, Rule, Ret, Fail, Stop, Ask, Seek, Event, sought, rule, after, meaning}
+use Rattle.model.specs.Language.Meaning.{W, Res, Done, Fails, Ends, Open, Settled, Query, QVal, QName, QArgs, QBody, QExec, QMatch, Ans, Rule, Ret, Fail, Stop, Ask, Seek, SearchEvent, sought, rule, after, meaning}
 use Rattle.model.specs.Machine.Steps.{MVal, MW, Module, Operand, OV, ON, Matching, Frame, InCall, InEval, found_as, Handler, OnBegin, OnTry, State, Run, InMatch, Over, Stuck, fail_to, return_to, step, steps}
 use Rattle.model.specs.Module.Placed.{CodeV, CodeN, CodeA, CodeB}
 use Rattle.model.specs.Pattern.Patterns.{Running}
@@ -87,7 +87,7 @@ pub record MatchHere (trees_at : ℕ → Option Expr) (s : Bytes) (p : Pattern) 
   pub stands : Stands trees_at p g.code
   pub answers : S.Answers
   pub alike : Alike trees_at t answers
-  pub st : S.State
+  pub st : S.MatchState
   pub so_far : ℕ
   pub at : S.match_steps g.subject g.code left 0 answers so_far ≡ st
   pub runs : S.event_of st ≡ Running
@@ -158,8 +158,8 @@ module _ (prog : Program) (img : Module) (trees_at : ℕ → Option Expr) where
       × ((a : Ans q) (u : W) (d : State) → done q t a u d → Follows r' b' d Q F (k a u))
       × ((u : W) (d : State) → failed q t u d → Follows r' b' d Q F (f u))
   Follows r b c Q F (Seek g w k) =
-      (r ≤ 0) × (found : (n : ℕ) (e : Event) → g n ≡ Some e → (j r' : ℕ) × ((1 ≤ j) ⊎ (r' ≤ r)) × Follows r' 1 (steps img j c) Q F (k e))
-      × ((l : ℕ) → ((n : ℕ) × (e : Event) × (g n ≡ Some e)) ⊎ ((i : ℕ) × (l ≤ i) × Still (steps img i c) w × ((n : ℕ) (e : Event) (h : g n ≡ Some e) → l ≤ (found n e h).0)))
+      (r ≤ 0) × (found : (n : ℕ) (e : SearchEvent) → g n ≡ Some e → (j r' : ℕ) × ((1 ≤ j) ⊎ (r' ≤ r)) × Follows r' 1 (steps img j c) Q F (k e))
+      × ((l : ℕ) → ((n : ℕ) × (e : SearchEvent) × (g n ≡ Some e)) ⊎ ((i : ℕ) × (l ≤ i) × Still (steps img i c) w × ((n : ℕ) (e : SearchEvent) (h : g n ≡ Some e) → l ≤ (found n e h).0)))
       × ((i : ℕ) × Still (steps img i c) w)
 
   -- the same for a result, in at least m steps; while it is open, the machine has printed the same
@@ -202,11 +202,11 @@ module _ (prog : Program) (img : Module) (trees_at : ℕ → Option Expr) where
   abbrev pub Local : Type 0
   Local = (q : Query) (t : Task q) (w : W) (w' : MW) → WR trees_at w w' → Follows (rank q) (7 * own q w + extra q) (start q t w') (done q t) (failed q t) (rule prog q w)
 
-  seek_fits : {A : Type 0} (n : ℕ) (c : State) (Q : A → W → State → Type 0) (F : W → State → Type 0) (g : ℕ → Option Event) (w : W) (k : Event → Rule A)
-      → ((e : Event) → g (suc n) ≡ Some e → Fits 0 c Q F (at_depth prog n (k e))) → (i : ℕ) × Still (steps img i c) w → Fits 0 c Q F (at_depth prog n (Seek g w k))
+  seek_fits : {A : Type 0} (n : ℕ) (c : State) (Q : A → W → State → Type 0) (F : W → State → Type 0) (g : ℕ → Option SearchEvent) (w : W) (k : SearchEvent → Rule A)
+      → ((e : SearchEvent) → g (suc n) ≡ Some e → Fits 0 c Q F (at_depth prog n (k e))) → (i : ℕ) × Still (steps img i c) w → Fits 0 c Q F (at_depth prog n (Seek g w k))
   seek_fits n c Q F g w k h st = go (g (suc n)) refl
     where
-      go : (o : Option Event) → g (suc n) ≡ o → Fits 0 c Q F (sought o w (λ e. at_depth prog n (k e)))
+      go : (o : Option SearchEvent) → g (suc n) ≡ o → Fits 0 c Q F (sought o w (λ e. at_depth prog n (k e)))
       go None e = (st.0, zero-le, st.1)
       go (Some x) e = h x e
 
@@ -310,12 +310,12 @@ module _ (prog : Program) (img : Module) (trees_at : ℕ → Option Expr) where
           (λ u s x. follow_fits (d + n) (sim_all loc (d + n)) rk b s Q F (f u) (ff u s x))),
     )
 
-    seek_stays : (g : ℕ → Option Event) (e : Event) → ((n : ℕ) (e : Event) → g n ≡ Some e → g (suc n) ≡ Some e) → (n d : ℕ) → g n ≡ Some e → g (d + n) ≡ Some e
+    seek_stays : (g : ℕ → Option SearchEvent) (e : SearchEvent) → ((n : ℕ) (e : SearchEvent) → g n ≡ Some e → g (suc n) ≡ Some e) → (n d : ℕ) → g n ≡ Some e → g (d + n) ≡ Some e
     seek_stays g e st n zero h = let z : zero + n ≡ n = omega arith in ap g z ∙ h
     seek_stays g e st n (suc d) h = let z : suc d + n ≡ suc (d + n) = omega arith in ap g z ∙ st (d + n) e (seek_stays g e st n d h)
 
     -- a search that has come to an event
-    seek_found : {A : Type 0} (l : ℕ) (c : State) (Q : A → W → State → Type 0) (F : W → State → Type 0) (g : ℕ → Option Event) (w : W) (k : Event → Rule A) (n : ℕ) (e : Event) → g n ≡ Some e → Goes_on w (Seek g w k)
+    seek_found : {A : Type 0} (l : ℕ) (c : State) (Q : A → W → State → Type 0) (F : W → State → Type 0) (g : ℕ → Option SearchEvent) (w : W) (k : SearchEvent → Rule A) (n : ℕ) (e : SearchEvent) → g n ≡ Some e → Goes_on w (Seek g w k)
         → Goes l c Q F (λ n. at_depth prog n (k e)) → Goes l c Q F (λ n. at_depth prog n (Seek g w k))
     seek_found l c Q F g w k n e h on' x =
         goes_as l c Q F (λ n. at_depth prog n (k e)) (λ n. at_depth prog n (Seek g w k)) n
@@ -323,17 +323,17 @@ module _ (prog : Program) (img : Module) (trees_at : ℕ → Option Expr) where
         (λ p d s. follow_stays prog on p d w (k e) (on'.2 e) s) x
 
     -- one that has come to none in l steps
-    seek_long : {A : Type 0} (l n : ℕ) (c : State) (Q : A → W → State → Type 0) (F : W → State → Type 0) (g : ℕ → Option Event) (w : W) (k : Event → Rule A)
-        → ((e : Event) → g (suc n) ≡ Some e → Fits l c Q F (at_depth prog n (k e))) → (i : ℕ) → l ≤ i → Still (steps img i c) w → Fits l c Q F (at_depth prog n (Seek g w k))
+    seek_long : {A : Type 0} (l n : ℕ) (c : State) (Q : A → W → State → Type 0) (F : W → State → Type 0) (g : ℕ → Option SearchEvent) (w : W) (k : SearchEvent → Rule A)
+        → ((e : SearchEvent) → g (suc n) ≡ Some e → Fits l c Q F (at_depth prog n (k e))) → (i : ℕ) → l ≤ i → Still (steps img i c) w → Fits l c Q F (at_depth prog n (Seek g w k))
     seek_long l n c Q F g w k h i le st = go (g (suc n)) refl
       where
-        go : (o : Option Event) → g (suc n) ≡ o → Fits l c Q F (sought o w (λ e. at_depth prog n (k e)))
+        go : (o : Option SearchEvent) → g (suc n) ≡ o → Fits l c Q F (sought o w (λ e. at_depth prog n (k e)))
         go None e = (i, le, st)
         go (Some x) e = h x e
 
-    seek_goes : {A : Type 0} (l r b : ℕ) (c : State) (Q : A → W → State → Type 0) (F : W → State → Type 0) (g : ℕ → Option Event) (w : W) (k : Event → Rule A) → Goes_on w (Seek g w k) → (x : Follows r b c Q F (Seek g w k))
-        → ((e : Event) (d : State) (j r' : ℕ) → (1 ≤ j) ⊎ (r' ≤ r) → Follows r' 1 d Q F (k e) → (m : ℕ) × (l ≤ j + m) × Goes m d Q F (λ n. at_depth prog n (k e)))
-        → ((n : ℕ) × (e : Event) × (g n ≡ Some e)) ⊎ ((i : ℕ) × (l ≤ i) × Still (steps img i c) w × ((n : ℕ) (e : Event) (h : g n ≡ Some e) → l ≤ (x.1 n e h).0)) → Goes l c Q F (λ n. at_depth prog n (Seek g w k))
+    seek_goes : {A : Type 0} (l r b : ℕ) (c : State) (Q : A → W → State → Type 0) (F : W → State → Type 0) (g : ℕ → Option SearchEvent) (w : W) (k : SearchEvent → Rule A) → Goes_on w (Seek g w k) → (x : Follows r b c Q F (Seek g w k))
+        → ((e : SearchEvent) (d : State) (j r' : ℕ) → (1 ≤ j) ⊎ (r' ≤ r) → Follows r' 1 d Q F (k e) → (m : ℕ) × (l ≤ j + m) × Goes m d Q F (λ n. at_depth prog n (k e)))
+        → ((n : ℕ) × (e : SearchEvent) × (g n ≡ Some e)) ⊎ ((i : ℕ) × (l ≤ i) × Still (steps img i c) w × ((n : ℕ) (e : SearchEvent) (h : g n ≡ Some e) → l ≤ (x.1 n e h).0)) → Goes l c Q F (λ n. at_depth prog n (Seek g w k))
     seek_goes l r b c Q F g w k on' x hk (inl (n, e, h)) =
         let y = x.1 n e h in
         let z = hk e (steps img y.0 c) y.0 y.1 y.2 y.3 in

@@ -10,12 +10,12 @@ use Rattle.model.proofs.Pattern.CodeSearch.{IsOver, all_stays, later}
 use Rattle.model.proofs.Pattern.AnswersLater.{answers_later}
 
 module _ (s : List ℕ) (code : Code) where
-  pub steps_more : (i j : ℕ) (x : S.State) → S.steps s code (i + j) x ≡ S.steps s code j (S.steps s code i x)
-  steps_more zero j x = let e : zero + j ≡ j = omega arith in ap (λ k. S.steps s code k x) e
-  steps_more (suc i) j x = let e : suc i + j ≡ suc (i + j) = omega arith in ap (λ k. S.steps s code k x) e ∙ steps_more i j (S.step s code x)
+  pub steps_more : (i j : ℕ) (x : S.MatchState) → S.pattern_steps s code (i + j) x ≡ S.pattern_steps s code j (S.pattern_steps s code i x)
+  steps_more zero j x = let e : zero + j ≡ j = omega arith in ap (λ k. S.pattern_steps s code k x) e
+  steps_more (suc i) j x = let e : suc i + j ≡ suc (i + j) = omega arith in ap (λ k. S.pattern_steps s code k x) e ∙ steps_more i j (S.pattern_step s code x)
 
   -- what runs later runs now
-  pub runs_before : (l : ℕ) (x : S.State) → S.event_of (S.steps s code l x) ≡ Running → S.event_of x ≡ Running
+  pub runs_before : (l : ℕ) (x : S.MatchState) → S.event_of (S.pattern_steps s code l x) ≡ Running → S.event_of x ≡ Running
   runs_before l x h = go (S.event_of x) refl
     where
       over : (e : Pt.Event ℕ) → S.event_of x ≡ e → IsOver s code e → S.event_of x ≡ Running
@@ -28,11 +28,11 @@ module _ (s : List ℕ) (code : Code) where
       go (Matched b d a) q = over (Matched b d a) q tt
 
   -- two events that are over are one
-  pub one_event : (i j : ℕ) (x : S.State) → IsOver s code (S.event_of (S.steps s code i x)) → IsOver s code (S.event_of (S.steps s code j x)) → S.event_of (S.steps s code i x) ≡ S.event_of (S.steps s code j x)
+  pub one_event : (i j : ℕ) (x : S.MatchState) → IsOver s code (S.event_of (S.pattern_steps s code i x)) → IsOver s code (S.event_of (S.pattern_steps s code j x)) → S.event_of (S.pattern_steps s code i x) ≡ S.event_of (S.pattern_steps s code j x)
   one_event i j x oi oj =
-      sym (later s code i (i + j) x (S.event_of (S.steps s code i x)) oi (omega arith) refl) ∙ later s code j (i + j) x (S.event_of (S.steps s code j x)) oj (omega arith) refl
+      sym (later s code i (i + j) x (S.event_of (S.pattern_steps s code i x)) oi (omega arith) refl) ∙ later s code j (i + j) x (S.event_of (S.pattern_steps s code j x)) oj (omega arith) refl
 
-  pub supplied : (x : S.State) → S.event_of x ≡ Running → IsSupplied x
+  pub supplied : (x : S.MatchState) → S.event_of x ≡ Running → IsSupplied x
   supplied (Starting b left u) h = tt
   supplied (Going t cs b left u) h = tt
   supplied (Returning ch cs b left u) h = tt
@@ -45,7 +45,7 @@ module _ (s : List ℕ) (code : Code) where
   IsAsk (Asks v) = Unit {0}
   IsAsk _ = ⊥
 
-  pub asks_more : (z : Answer Code) (x : S.State) (v : Ask ℕ) → S.event_of x ≡ Asks v → S.event_of (S.with_more (z ∷ []) x) ≡ Running
+  pub asks_more : (z : Answer Code) (x : S.MatchState) (v : Ask ℕ) → S.event_of x ≡ Asks v → S.event_of (S.with_more (z ∷ []) x) ≡ Running
   unfolding IsAsk
   asks_more z (Starting b left u) v h = refl
   asks_more z (Going t cs b left u) v h = refl
@@ -63,26 +63,26 @@ module _ (s : List ℕ) (code : Code) where
       before k lt =
           let e : k + (n - k) ≡ n = omega arith in
           runs_before (n - k) (S.match_steps s code left 0 u k)
-          (ap S.event_of (sym (steps_more k (n - k) (Starting 0 left u)) ∙ ap (λ i. S.steps s code i (Starting 0 left u)) e) ∙ h)
+          (ap S.event_of (sym (steps_more k (n - k) (Starting 0 left u)) ∙ ap (λ i. S.pattern_steps s code i (Starting 0 left u)) e) ∙ h)
 
 -- the machine in a match
 module _ (img : Module) (g : Matching) (fs : List Frame) (m : MW) where
-  abbrev pub K : ℕ → S.State → S.State
-  K n st = S.steps g.subject g.code n st
+  abbrev pub K : ℕ → S.MatchState → S.MatchState
+  K n st = S.pattern_steps g.subject g.code n st
 
-  pub busy : (l : ℕ) (st : S.State) → S.event_of (K l st) ≡ Running → steps img l (InMatch g st fs m) ≡ InMatch g (K l st) fs m
+  pub busy : (l : ℕ) (st : S.MatchState) → S.event_of (K l st) ≡ Running → steps img l (InMatch g st fs m) ≡ InMatch g (K l st) fs m
   busy zero st h = refl
   busy (suc l) st h =
       ap (λ e. steps img l (on_event img e g (K 1 st) fs m)) (runs_before g.subject g.code l (K 1 st) h) ∙ busy l (K 1 st) h
 
   -- it has come to its first event after i + 1 steps
-  pub record Came (st : S.State) : Type 0 where
+  pub record Came (st : S.MatchState) : Type 0 where
     pub i : ℕ
     pub at : steps img (suc i) (InMatch g st fs m) ≡ on_event img (S.event_of (K (suc i) st)) g (K (suc i) st) fs m
     pub over : IsOver g.subject g.code (S.event_of (K (suc i) st))
     pub last : S.event_of (K i st) ≡ Running
 
-  pub come : (d : ℕ) (st : S.State) → S.event_of st ≡ Running → IsOver g.subject g.code (S.event_of (K d st)) → Came st
+  pub come : (d : ℕ) (st : S.MatchState) → S.event_of st ≡ Running → IsOver g.subject g.code (S.event_of (K d st)) → Came st
   come zero st r o = absurd (subst (IsOver g.subject g.code) r o)
   come (suc d) st r o = go (λ e. come d (K 1 st) e o) (S.event_of (K 1 st)) refl
     where
@@ -105,6 +105,6 @@ match_runs img g fs m l st h = busy img g fs m l st h
 pub match_comes : MatchComes
 match_comes img g fs m l st h =
     let e : suc l ≡ l + 1 = omega arith in
-    let s : S.steps g.subject g.code (suc l) st ≡ S.step g.subject g.code (S.steps g.subject g.code l st) = ap (λ k. S.steps g.subject g.code k st) e ∙ steps_more g.subject g.code l 1 st in
+    let s : S.pattern_steps g.subject g.code (suc l) st ≡ S.pattern_step g.subject g.code (S.pattern_steps g.subject g.code l st) = ap (λ k. S.pattern_steps g.subject g.code k st) e ∙ steps_more g.subject g.code l 1 st in
     ap (λ k. steps img k (InMatch g st fs m)) e ∙ machine_more img l 1 (InMatch g st fs m) ∙ ap (step img) (busy img g fs m l st h)
     ∙ ap (λ x. on_event img (S.event_of x) g x fs m) (sym s)

@@ -4,7 +4,7 @@ use Rattle.model.specs.declared.instr.Instr.TheVariants as op
 use Rattle.model.specs.declared.run.Ending.TheVariants as ending
 use Rattle.model.specs.Deck.Trees.{Expr}
 use Rattle.model.specs.Language.Programs.{Program}
-use Rattle.model.specs.Language.Values.{trees}
+use Rattle.model.specs.Language.Values.{pattern_trees}
 use Rattle.model.specs.Language.Conversions.{Conv, Op, answer_of}
 use Rattle.model.specs.Pattern.Patterns as Pt
 use Rattle.model.specs.Pattern.Patterns.{Answer, IsFailed, IsSaid, Want, Running, Failed, Asks, Matched, AskFor, SayThat}
@@ -12,11 +12,11 @@ use Rattle.model.specs.Pattern.Search.{Script, scan}
 use Rattle.model.specs.Pattern.Steps as S
 use Rattle.model.specs.Pattern.Stands.{Alike, AlikeAnswer, AlikeEvent}
 use Rattle.model.specs.Pattern.Stands as St
-use Rattle.model.specs.Language.Meaning.{Val, W, Res, Done, Fails, Ends, Open, QVal, QMatch, Span, Event, told_at, sought, after, again, answering, match_rule, doing, meaning}
+use Rattle.model.specs.Language.Meaning.{Val, W, Res, Done, Fails, Ends, Open, QVal, QMatch, Span, SearchEvent, told_at, sought, after, again, answering, match_rule, doing, meaning}
 use Rattle.model.specs.Machine.Steps.{PCode, codes_of, MW, Module, OV, InEval, on_event, supplied, to_stmt, after_op, State, Run, InMatch, Over, steps}
 use Rattle.model.specs.Module.Placed.{Is, CodeV, Placed}
 use Rattle.model.specs.Machine.Alike.{WR}
-use Rattle.model.specs.Language.RulesUsed.{scan_count, evaluated_count, said_count, answer_count, match_count, event_count, after_count, count}
+use Rattle.model.specs.Language.RulesUsed.{scan_count, evaluated_count, said_count, answer_count, match_count, event_count, after_count, query_count}
 use Rattle.model.proofs.Pattern.CodeSearch.{IsOver, later}
 use Rattle.model.proofs.Language.MeaningGrows.{at_depth}
 use Rattle.model.proofs.Pattern.JumpsEnd.{below_or}
@@ -38,11 +38,11 @@ module _ (prog : Program) (img : Module) (trees_at : ℕ → Option Expr) (place
   abbrev Fm : W → State → Type 0
   Fm w c = failed prog img trees_at (QMatch s p left u) t w c
 
-  abbrev X : ℕ → S.State
+  abbrev X : ℕ → S.MatchState
   X k = S.match_steps t.g.subject t.g.code left 0 t.answers k
 
-  abbrev at : ℕ → S.State
-  at k = S.steps t.g.subject t.g.code k t.st
+  abbrev at : ℕ → S.MatchState
+  at k = S.pattern_steps t.g.subject t.g.code k t.st
 
   abbrev Rm : (i m : ℕ) → State → Res Span → Type 0
   Rm i m c r = Reaches prog img trees_at i m c Qm Fm r
@@ -57,7 +57,7 @@ module _ (prog : Program) (img : Module) (trees_at : ℕ → Option Expr) (place
       → Rm (t.so_far + suc i) (7 * count_at prog img trees_at n (again s p left u y w)) (InMatch t.g (S.with_more (z ∷ []) (at (suc i))) t.fs m) (at_depth prog n (again s p left u y w))
   unfolding more_task
   again_paced {y} {z} {w} {m} i v al run is wr =
-      let c : ℕ = count prog n (QMatch s p left (u ++ y ∷ [])) w in
+      let c : ℕ = query_count prog n (QMatch s p left (u ++ y ∷ [])) w in
       as_it_is (t.so_far + suc i) (7 * c + 0) (7 * count_at prog img trees_at n (again s p left u y w)) (InMatch t.g (S.with_more (z ∷ []) (at (suc i))) t.fs m) (meaning prog n (QMatch s p left (u ++ y ∷ [])) w) (omega arith)
       (sim (QMatch s p left (u ++ y ∷ [])) (more_task prog img trees_at placed s p left u t i v al run is) w m wr)
 
@@ -91,17 +91,17 @@ module _ (prog : Program) (img : Module) (trees_at : ℕ → Option Expr) (place
   -- an evaluation that a match asked for, and what follows it
   eval_paced : (m : MW) (e : Expr) (w : W) (k : Want) (l i p' q' r' : ℕ) (code : CodeV prog img trees_at e p' q') → Is prog img trees_at q' op.Ret r' → S.event_of (at i) ≡ Running → S.event_of (at (suc i)) ≡ Asks (AskFor l k) → t.so_far + suc i ≤ 4 * C
       → (cq : ℕ) (r : Res Val) → Reaches prog img trees_at 0 (7 * cq + 0) (Run p' [] [] (InEval t.g k (at (suc i)) ∷ t.fs) m) (done prog img trees_at (QVal e) (inner p' q' k i, code)) (failed prog img trees_at (QVal e) (inner p' q' k i, code)) r
-      → Rm (t.so_far + suc i) (7 * (evaluated_count C k r + (cq + after_count r (λ a w1. count_at prog img trees_at n (answering s p left u (answer_of trees k a) w1)) (λ w1. count_at prog img trees_at n (again s p left u IsFailed w1)))))
-      (Run p' [] [] (InEval t.g k (at (suc i)) ∷ t.fs) m) (after r (λ a w1. at_depth prog n (answering s p left u (answer_of trees k a) w1)) (λ w1. at_depth prog n (again s p left u IsFailed w1)))
+      → Rm (t.so_far + suc i) (7 * (evaluated_count C k r + (cq + after_count r (λ a w1. count_at prog img trees_at n (answering s p left u (answer_of pattern_trees k a) w1)) (λ w1. count_at prog img trees_at n (again s p left u IsFailed w1)))))
+      (Run p' [] [] (InEval t.g k (at (suc i)) ∷ t.fs) m) (after r (λ a w1. at_depth prog n (answering s p left u (answer_of pattern_trees k a) w1)) (λ w1. at_depth prog n (again s p left u IsFailed w1)))
   eval_paced m e w k l i p' q' r' code ret run is le cq (Done a w1) (j, h, (x, m1, ha, r1, e1)) =
       let fs' = InEval t.g k (at (suc i)) ∷ t.fs in
       let c0 : State = Run p' [] [] (InEval t.g k (at (suc i)) ∷ t.fs) m in
       let c1 : State = Run q' (OV x ∷ []) [] (InEval t.g k (at (suc i)) ∷ t.fs) m1 in
       let c2 : State = supplied (answer_of codes_of k x) t.g (at (suc i)) t.fs m1 in
-      let y : Res Span = at_depth prog n (answering s p left u (answer_of trees k a) w1) in
-      let ac : ℕ = answer_count C (answer_of trees k a) in
-      let ca : ℕ = count_at prog img trees_at n (answering s p left u (answer_of trees k a) w1) in
-      let some : 1 ≤ ac = answer_some (answer_of trees k a) (omega (arith, le)) in
+      let y : Res Span = at_depth prog n (answering s p left u (answer_of pattern_trees k a) w1) in
+      let ac : ℕ = answer_count C (answer_of pattern_trees k a) in
+      let ca : ℕ = count_at prog img trees_at n (answering s p left u (answer_of pattern_trees k a) w1) in
+      let some : 1 ≤ ac = answer_some (answer_of pattern_trees k a) (omega (arith, le)) in
       let q : steps img 1 c1 ≡ c2 = one prog img trees_at placed q' r' op.Ret (OV x ∷ []) [] (InEval t.g k (at (suc i)) ∷ t.fs) m1 ret in
       let last : Rm (t.so_far + suc i) (4 * ac + 7 * ca) c2 y = answer_paced i (AskFor l k) (answer_same trees_at k ha) run is le r1 in
       let mid : Rm (t.so_far + suc i) (1 + (4 * ac + 7 * ca)) c1 y = reaches_from prog img trees_at 1 (t.so_far + suc i) (t.so_far + suc i) (4 * ac + 7 * ca) (1 + (4 * ac + 7 * ca)) c1 Qm Fm y (omega arith) (subst (λ z. Rm (t.so_far + suc i) (4 * ac + 7 * ca) z y) (sym q) last) in
@@ -116,7 +116,7 @@ module _ (prog : Program) (img : Module) (trees_at : ℕ → Option Expr) (place
   eval_paced m e w k l i p' q' r' code ret run is le cq (Ends x w1) (j, h, y) = (j, omega (arith, h, le), y)
   eval_paced m e w k l i p' q' r' code ret run is le cq (Open w1) x = tt
 
-  event_paced : {w : W} {m : MW} (i : ℕ) (x : Event) (y : Pt.Event ℕ) → AlikeEvent trees_at x y → S.event_of (at i) ≡ Running → S.event_of (at (suc i)) ≡ y → t.so_far + suc i ≤ 4 * C → R w m
+  event_paced : {w : W} {m : MW} (i : ℕ) (x : SearchEvent) (y : Pt.Event ℕ) → AlikeEvent trees_at x y → S.event_of (at i) ≡ Running → S.event_of (at (suc i)) ≡ y → t.so_far + suc i ≤ 4 * C → R w m
       → Rm (t.so_far + suc i) (7 * (match_count (λ r v. meaning prog n r v) x C w + count_at prog img trees_at n (match_rule s p left u w x))) (on_event img y t.g (at (suc i)) t.fs m) (at_depth prog n (match_rule s p left u w x))
   event_paced {m = m} i x y St.fail run is le wr = (0, omega (arith, le), (m, wr, refl))
   event_paced {w} {m} i x y (St.match {b = b} {e = e} {a = a}) run is le wr =
@@ -129,7 +129,7 @@ module _ (prog : Program) (img : Module) (trees_at : ℕ → Option Expr) (place
       said_paced i (SayThat o v) (assign_same trees_at o (told_same trees_at v) wr) run is le
   event_paced {w} {m} i x y (St.ask (St.asked {e = e} {k = l} {v = k} ex)) run is le wr = go (placed.exprs l e ex)
     where
-      x' : Event
+      x' : SearchEvent
       x' = Asks (AskFor e k)
 
       go : (p' q' r' : ℕ) × (img.expr l ≡ Some p') × CodeV prog img trees_at e p' q' × Is prog img trees_at q' op.Ret r'
@@ -137,7 +137,7 @@ module _ (prog : Program) (img : Module) (trees_at : ℕ → Option Expr) (place
       go (p', q', r', at', code, ret) =
           subst (λ c. Rm (t.so_far + suc i) (7 * (match_count (λ r v. meaning prog n r v) (Asks (AskFor e k)) C w + count_at prog img trees_at n (match_rule s p left u w (Asks (AskFor e k))))) c (at_depth prog n (match_rule s p left u w (Asks (AskFor e k)))))
           (sym (ap (λ o. to_stmt img o (InEval t.g k (at (suc i)) ∷ t.fs) m) at'))
-          (eval_paced m e w k l i p' q' r' code ret run is le (count prog n (QVal e) w) (meaning prog n (QVal e) w) (sim (QVal e) (inner p' q' k i, code) w m wr))
+          (eval_paced m e w k l i p' q' r' code ret run is le (query_count prog n (QVal e) w) (meaning prog n (QVal e) w) (sim (QVal e) (inner p' q' k i, code) w m wr))
 
   -- ---- the first event, within the bound
 
@@ -145,17 +145,17 @@ module _ (prog : Program) (img : Module) (trees_at : ℕ → Option Expr) (place
   unfolding C
   law =
       subst (λ z. (scan z (suc n) p left 0 u ≡ Running → ⊥) → (l : ℕ) × (t.so_far + l ≤ 4 * scan_count z (suc n) p left 0 u) × AlikeEvent trees_at (scan z (suc n) p left 0 u) (S.event_of (at l))) t.subject
-      (λ h. subst (λ y. (l : ℕ) × (t.so_far + l ≤ 4 * scan_count t.g.subject (suc n) p left 0 u) × AlikeEvent trees_at (scan t.g.subject (suc n) p left 0 u) (S.event_of (S.steps t.g.subject t.g.code l y))) t.at
+      (λ h. subst (λ y. (l : ℕ) × (t.so_far + l ≤ 4 * scan_count t.g.subject (suc n) p left 0 u) × AlikeEvent trees_at (scan t.g.subject (suc n) p left 0 u) (S.event_of (S.pattern_steps t.g.subject t.g.code l y))) t.at
       (pattern_steps_on_law t.g.subject trees_at p t.g.code t.stands (suc n) left 0 u t.answers t.alike h t.so_far (ap S.event_of t.at ∙ t.runs)))
 
-  abbrev IsEvent : Event → Type 0
+  abbrev IsEvent : SearchEvent → Type 0
   IsEvent Running = ⊥
   IsEvent _ = Unit {0}
 
-  First : MW → Event → Type 0
+  First : MW → SearchEvent → Type 0
   First m x = (c : Came img t.g t.fs m t.st) × (t.so_far + suc c.i ≤ 4 * C) × AlikeEvent trees_at x (S.event_of (at (suc c.i)))
 
-  first : (m : MW) (x : Event) → (l : ℕ) × (t.so_far + l ≤ 4 * C) × AlikeEvent trees_at x (S.event_of (at l)) → First m x
+  first : (m : MW) (x : SearchEvent) → (l : ℕ) × (t.so_far + l ≤ 4 * C) × AlikeEvent trees_at x (S.event_of (at l)) → First m x
   unfolding First
   first m x (l, le, h) =
       let over : IsOver t.g.subject t.g.code (S.event_of (at l)) = alike_over prog img trees_at placed t.g.subject t.g.code x (S.event_of (at l)) h in
@@ -167,7 +167,7 @@ module _ (prog : Program) (img : Module) (trees_at : ℕ → Option Expr) (place
       within c over (inr ge) =
           absurd (subst (IsOver t.g.subject t.g.code) (sym (later t.g.subject t.g.code l c.i t.st (S.event_of (at l)) over ge refl) ∙ c.last) over)
 
-  seen_paced : (w : W) (m : MW) → R w m → (x : Event) → told_at x ≡ Some x → First m x
+  seen_paced : (w : W) (m : MW) → R w m → (x : SearchEvent) → told_at x ≡ Some x → First m x
       → Rm t.so_far (7 * (match_count (λ r v. meaning prog n r v) x C w + count_at prog img trees_at n (match_rule s p left u w x))) (InMatch t.g t.st t.fs m) (at_depth prog n (match_rule s p left u w x))
   unfolding First
   seen_paced w m wr x told (c, le, h) =
@@ -176,11 +176,11 @@ module _ (prog : Program) (img : Module) (trees_at : ℕ → Option Expr) (place
       (subst (λ z. Rm (t.so_far + suc c.i) b z (at_depth prog n (match_rule s p left u w x))) (sym c.at)
       (event_paced c.i x (S.event_of (at (suc c.i))) h c.last refl le wr))
 
-  pub match_paced : (w : W) (m : MW) → R w m → Rm t.so_far (7 * count prog (suc n) (QMatch s p left u) w) (InMatch t.g t.st t.fs m) (meaning prog (suc n) (QMatch s p left u) w)
-  unfolding meaning count C
+  pub match_paced : (w : W) (m : MW) → R w m → Rm t.so_far (7 * query_count prog (suc n) (QMatch s p left u) w) (InMatch t.g t.st t.fs m) (meaning prog (suc n) (QMatch s p left u) w)
+  unfolding meaning query_count C
   match_paced w m wr = go (scan s (suc n) p left 0 u) (λ o. law o)
     where
-      go : (x : Event) → ((x ≡ Running → ⊥) → (l : ℕ) × (t.so_far + l ≤ 4 * C) × AlikeEvent trees_at x (S.event_of (at l)))
+      go : (x : SearchEvent) → ((x ≡ Running → ⊥) → (l : ℕ) × (t.so_far + l ≤ 4 * C) × AlikeEvent trees_at x (S.event_of (at l)))
           → Rm t.so_far (7 * (match_count (λ r v. meaning prog n r v) x C w + event_count (told_at x) (λ e. count_at prog img trees_at n (match_rule s p left u w e)))) (InMatch t.g t.st t.fs m) (sought (told_at x) w (λ e. at_depth prog n (match_rule s p left u w e)))
       go Running h = tt
       go Failed h = seen_paced w m wr Failed refl (first m Failed (h (λ q. subst IsEvent q tt)))

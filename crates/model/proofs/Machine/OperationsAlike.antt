@@ -9,14 +9,14 @@ use Rattle.model.specs.declared.keys.KeyId.{KeyId}
 use Rattle.model.specs.Deck.Trees.{Bytes, Expr}
 use Rattle.model.specs.Deck.Target.{Name, Variable, Element, IntegerKey, StringKey}
 use Rattle.model.specs.Language.Io.{Io}
-use Rattle.model.specs.Language.Keywords.{Keys, KeyValue, IsInteger, IsText, key_value, is_zero, allows, put_key, counted}
+use Rattle.model.specs.Language.Keywords.{Keys, KeyValue, IsInteger, IsText, key_value, is_zero, allows, put_key, counted_up}
 use Rattle.model.specs.Pattern.Patterns as p
-use Rattle.model.specs.Pattern.Patterns.{Basic, Lit, Pending, Answer, IsPattern, IsCount, IsBytes, Want, WantPattern, WantCount, WantBytes, Told, Text, Number, Kind, want_of, with_answer}
+use Rattle.model.specs.Pattern.Patterns.{Basic, Lit, Pending, Answer, IsPattern, IsCount, IsBytes, Want, WantPattern, WantCount, WantBytes, Told, Text, Number, Kind, want_of_kind, with_answer}
 use Rattle.model.specs.Pattern.Code.{basic_code}
 use Rattle.model.specs.Pattern.Stands.{Stands, AlikeAnswer, patterns, counts, bytes, failed, said}
-use Rattle.model.specs.Language.Values.{Pat, Pattern, trees, Plain, Key, IntegerAt, StringAt, Entry, Object, set_plain, set_io, set_objects, set_var, keys_of, set_keys, enter_stmt, count_failure}
+use Rattle.model.specs.Language.Values.{Pat, Pattern, pattern_trees, Plain, Key, IntegerAt, StringAt, Entry, Object, set_plain, set_io, set_objects, set_var, keys_of, set_keys, enter_stmt, count_failure}
 use Rattle.model.specs.Language.Conversions.{Conv, Got, Bad, Op, Gives, Refuses, Faults, conv, then_conv, then_op, to_text, to_integer, to_pattern, to_name, to_label, to_variable, variable_of, is_null, count_of, set_of, answer_of}
-use Rattle.model.specs.Language.Operators.{arith_of, arith_op, sign_of, sign_op, limited, joined, join_rest, cat_op, alt_op, cond_op, imm_op, indir_op, take_record, fetch_var, same_key, element_of, value_for, entry_of, onto, with_item, with_entry, with_elements, with_element, with_value_for, there, fetch_op, print_text, write_var, put_objects, put_object, assign_op, assign_all, splice_op, key_as_value, keyget_op, keyset_op, kind_op, told_value, Begun, match_op}
+use Rattle.model.specs.Language.Operators.{arith_of, arith_op, sign_of, sign_op, limited, text_joined, join_rest, cat_op, alt_op, cond_op, imm_op, indir_op, take_record, fetch_var, same_key, element_of, value_for, entry_of, onto, with_item, with_entry, with_elements, with_element, with_value_for, there, fetch_op, print_text, write_var, put_objects, put_object, assign_op, assign_all, splice_op, key_as_value, keyget_op, keyset_op, kind_op, told_value, Begun, match_op}
 use Rattle.model.specs.Language.Meaning.{Val, W}
 use Rattle.model.specs.Machine.Steps.{PCode, codes_of, MVal, MW}
 use Rattle.model.specs.Machine.Alike.{VR, rstr, rint, rpat, rnam, rexp, robj, VRs, rnil, rcons, EntriesR, enil, econs, ObjectR, rarray, rtable, rrecord, ObjectsR, onil, ocons, WR}
@@ -91,7 +91,7 @@ module _ (at : ℕ → Option Expr) where
   pub basic_stands : (k : Basic) → Stands at (p.Plain k) (basic_code k)
   basic_stands k = refl
 
-  pub pattern_same : {v : Val} {m : MVal} → VR at v m → ConvR (λ p c. Stands at p c) (to_pattern trees v) (to_pattern codes_of m)
+  pub pattern_same : {v : Val} {m : MVal} → VR at v m → ConvR (λ p c. Stands at p c) (to_pattern pattern_trees v) (to_pattern codes_of m)
   pattern_same (rstr s) = got (basic_stands (Lit s))
   pattern_same (rint z) = got (basic_stands (Lit (signed_decimal z)))
   pattern_same (rpat c) = got c
@@ -151,10 +151,10 @@ module _ (at : ℕ → Option Expr) where
   set_keys_same f wr = record { vars = wr.vars; objects = wr.objects; plain = λ i. record (wr.plain i) { keys = f (wr.plain i).keys }; io = wr.io }
 
   pub enter_same : {w : W} {m : MW} (n : ℕ) → WR at w m → WR at (enter_stmt n w) (enter_stmt n m)
-  enter_same n wr = set_keys_same (λ ks. record ks { stcount = counted ks.stcount; lastno = ks.stno; stno = pos n }) wr
+  enter_same n wr = set_keys_same (λ ks. record ks { stcount = counted_up ks.stcount; lastno = ks.stno; stno = pos n }) wr
 
   pub failure_same : {w : W} {m : MW} → WR at w m → WR at (count_failure w) (count_failure m)
-  failure_same wr = set_keys_same (λ ks. record ks { stfcount = counted ks.stfcount }) wr
+  failure_same wr = set_keys_same (λ ks. record ks { stfcount = counted_up ks.stfcount }) wr
 
   -- the machine's world with the meaning's plain part: enough to prove an operation there
   pub by_plain : {w : W} {m : MW} (T : MW → Type 0) → WR at w m → (WR at w (record { vars = m.vars; objects = m.objects; plain = w.plain; io = w.io }) → T (record { vars = m.vars; objects = m.objects; plain = w.plain; io = w.io })) → T m
@@ -246,28 +246,28 @@ module _ (at : ℕ → Option Expr) where
   pub limited_same : {A B : Type 0} (R : A → B → Type 0) (s : Bytes) {w : W} {m : MW} {o : Op W A} {o' : Op MW B} → WR at w m → OpR R o o' → OpR R (limited s w o) (limited s m o')
   limited_same R s wr h = if_same R _ _ _ _ _ _ (ap (λ k. int_le (pos (length s)) k.maxlngth) (keys_same wr)) h (faults error.StringTooLong wr)
 
-  rest_same : (o o' : Option Bytes) {u v : Val} {a b : MVal} {w : W} {m : MW} → o' ≡ o → VR at u a → VR at v b → WR at w m → OpR (VR at) (join_rest trees o u v w) (join_rest codes_of o' a b m)
-  rest_same o o' {u} {v} {a} {b} {w} {m} e h k wr = subst (λ o'. OpR (VR at) (join_rest trees o u v w) (join_rest codes_of o' a b m)) (sym e) (go o)
+  rest_same : (o o' : Option Bytes) {u v : Val} {a b : MVal} {w : W} {m : MW} → o' ≡ o → VR at u a → VR at v b → WR at w m → OpR (VR at) (join_rest pattern_trees o u v w) (join_rest codes_of o' a b m)
+  rest_same o o' {u} {v} {a} {b} {w} {m} e h k wr = subst (λ o'. OpR (VR at) (join_rest pattern_trees o u v w) (join_rest codes_of o' a b m)) (sym e) (go o)
     where
-      go : (o : Option Bytes) → OpR (VR at) (join_rest trees o u v w) (join_rest codes_of o a b m)
+      go : (o : Option Bytes) → OpR (VR at) (join_rest pattern_trees o u v w) (join_rest codes_of o a b m)
       go (Some s) = limited_same (VR at) s wr (gives (rstr s) wr)
       go None =
           conv_stands (λ p c. Stands at p c) (VR at) _ _ (pattern_same h) wr (λ p c x. conv_stands (λ p c. Stands at p c) (VR at) _ _ (pattern_same k) wr (λ q d y. gives (rpat (c, d, x, y, refl)) wr))
 
-  pub cat_same : {u v : Val} {a b : MVal} {w : W} {m : MW} → VR at u a → VR at v b → WR at w m → OpR (VR at) (cat_op trees u v w) (cat_op codes_of a b m)
+  pub cat_same : {u v : Val} {a b : MVal} {w : W} {m : MW} → VR at u a → VR at v b → WR at w m → OpR (VR at) (cat_op pattern_trees u v w) (cat_op codes_of a b m)
   cat_same {u} {v} {a} {b} h k wr =
       if_same (VR at) _ _ _ _ _ _ (null_same h) (gives k wr)
       (if_same (VR at) _ _ _ _ _ _ (null_same k) (gives h wr)
-      (rest_same _ _ (ap (λ c. joined c (to_text b)) (text_same h) ∙ ap (λ c. joined (to_text u) c) (text_same k)) h k wr))
+      (rest_same _ _ (ap (λ c. text_joined c (to_text b)) (text_same h) ∙ ap (λ c. text_joined (to_text u) c) (text_same k)) h k wr))
 
-  pub alt_same : {u v : Val} {a b : MVal} {w : W} {m : MW} → VR at u a → VR at v b → WR at w m → OpR (VR at) (alt_op trees u v w) (alt_op codes_of a b m)
+  pub alt_same : {u v : Val} {a b : MVal} {w : W} {m : MW} → VR at u a → VR at v b → WR at w m → OpR (VR at) (alt_op pattern_trees u v w) (alt_op codes_of a b m)
   alt_same h k wr =
       conv_stands (λ p c. Stands at p c) (VR at) _ _ (pattern_same h) wr (λ p c x. conv_stands (λ p c. Stands at p c) (VR at) _ _ (pattern_same k) wr (λ q d y. gives (rpat (c, d, x, y, refl)) wr))
 
-  pub cond_same : (n : Name) {v : Val} {a : MVal} {w : W} {m : MW} → VR at v a → WR at w m → OpR (VR at) (cond_op trees v n w) (cond_op codes_of a n m)
+  pub cond_same : (n : Name) {v : Val} {a : MVal} {w : W} {m : MW} → VR at v a → WR at w m → OpR (VR at) (cond_op pattern_trees v n w) (cond_op codes_of a n m)
   cond_same n h wr = conv_stands (λ p c. Stands at p c) (VR at) _ _ (pattern_same h) wr (λ p c x. gives (rpat (c, x, refl)) wr)
 
-  pub imm_same : (n : Name) {v : Val} {a : MVal} {w : W} {m : MW} → VR at v a → WR at w m → OpR (VR at) (imm_op trees v n w) (imm_op codes_of a n m)
+  pub imm_same : (n : Name) {v : Val} {a : MVal} {w : W} {m : MW} → VR at v a → WR at w m → OpR (VR at) (imm_op pattern_trees v n w) (imm_op codes_of a n m)
   imm_same n h wr = conv_stands (λ p c. Stands at p c) (VR at) _ _ (pattern_same h) wr (λ p c x. gives (rpat (c, x, refl)) wr)
 
   pub indir_same : {v : Val} {a : MVal} {w : W} {m : MW} → VR at v a → WR at w m → OpR ◌≡◌ (indir_op v w) (indir_op a m)
@@ -357,10 +357,10 @@ module _ (at : ℕ → Option Expr) where
   pattern_answer (got s) = got (patterns s)
   pattern_answer (bad e) = bad e
 
-  pub answer_same : (k : Want) {v : Val} {a : MVal} → VR at v a → ConvR (AlikeAnswer at) (answer_of trees k v) (answer_of codes_of k a)
+  pub answer_same : (k : Want) {v : Val} {a : MVal} → VR at v a → ConvR (AlikeAnswer at) (answer_of pattern_trees k v) (answer_of codes_of k a)
   answer_same WantPattern h = pattern_answer (pattern_same h)
-  answer_same WantCount {v} {a} h = subst (λ c. ConvR (AlikeAnswer at) (answer_of trees WantCount v) (then_conv c (λ z. then_conv (count_of z) (λ n. Got (IsCount n))))) (sym (int_same h)) (count_answer (to_integer v))
-  answer_same WantBytes {v} {a} h = subst (λ c. ConvR (AlikeAnswer at) (answer_of trees WantBytes v) (then_conv c (λ s. then_conv (set_of s) (λ b. Got (IsBytes b))))) (sym (text_same h)) (bytes_answer (to_text v))
+  answer_same WantCount {v} {a} h = subst (λ c. ConvR (AlikeAnswer at) (answer_of pattern_trees WantCount v) (then_conv c (λ z. then_conv (count_of z) (λ n. Got (IsCount n))))) (sym (int_same h)) (count_answer (to_integer v))
+  answer_same WantBytes {v} {a} h = subst (λ c. ConvR (AlikeAnswer at) (answer_of pattern_trees WantBytes v) (then_conv c (λ s. then_conv (set_of s) (λ b. Got (IsBytes b))))) (sym (text_same h)) (bytes_answer (to_text v))
 
   kind_stands : (k : Kind) {y : Answer Pattern} {z : Answer PCode} → AlikeAnswer at y z → Stands at (p.Plain (with_answer k y)) (basic_code (with_answer k z))
   kind_stands k (patterns x) = refl
@@ -369,10 +369,10 @@ module _ (at : ℕ → Option Expr) where
   kind_stands k failed = refl
   kind_stands k said = refl
 
-  kind_plain : (k : Kind) {v : Val} {a : MVal} {w : W} {m : MW} → VR at v a → WR at w m → OpR (VR at) (conv (answer_of trees (want_of k) v) w (λ y. Gives (Pat (trees.basic (with_answer k y))) w)) (conv (answer_of codes_of (want_of k) a) m (λ y. Gives (Pat (codes_of.basic (with_answer k y))) m))
-  kind_plain k h wr = conv_stands (AlikeAnswer at) (VR at) _ _ (answer_same (want_of k) h) wr (λ y z x. gives (rpat (kind_stands k x)) wr)
+  kind_plain : (k : Kind) {v : Val} {a : MVal} {w : W} {m : MW} → VR at v a → WR at w m → OpR (VR at) (conv (answer_of pattern_trees (want_of_kind k) v) w (λ y. Gives (Pat (pattern_trees.basic (with_answer k y))) w)) (conv (answer_of codes_of (want_of_kind k) a) m (λ y. Gives (Pat (codes_of.basic (with_answer k y))) m))
+  kind_plain k h wr = conv_stands (AlikeAnswer at) (VR at) _ _ (answer_same (want_of_kind k) h) wr (λ y z x. gives (rpat (kind_stands k x)) wr)
 
-  pub kind_same : (k : Kind) {v : Val} {a : MVal} {w : W} {m : MW} → VR at v a → WR at w m → OpR (VR at) (kind_op trees k v w) (kind_op codes_of k a m)
+  pub kind_same : (k : Kind) {v : Val} {a : MVal} {w : W} {m : MW} → VR at v a → WR at w m → OpR (VR at) (kind_op pattern_trees k v w) (kind_op codes_of k a m)
   kind_same k (rexp e) wr = gives (rpat (_, e, refl)) wr
   kind_same k (rstr s) wr = kind_plain k (rstr s) wr
   kind_same k (rint z) wr = kind_plain k (rint z) wr
@@ -385,7 +385,7 @@ module _ (at : ℕ → Option Expr) where
     pub stands : Stands at g.pattern h.pattern
     pub left : h.left ≡ g.left
 
-  pub match_same : {u v : Val} {a b : MVal} {w : W} {m : MW} → VR at u a → VR at v b → WR at w m → OpR BegunR (match_op trees u v w) (match_op codes_of a b m)
+  pub match_same : {u v : Val} {a b : MVal} {w : W} {m : MW} → VR at u a → VR at v b → WR at w m → OpR BegunR (match_op pattern_trees u v w) (match_op codes_of a b m)
   match_same {u} {v} {a} {b} h k wr =
       conv_same BegunR (to_text u) (to_text a) _ _ (text_same h) wr
       (λ s. conv_stands (λ p c. Stands at p c) BegunR _ _ (pattern_same k) wr

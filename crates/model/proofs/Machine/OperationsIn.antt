@@ -10,11 +10,11 @@ use Rattle.model.specs.Deck.Trees.{Bytes}
 use Rattle.model.specs.Deck.Target.{Name, Variable, Element, IntegerKey, StringKey}
 use Rattle.model.specs.Language.Keywords.{KeyValue, IsInteger, IsText, key_value, allows}
 use Rattle.model.specs.Pattern.Patterns as p
-use Rattle.model.specs.Pattern.Patterns.{Basic, Lit, Instr, Split, Jmp, Pending, Answer, Want, WantPattern, WantCount, WantBytes, Told, Text, Number, Kind, want_of, with_answer}
+use Rattle.model.specs.Pattern.Patterns.{Basic, Lit, Instr, Split, Jmp, Pending, Answer, Want, WantPattern, WantCount, WantBytes, Told, Text, Number, Kind, want_of_kind, with_answer}
 use Rattle.model.specs.Pattern.Code.{basic_code, exit_past, exits_past, alt_code, cat_code, arbno_code, fence_code, cond_code, imm_code}
 use Rattle.model.specs.Language.Values.{Str, Int, Pat, Nam, Exp, Obj, Key, IntegerAt, StringAt, Entry, Object, ArrayOf, TableOf, RecordOf, set_var, keys_of, first_value, first_world}
 use Rattle.model.specs.Language.Conversions.{Conv, Got, Bad, Op, Gives, Refuses, Faults, conv, then_conv, then_op, to_text, to_integer, to_pattern, to_name, is_null, count_of, set_of, answer_of}
-use Rattle.model.specs.Language.Operators.{arith_of, arith_op, sign_of, sign_op, limited, two_patterns, joined, join_rest, cat_op, alt_op, cond_op, imm_op, indir_op, take_record, fetch_var, same_key, element_of, value_for, entry_of, onto, with_item, with_entry, with_elements, with_element, with_value_for, there, fetch_op, print_text, write_var, put_objects, put_object, assign_op, assign_all, splice_op, key_as_value, keyget_op, keyset_op, kind_op, told_value, Begun, match_op}
+use Rattle.model.specs.Language.Operators.{arith_of, arith_op, sign_of, sign_op, limited, two_patterns, text_joined, join_rest, cat_op, alt_op, cond_op, imm_op, indir_op, take_record, fetch_var, same_key, element_of, value_for, entry_of, onto, with_item, with_entry, with_elements, with_element, with_value_for, there, fetch_op, print_text, write_var, put_objects, put_object, assign_op, assign_all, splice_op, key_as_value, keyget_op, keyset_op, kind_op, told_value, Begun, match_op}
 use Rattle.model.specs.Machine.Steps.{PCode, codes_of, MVal, MW}
 use Rattle.model.specs.Machine.InRange.{InstrIn, CodeIn, ValueIn, ValuesIn, EntriesIn, ObjectIn, ObjectsIn, WorldIn, AnswerIn}
 use Rattle.model.proofs.Machine.Lists.{IfThere, choice_in, item_in, join_in}
@@ -181,7 +181,7 @@ module _ (n : ℕ) where
   rest_in None a b w h k i = two_in cat_code a b w cat_code_in h k i
 
   pub cat_in : (a b : MVal) (w : MW) → ValueIn n a → ValueIn n b → WorldIn n w → OpIn (ValueIn n) (cat_op codes_of a b w)
-  cat_in a b w h k i = choice_in (OpIn (ValueIn n)) (is_null a) (gives k i) (choice_in (OpIn (ValueIn n)) (is_null b) (gives h i) (rest_in (joined (to_text a) (to_text b)) a b w h k i))
+  cat_in a b w h k i = choice_in (OpIn (ValueIn n)) (is_null a) (gives k i) (choice_in (OpIn (ValueIn n)) (is_null b) (gives h i) (rest_in (text_joined (to_text a) (to_text b)) a b w h k i))
 
   pub alt_in : (a b : MVal) (w : MW) → ValueIn n a → ValueIn n b → WorldIn n w → OpIn (ValueIn n) (alt_op codes_of a b w)
   alt_in a b w h k i = two_in alt_code a b w alt_code_in h k i
@@ -277,8 +277,8 @@ module _ (n : ℕ) where
   answer_in WantCount v h = count_in (to_integer v)
   answer_in WantBytes v h = bytes_in (to_text v)
 
-  kind_plain_in : (k : Kind) (v : MVal) (w : MW) → WorldIn n w → OpIn (ValueIn n) (conv (answer_of codes_of (want_of k) v) w (λ y. Gives (Pat (codes_of.basic (with_answer k y))) w))
-  kind_plain_in k v w i = conv_in (ValueIn n) (answer_of codes_of (want_of k) v) w _ i (λ y. gives (basic_in (with_answer k y)) i)
+  kind_plain_in : (k : Kind) (v : MVal) (w : MW) → WorldIn n w → OpIn (ValueIn n) (conv (answer_of codes_of (want_of_kind k) v) w (λ y. Gives (Pat (codes_of.basic (with_answer k y))) w))
+  kind_plain_in k v w i = conv_in (ValueIn n) (answer_of codes_of (want_of_kind k) v) w _ i (λ y. gives (basic_in (with_answer k y)) i)
 
   pub kind_in : (k : Kind) (v : MVal) (w : MW) → ValueIn n v → WorldIn n w → OpIn (ValueIn n) (kind_op codes_of k v w)
   kind_in k (Exp e) w h i = gives (h, tt) i

@@ -5,7 +5,7 @@ use Rattle.model.specs.Language.Programs.{Program}
 use Rattle.model.specs.Language.Meaning.{W, Res, Done, Fails, Ends, Open, Query, QVal, QName, QArgs, QBody, QExec, QMatch, Rule, Ret, Fail, Stop, Ask, Seek, after, meaning}
 use Rattle.model.specs.Machine.Steps.{MW, Module, State, steps}
 use Rattle.model.specs.Machine.Alike.{WR}
-use Rattle.model.specs.Language.RulesUsed.{after_count, follow_count, count}
+use Rattle.model.specs.Language.RulesUsed.{after_count, follow_count, query_count}
 use Rattle.model.proofs.Language.MeaningGrows.{at_depth}
 use Rattle.model.proofs.Machine.Following.{Task, start, done, failed, rank, extra, Stopped, Follows, steps_add}
 
@@ -46,7 +46,7 @@ module _ (prog : Program) (img : Module) (trees_at : ℕ → Option Expr) where
 
   -- at the depth n: seven steps for each rule, and the extra ones
   abbrev pub SimPaced : ℕ → Type 0
-  SimPaced n = (q : Query) (t : Task prog img trees_at q) (w : W) (w' : MW) → WR trees_at w w' → Reaches (spent q t) (7 * count prog n q w + extra q) (start prog img trees_at q t w') (done prog img trees_at q t) (failed prog img trees_at q t) (meaning prog n q w)
+  SimPaced n = (q : Query) (t : Task prog img trees_at q) (w : W) (w' : MW) → WR trees_at w w' → Reaches (spent q t) (7 * query_count prog n q w + extra q) (start prog img trees_at q t w') (done prog img trees_at q t) (failed prog img trees_at q t) (meaning prog n q w)
 
   -- the same from a start without steps before
   fresh : {A : Type 0} (i n : ℕ) (c : State) (Q : A → W → State → Type 0) (F : W → State → Type 0) (r : Res A) → Reaches i n c Q F r → Reaches 0 n c Q F r
@@ -56,7 +56,7 @@ module _ (prog : Program) (img : Module) (trees_at : ℕ → Option Expr) where
   fresh i n c Q F (Open w) x = tt
 
   abbrev pub count_at : {A : Type 0} → ℕ → Rule A → ℕ
-  count_at n p = follow_count (suc n) (λ r v. meaning prog n r v) (λ r v. count prog n r v) p
+  count_at n p = follow_count (suc n) (λ r v. meaning prog n r v) (λ r v. query_count prog n r v) p
 
   pub follow_reaches : {A : Type 0} (n : ℕ) → SimPaced n → (r b : ℕ) → 1 ≤ r → (c : State) (Q : A → W → State → Type 0) (F : W → State → Type 0) (p : Rule A) → Follows prog img trees_at r b c Q F p → Reaches 0 (b + 7 * count_at n p) c Q F (at_depth prog n p)
   follow_reaches n sim r b up c Q F (Ret a w) (j, le, x) = (j, omega arith, x)
@@ -66,10 +66,10 @@ module _ (prog : Program) (img : Module) (trees_at : ℕ → Option Expr) where
       let above : suc (rank q) ≤ x.5 = x.6 in
       let le : x.0 + extra q + x.8 ≤ b = x.9 in
       let one : 1 ≤ x.5 = omega (arith, above) in
-      reaches_after x.0 (7 * count prog n q w + extra q) x.8 (b + 7 * count_at n (Ask q w k f)) c (done prog img trees_at q x.1) (failed prog img trees_at q x.1) Q F (meaning prog n q w)
+      reaches_after x.0 (7 * query_count prog n q w + extra q) x.8 (b + 7 * count_at n (Ask q w k f)) c (done prog img trees_at q x.1) (failed prog img trees_at q x.1) Q F (meaning prog n q w)
       (λ a u. at_depth prog n (k a u)) (λ u. at_depth prog n (f u)) (λ a u. count_at n (k a u)) (λ u. count_at n (f u)) (omega (arith, le))
-      (subst (λ s. Reaches 0 (7 * count prog n q w + extra q) s (done prog img trees_at q x.1) (failed prog img trees_at q x.1) (meaning prog n q w)) (sym x.3)
-      (fresh (spent q x.1) (7 * count prog n q w + extra q) (start prog img trees_at q x.1 x.2) (done prog img trees_at q x.1) (failed prog img trees_at q x.1) (meaning prog n q w) (sim q x.1 w x.2 x.4)))
+      (subst (λ s. Reaches 0 (7 * query_count prog n q w + extra q) s (done prog img trees_at q x.1) (failed prog img trees_at q x.1) (meaning prog n q w)) (sym x.3)
+      (fresh (spent q x.1) (7 * query_count prog n q w + extra q) (start prog img trees_at q x.1 x.2) (done prog img trees_at q x.1) (failed prog img trees_at q x.1) (meaning prog n q w) (sim q x.1 w x.2 x.4)))
       (λ a u d h. follow_reaches n sim x.5 x.8 one d Q F (k a u) (x.10 a u d h)) (λ u d h. follow_reaches n sim x.5 x.8 one d Q F (f u) (x.11 u d h))
   follow_reaches n sim r b up c Q F (Seek g w k) x =
       let none : r ≤ 0 = x.0 in

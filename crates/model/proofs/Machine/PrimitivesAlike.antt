@@ -7,16 +7,16 @@ use Rattle.model.specs.declared.primitives.PrimId.{PrimId}
 use Rattle.model.specs.declared.primitives.PrimId.TheVariants as p
 use Rattle.model.specs.Deck.Trees.{Bytes, Expr}
 use Rattle.model.specs.Language.Names.{prim_named, most_args}
-use Rattle.model.specs.Language.Keywords.{counted, return_name}
+use Rattle.model.specs.Language.Keywords.{counted_up, return_name}
 use Rattle.model.specs.Pattern.Patterns.{KLen, KPos, KRPos, KTab, KRTab, KAny, KNotAny, KSpan, KBreak}
 use Rattle.model.specs.Pattern.Stands.{Stands}
-use Rattle.model.specs.Language.Values.{Str, Pat, Obj, Pattern, trees, Bounds, Key, IntegerAt, StringAt, Entry, Object, ArrayOf, Function, Defined, Constructor, Field}
+use Rattle.model.specs.Language.Values.{Str, Pat, Obj, Pattern, pattern_trees, Bounds, Key, IntegerAt, StringAt, Entry, Object, ArrayOf, Function, Defined, Constructor, Field}
 use Rattle.model.specs.Language.Conversions.{Conv, Got, Bad, Op, Gives, then_conv, is_null}
 use Rattle.model.specs.Language.Prototypes.{FunctionPrototype, function_prototype, TypePrototype, type_prototype, array_prototype, elements_in}
 use Rattle.model.specs.Language.Aggregates as g
-use Rattle.model.specs.Language.Aggregates.{place_from, place_of, pairs, new_object, array_op, copy_of, copy_op, field_values, all_integers, named_element, table_element, element_in, element_op, named_field, field_in, field_op, object_type, type_of, rows, row_count, rows_array, table_array, as_array}
-use Rattle.model.specs.Language.Calls.{AName, Saved, Kept, arg_at, saved_of, bind_arguments, restore, kept_of, enter_call, back, or_no_name, leave_op, as_value, as_name, construct_op, select_op}
-use Rattle.model.specs.Language.Primitives.{Outcome, Returns, Calls, same_value, holds_if, compare_op, same_op, is_integer, repeated, replaced_in, remainder, or_fail, converted, set_function, set_fields, data_op, entry_label, entry_or, define_op, unit_number, unit_op, set_reads, set_writes, returned, item_op, applied, prim_op}
+use Rattle.model.specs.Language.Aggregates.{place_from, index_of, pairs, new_object, array_op, copy_of, copy_op, field_values, all_integers, named_element, table_element, element_in, element_op, named_field, field_in, field_op, object_type, type_of, rows, row_count, rows_array, table_array, as_array}
+use Rattle.model.specs.Language.Calls.{AName, Saved, Kept, arg_at, saved_of, bind_arguments, restore, kept_of, enter_call, back_to_caller, or_no_name, leave_op, as_value, as_name, construct_op, select_op}
+use Rattle.model.specs.Language.Primitives.{Outcome, Returns, Calls, same_value, holds_if, compare_op, same_op, is_integer, repeated, replaced_in, remainder, or_fail, converted, set_function, set_fields, data_op, to_entry_label, entry_or, define_op, unit_number, unit_op, set_reads, set_writes, returned, item_op, applied, prim_op}
 use Rattle.model.specs.Language.Meaning.{Val, W, Back}
 use Rattle.model.specs.Machine.Steps.{PCode, codes_of, MVal, MW, MBack}
 use Rattle.model.specs.Machine.Alike.{VR, rstr, rint, rpat, rnam, rexp, robj, VRs, rnil, rcons, EntriesR, enil, econs, ObjectR, rarray, rtable, rrecord, ObjectsR, onil, ocons, GR, rval, rname, WR}
@@ -88,7 +88,7 @@ module _ (at : ℕ → Option Expr) where
   named_same k None wr = refuses wr
   named_same k (Some i) wr = gives refl wr
 
-  key_same : (k : ℕ) {v : Val} {a : MVal} → VR at v a → g.key_name k a ≡ g.key_name k v
+  key_same : (k : ℕ) {v : Val} {a : MVal} → VR at v a → g.keyed_name k a ≡ g.keyed_name k v
   key_same k (rstr s) = refl
   key_same k (rint z) = refl
   key_same k (rpat c) = refl
@@ -124,7 +124,7 @@ module _ (at : ℕ → Option Expr) where
   field_in_same f k none wr = faults error.WrongType wr
   field_in_same f k (some (rarray bs hs)) wr = faults error.WrongType wr
   field_in_same f k (some (rtable es)) wr = faults error.WrongType wr
-  field_in_same f k (some (rrecord t fs hs)) wr = named_field_same k (place_of 0 f fs) wr
+  field_in_same f k (some (rrecord t fs hs)) wr = named_field_same k (index_of 0 f fs) wr
 
   field_same : (f : Bytes) {v : Val} {a : MVal} {w : W} {m : MW} → VR at v a → WR at w m → OpR at ◌≡◌ (field_op f v w) (field_op f a m)
   field_same f (rstr s) wr = faults error.WrongType wr
@@ -152,7 +152,7 @@ module _ (at : ℕ → Option Expr) where
 
   -- ---- tables as arrays
 
-  key_value_same : (k : Key) → VR at (g.key_value k) (g.key_value k)
+  key_value_same : (k : Key) → VR at (g.value_of_key k) (g.value_of_key k)
   key_value_same (IntegerAt z) = rint z
   key_value_same (StringAt s) = rstr s
 
@@ -163,7 +163,7 @@ module _ (at : ℕ → Option Expr) where
       go true = h
       go false = k
 
-  rows_same : {es : List (Entry Val)} {fs : List (Entry MVal)} → EntriesR at es fs → VRs at (rows is_null g.key_value es) (rows is_null g.key_value fs)
+  rows_same : {es : List (Entry Val)} {fs : List (Entry MVal)} → EntriesR at es fs → VRs at (rows is_null g.value_of_key es) (rows is_null g.value_of_key fs)
   rows_same enil = rnil
   rows_same (econs k h hs) = if_rows _ _ (null_same at h) (rows_same hs) (rcons (key_value_same k) (rcons h (rows_same hs)))
 
@@ -175,7 +175,7 @@ module _ (at : ℕ → Option Expr) where
   rows_array_same {es} {fs} {w} {m} hs wr =
       if_same at (VR at) _ _ _ _ _ _ (ap (λ n. nat_eq n 0) (count_same hs)) (refuses wr)
       (if_same at (VR at) _ _ _ _ _ _ (ap (λ n. nat_lt 524288 n) (count_same hs)) (faults error.BadArray wr)
-      (subst (λ n. OpR at (VR at) (new_object (ArrayOf (pairs (row_count is_null es)) (rows is_null g.key_value es)) w) (new_object (ArrayOf (pairs n) (rows is_null g.key_value fs)) m)) (sym (count_same hs)) (new_same (rarray (pairs (row_count is_null es)) (rows_same hs)) wr)))
+      (subst (λ n. OpR at (VR at) (new_object (ArrayOf (pairs (row_count is_null es)) (rows is_null g.value_of_key es)) w) (new_object (ArrayOf (pairs n) (rows is_null g.value_of_key fs)) m)) (sym (count_same hs)) (new_same (rarray (pairs (row_count is_null es)) (rows_same hs)) wr)))
 
   table_array_same : {o : Option (Object Val)} {x : Option (Object MVal)} {w : W} {m : MW} → OptR (ObjectR at) o x → WR at w m → OpR at (VR at) (table_array o w) (table_array x m)
   table_array_same none wr = refuses wr
@@ -269,7 +269,7 @@ module _ (at : ℕ → Option Expr) where
   as_pattern_same (got s) wr = gives (rpat s) wr
   as_pattern_same (bad e) wr = refuses wr
 
-  converted_same : {v : Val} {a : MVal} (t : Bytes) {w : W} {m : MW} → VR at v a → WR at w m → OpR at (VR at) (converted trees v t w) (converted codes_of a t m)
+  converted_same : {v : Val} {a : MVal} (t : Bytes) {w : W} {m : MW} → VR at v a → WR at w m → OpR at (VR at) (converted pattern_trees v t w) (converted codes_of a t m)
   converted_same t h wr =
       if_same at (VR at) _ _ _ _ _ _ (ap (bytes_eq t) (type_same h wr)) (gives h wr)
       (if_same at (VR at) _ _ _ _ _ _ refl (or_fail_same _ _ _ _ (text_same at h) wr (λ s. gives (rstr s) wr))
@@ -290,7 +290,7 @@ module _ (at : ℕ → Option Expr) where
   data_same None wr = faults error.BadPrototype wr
   data_same (Some t) wr = gives (rstr []) (fields_same t.fields (function_same t.name (Constructor t.fields) wr))
 
-  entry_same : {v : Val} {a : MVal} → VR at v a → entry_label a ≡ entry_label v
+  entry_same : {v : Val} {a : MVal} → VR at v a → to_entry_label a ≡ to_entry_label v
   entry_same h = λ i. if null_same at h i then Got None else then_conv (label_same at h i) (λ l. Got (Some l))
 
   define_same : (l : Option Bytes) (f : Option FunctionPrototype) {w : W} {m : MW} → WR at w m → OpR at (VR at) (define_op l f w) (define_op l f m)
@@ -322,7 +322,7 @@ module _ (at : ℕ → Option Expr) where
   applied_same f k l hs wr h None = gives (calls f hs) wr
   applied_same f k l hs wr h (Some q) = if_same at (OutcomeR at) _ _ _ _ _ _ (ap (nat_lt (most_args q)) (length_same hs)) (faults error.TooManyArguments wr) (h q)
 
-  pub prim_same : (f : PrimId) {vs : List Val} {ms : List MVal} {w : W} {m : MW} → VRs at vs ms → WR at w m → OpR at (OutcomeR at) (prim_op trees f vs w) (prim_op codes_of f ms m)
+  pub prim_same : (f : PrimId) {vs : List Val} {ms : List MVal} {w : W} {m : MW} → VRs at vs ms → WR at w m → OpR at (OutcomeR at) (prim_op pattern_trees f vs w) (prim_op codes_of f ms m)
   prim_same p.Len hs wr = returned_same (kind_same at KLen (arg_same hs 0) wr)
   prim_same p.Pos hs wr = returned_same (kind_same at KPos (arg_same hs 0) wr)
   prim_same p.RPos hs wr = returned_same (kind_same at KRPos (arg_same hs 0) wr)
@@ -396,13 +396,13 @@ module _ (at : ℕ → Option Expr) where
   bind_same (x ∷ xs) (rcons h hs) wr = bind_same xs hs (var_same at x h wr)
 
   pub enter_call_same : (f : Bytes) (xs ys : List Bytes) {vs : List Val} {ms : List MVal} {w : W} {m : MW} → VRs at vs ms → WR at w m → WR at (enter_call f xs ys vs w) (enter_call f xs ys ms m)
-  enter_call_same f xs ys hs wr = set_keys_same at (λ k. record k { fnclevel = counted k.fnclevel }) (bind_same ys rnil (bind_same xs hs (var_same at f (rstr []) wr)))
+  enter_call_same f xs ys hs wr = set_keys_same at (λ k. record k { fnclevel = counted_up k.fnclevel }) (bind_same ys rnil (bind_same xs hs (var_same at f (rstr []) wr)))
 
   restore_same : {s : List (Saved Pattern Expr)} {t : List (Saved PCode ℕ)} {w : W} {m : MW} → SavedR s t → WR at w m → WR at (restore s w) (restore t m)
   restore_same snil wr = wr
   restore_same (scons x h hs) wr = var_same at x h (restore_same hs wr)
 
-  back_same : (r : ReturnKind) {k : Kept Pattern Expr} {l : Kept PCode ℕ} {w : W} {m : MW} → KeptR k l → WR at w m → WR at (back r k w) (back r l m)
+  back_same : (r : ReturnKind) {k : Kept Pattern Expr} {l : Kept PCode ℕ} {w : W} {m : MW} → KeptR k l → WR at w m → WR at (back_to_caller r k w) (back_to_caller r l m)
   back_same r kr wr =
       let a = restore_same kr.saved wr in
       plain_same at _ _ (λ i. record (a.plain i) { keys = record ((a.plain i).keys) { stno = sym kr.stno i; fnclevel = sym kr.fnclevel i; rtntype = return_name r } }) a

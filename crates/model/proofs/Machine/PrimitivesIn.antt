@@ -12,9 +12,9 @@ use Rattle.model.specs.Language.Values.{Str, Obj, Bounds, Key, IntegerAt, String
 use Rattle.model.specs.Language.Conversions.{Conv, Got, Bad, Op, conv, to_text, to_integer, to_pattern, to_name, to_variable, is_null}
 use Rattle.model.specs.Language.Prototypes.{FunctionPrototype, function_prototype, TypePrototype, type_prototype, array_prototype, elements_in}
 use Rattle.model.specs.Language.Aggregates as g
-use Rattle.model.specs.Language.Aggregates.{place_from, place_of, pairs, new_object, array_op, copy_of, copy_op, field_values, all_integers, named_element, key_name, table_element, element_in, element_op, named_field, field_in, field_op, type_of, rows, row_count, rows_array, table_array, as_array}
+use Rattle.model.specs.Language.Aggregates.{place_from, index_of, pairs, new_object, array_op, copy_of, copy_op, field_values, all_integers, named_element, keyed_name, table_element, element_in, element_op, named_field, field_in, field_op, type_of, rows, row_count, rows_array, table_array, as_array}
 use Rattle.model.specs.Language.Calls.{AValue, AName, Saved, Kept, arg_at, saved_of, bind_arguments, restore, kept_of, enter_call, or_no_name, leave_op, as_value, as_name, construct_op, select_op}
-use Rattle.model.specs.Language.Primitives.{Outcome, same_value, holds_if, compare_op, comes_after, same_op, is_integer, repeated, replaced_in, remainder, or_fail, converted, set_fields, data_op, entry_label, define_op, unit_number, unit_op, set_reads, set_writes, returned, item_op, applied, prim_op}
+use Rattle.model.specs.Language.Primitives.{Outcome, same_value, holds_if, compare_op, comes_after, same_op, is_integer, repeated, replaced_in, remainder, or_fail, converted, set_fields, data_op, to_entry_label, define_op, unit_number, unit_op, set_reads, set_writes, returned, item_op, applied, prim_op}
 use Rattle.model.specs.Machine.Steps.{PCode, codes_of, MVal, MW, MBack}
 use Rattle.model.specs.Machine.InRange.{CodeIn, ValueIn, ValuesIn, EntriesIn, ObjectIn, WorldIn, ReturnedIn, OutcomeIn, SavedIn, KeptIn}
 use Rattle.model.proofs.Machine.Lists.{IfThere, choice_in, join_in, replicate_in}
@@ -53,7 +53,7 @@ module _ (n : ℕ) where
 
   table_in : (k : ℕ) (vs : List MVal) (w : MW) → WorldIn n w → OpIn n Any (table_element k vs w)
   table_in k [] w i = faults i
-  table_in k (v ∷ []) w i = conv_in n Any (key_name k v) w _ i (λ x. gives tt i)
+  table_in k (v ∷ []) w i = conv_in n Any (keyed_name k v) w _ i (λ x. gives tt i)
   table_in k (v ∷ u ∷ vs) w i = faults i
 
   object_element_in : (k : ℕ) (o : Option (Object MVal)) (vs : List MVal) (w : MW) → WorldIn n w → OpIn n Any (element_in k o vs w)
@@ -74,7 +74,7 @@ module _ (n : ℕ) where
   object_field_in f k None w i = faults i
   object_field_in f k (Some (ArrayOf bs vs)) w i = faults i
   object_field_in f k (Some (TableOf es)) w i = faults i
-  object_field_in f k (Some (RecordOf t fs vs)) w i = named_field_in k (place_of 0 f fs) w i
+  object_field_in f k (Some (RecordOf t fs vs)) w i = named_field_in k (index_of 0 f fs) w i
 
   field_op_in : (f : Bytes) (v : MVal) (w : MW) → WorldIn n w → OpIn n Any (field_op f v w)
   field_op_in f (Obj k) w i = object_field_in f k _ w i
@@ -82,17 +82,17 @@ module _ (n : ℕ) where
 
   -- ---- tables as arrays
 
-  key_value_in : (k : Key) → ValueIn n (g.key_value k)
+  key_value_in : (k : Key) → ValueIn n (g.value_of_key k)
   key_value_in (IntegerAt z) = tt
   key_value_in (StringAt s) = tt
 
-  rows_in : (es : List (Entry MVal)) → EntriesIn n es → ValuesIn n (rows is_null g.key_value es)
+  rows_in : (es : List (Entry MVal)) → EntriesIn n es → ValuesIn n (rows is_null g.value_of_key es)
   rows_in [] h = tt
   rows_in (e ∷ es) h = choice_in (ValuesIn n) (is_null e.value) (rows_in es h.1) (key_value_in e.key, (h.0, rows_in es h.1))
 
   rows_array_in : (es : List (Entry MVal)) (w : MW) → EntriesIn n es → WorldIn n w → OpIn n (ValueIn n) (rows_array es w)
   rows_array_in es w h i =
-      choice_in (OpIn n (ValueIn n)) _ (refuses i) (choice_in (OpIn n (ValueIn n)) _ (faults i) (new_in (ArrayOf (pairs (row_count is_null es)) (rows is_null g.key_value es)) w (rows_in es h) i))
+      choice_in (OpIn n (ValueIn n)) _ (refuses i) (choice_in (OpIn n (ValueIn n)) _ (faults i) (new_in (ArrayOf (pairs (row_count is_null es)) (rows is_null g.value_of_key es)) w (rows_in es h) i))
 
   table_array_in : (o : Option (Object MVal)) (w : MW) → IfThere (ObjectIn n) o → WorldIn n w → OpIn n (ValueIn n) (table_array o w)
   table_array_in None w h i = refuses i
@@ -222,7 +222,7 @@ module _ (n : ℕ) where
   prim_in p.Copy vs w h i = returned_in (copy_in (arg_at vs 0) w i)
   prim_in p.Convert vs w h i = returned_in (text_in (arg_at vs 1) w _ i (λ t. converted_in (arg_at vs 0) t w (arg_in vs 0 h) i))
   prim_in p.Data vs w h i = returned_in (text_in (arg_at vs 0) w _ i (λ s. data_in (type_prototype s) w i))
-  prim_in p.Define vs w h i = returned_in (text_in (arg_at vs 0) w _ i (λ s. conv_in n (ValueIn n) (entry_label (arg_at vs 1)) w _ i (λ l. define_in l (function_prototype s) w i)))
+  prim_in p.Define vs w h i = returned_in (text_in (arg_at vs 0) w _ i (λ s. conv_in n (ValueIn n) (to_entry_label (arg_at vs 1)) w _ i (λ l. define_in l (function_prototype s) w i)))
   prim_in p.Input vs w h i = returned_in (conv_in n (ValueIn n) (to_variable (arg_at vs 0)) w _ i (λ x. unit_in 5 (arg_at vs 1) w _ i (λ u. gives {a = Str []} {w = set_reads x (Some u) w} tt i)))
   prim_in p.Output vs w h i = returned_in (conv_in n (ValueIn n) (to_variable (arg_at vs 0)) w _ i (λ x. unit_in 6 (arg_at vs 1) w _ i (λ u. gives {a = Str []} {w = set_writes x (Some u) w} tt i)))
   prim_in p.Detach vs w h i = returned_in (conv_in n (ValueIn n) (to_variable (arg_at vs 0)) w _ i (λ x. gives tt i))

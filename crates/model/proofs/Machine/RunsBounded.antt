@@ -9,7 +9,7 @@ use Rattle.model.specs.Module.Images.{module_of}
 use Rattle.model.specs.Module.Placed.{Placed}
 use Rattle.model.specs.Machine.Alike.{WR}
 use Rattle.model.specs.Laws.Agreement.{seen_of, seen_at, first_w, first_m}
-use Rattle.model.specs.Language.RulesUsed.{own_count, count}
+use Rattle.model.specs.Language.RulesUsed.{own_count, query_count}
 use Rattle.model.specs.Laws.StepBound.{RunStepsBounded}
 use Rattle.model.proofs.Machine.Following.{rank, extra, own, Task, start, done, failed, steps_add}
 use Rattle.model.proofs.Machine.Pacing.{Reaches, SimPaced, follow_reaches, reaches_from, count_at}
@@ -20,17 +20,17 @@ use Rattle.model.proofs.Machine.Agreement.{Never, Nowhere, run_follows, over_sta
 module _ (prog : Program) (img : Module) (trees_at : ℕ → Option _) (placed : Placed prog img trees_at) where
   -- a rule is the meaning one level up
   level_up : (n : ℕ) → SimPaced prog img trees_at n → (q : Query) → 1 ≤ rank q → own_count prog (suc n) (λ r v. meaning prog n r v) q ≡ own prog img trees_at q
-      → (t : Task prog img trees_at q) (w : W) (w' : MW) → WR trees_at w w' → Reaches prog img trees_at 0 (7 * count prog (suc n) q w + extra q) (start prog img trees_at q t w') (done prog img trees_at q t) (failed prog img trees_at q t) (meaning prog (suc n) q w)
-  unfolding meaning count
+      → (t : Task prog img trees_at q) (w : W) (w' : MW) → WR trees_at w w' → Reaches prog img trees_at 0 (7 * query_count prog (suc n) q w + extra q) (start prog img trees_at q t w') (done prog img trees_at q t) (failed prog img trees_at q t) (meaning prog (suc n) q w)
+  unfolding meaning query_count
   level_up n sim q up own_is t w w' wr =
       let b : ℕ = 7 * own prog img trees_at q w + extra q in
       let c : ℕ = b + 7 * count_at prog img trees_at n (rule prog q w) in
       let same : own_count prog (suc n) (λ r v. meaning prog n r v) q w ≡ own prog img trees_at q w = ap (λ f. f w) own_is in
-      reaches_from prog img trees_at 0 0 0 c (7 * count prog (suc n) q w + extra q) (start prog img trees_at q t w') (done prog img trees_at q t) (failed prog img trees_at q t) (meaning prog (suc n) q w) (omega (arith, same))
+      reaches_from prog img trees_at 0 0 0 c (7 * query_count prog (suc n) q w + extra q) (start prog img trees_at q t w') (done prog img trees_at q t) (failed prog img trees_at q t) (meaning prog (suc n) q w) (omega (arith, same))
       (follow_reaches prog img trees_at n sim (rank q) b up (start prog img trees_at q t w') (done prog img trees_at q t) (failed prog img trees_at q t) (rule prog q w) (local prog img trees_at placed q t w w' wr))
 
   pub sim_paced : (n : ℕ) → SimPaced prog img trees_at n
-  unfolding meaning count
+  unfolding meaning query_count
   sim_paced zero q t w w' wr = tt
   sim_paced (suc n) (QVal e) t w w' wr = level_up n (sim_paced n) (QVal e) (omega arith) refl t w w' wr
   sim_paced (suc n) (QName e) t w w' wr = level_up n (sim_paced n) (QName e) (omega arith) refl t w w' wr
@@ -40,7 +40,7 @@ module _ (prog : Program) (img : Module) (trees_at : ℕ → Option _) (placed :
   sim_paced (suc n) (QBody b) t w w' wr = level_up n (sim_paced n) (QBody b) (omega arith) refl t w w' wr
   sim_paced (suc n) (QExec k) t w w' wr = level_up n (sim_paced n) (QExec k) (omega arith) refl t w w' wr
   sim_paced (suc n) (QMatch s p left u) t w w' wr =
-      let l : ℕ = 7 * count prog (suc n) (QMatch s p left u) w in
+      let l : ℕ = 7 * query_count prog (suc n) (QMatch s p left u) w in
       reaches_from prog img trees_at 0 t.so_far t.so_far l (l + 0) (start prog img trees_at (QMatch s p left u) t w') (done prog img trees_at (QMatch s p left u) t) (failed prog img trees_at (QMatch s p left u) t) (meaning prog (suc n) (QMatch s p left u) w) (omega arith)
       (match_paced prog img trees_at placed n (sim_paced n) s p left u t w w' wr)
 

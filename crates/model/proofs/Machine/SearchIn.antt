@@ -2,7 +2,7 @@
 use Rattle.std.proofs.Common.{◌≡◌, ◌<◌, ℕ, zero, suc, ◌+◌, ◌-◌, length, drop, List, [], ◌∷◌, Option, Some, None, slice_get, subst}
 use Rattle.model.specs.Pattern.Patterns.{Instr, Do, Split, Jmp, DoSucceed, DoAbort, DoFence, Open, OpenFence, CloseFence, Close, Say, AtCursor, Eval, EvalBasic, Pending, Answer, IsPattern, IsSaid, Want, AskFor, Asks, with_answer}
 use Rattle.model.specs.Pattern.BasicEnds.{ends_at}
-use Rattle.model.specs.Pattern.Steps.{Won, Lost, Code, Answers, Thread, Note, Opened, Fenced, Left, Choice, Retry, Again, Quit, at_place, on_after, at_distance, Move, Goes, Forks, Fails, Act, Moves, Aborts, Arrives, Asking, Fences, Drops, Waiting, ForPattern, ForArgument, ForSaid, act, answered, closed, fence_closed, fenced, kept, forked, onward, settled, State, Starting, Going, Returning, Waits, Over, go, back, after_move, after_act, after_return, step, steps, event_of, with_more}
+use Rattle.model.specs.Pattern.Steps.{Won, Lost, Code, Answers, Thread, Note, Opened, Fenced, Left, Choice, Retry, Again, Quit, at_place, on_after, at_distance, Move, Goes, Forks, Fails, Act, Moves, Aborts, Arrives, Asking, Fences, Drops, Waiting, ForPattern, ForArgument, ForSaid, pattern_act, answered, closed, fence_closed, fenced, choices_kept, forked, onward, settled, MatchState, Starting, Going, Returning, Waits, Over, go, back, after_move, after_act, after_return, pattern_step, pattern_steps, event_of, with_more}
 use Rattle.model.specs.Machine.InRange.{InstrIn, CodeIn, AnswerIn, AnswersIn, NotesIn, ThreadIn, ChoiceIn, ChoicesIn, WaitingIn, SearchIn, EventIn}
 use Rattle.model.proofs.Machine.Lists.{IfThere, item_in, join_in}
 
@@ -55,7 +55,7 @@ module _ (n : ℕ) where
   fence_closed_in (Fenced k ∷ notes) f ns h = h k notes ns.1
   fence_closed_in (Left code p ∷ notes) f ns h = tt
 
-  act_in : (s : List ℕ) (o : Option Instr) (t : Thread) → IfThere (InstrIn n) o → ThreadIn n t → ActIn (act s o t)
+  act_in : (s : List ℕ) (o : Option Instr) (t : Thread) → IfThere (InstrIn n) o → ThreadIn n t → ActIn (pattern_act s o t)
   act_in s None t k h = tt
   act_in s (Some (Do b)) t k h = forked_in t (ends_at s b t.cursor) h
   act_in s (Some (Split d)) t k h = (onward_in t (t.place + 1) t.cursor h, h)
@@ -81,7 +81,7 @@ module _ (n : ℕ) where
 
   -- ---- steps
 
-  go_at : (o : Option Instr) (t : Thread) (cs : List Choice) (b left : ℕ) (u : Answers) → ThreadIn n t → ChoicesIn n cs → AnswersIn n u → SearchIn n (elim o as (λ _. State) [ None ↦ Over (Won b t.cursor t.pending) | Some i ↦ Going t cs b left u ])
+  go_at : (o : Option Instr) (t : Thread) (cs : List Choice) (b left : ℕ) (u : Answers) → ThreadIn n t → ChoicesIn n cs → AnswersIn n u → SearchIn n (elim o as (λ _. MatchState) [ None ↦ Over (Won b t.cursor t.pending) | Some i ↦ Going t cs b left u ])
   go_at None t cs b left u h k a = tt
   go_at (Some i) t cs b left u h k a = (h, k, a)
 
@@ -110,10 +110,10 @@ module _ (n : ℕ) where
   after_in (Asking w t) cs b left u h k a = (h.0, h.1, k, a)
   after_in (Fences t) cs b left u h k a =
       go_in (fenced (length cs) t) cs b left u (settled_in (Fenced (length cs) ∷ t.notes) t.code (t.place + 1) t.cursor t.pending h.0 (tt, h.1)) k a
-  after_in (Drops m t) cs b left u h k a = go_in t (kept m cs) b left u h (drop_in (length cs - m) cs k) a
+  after_in (Drops m t) cs b left u h k a = go_in t (choices_kept m cs) b left u h (drop_in (length cs - m) cs k) a
 
-  doing_in : (s : List ℕ) (t : Thread) (cs : List Choice) (b left : ℕ) (u : Answers) → ThreadIn n t → ChoicesIn n cs → AnswersIn n u → SearchIn n (after_act (act s (at_place t) t) cs b left u)
-  doing_in s t cs b left u h k a = after_in (act s (at_place t) t) cs b left u (act_in s (at_place t) t (item_in (InstrIn n) t.code t.place h.0) h) k a
+  doing_in : (s : List ℕ) (t : Thread) (cs : List Choice) (b left : ℕ) (u : Answers) → ThreadIn n t → ChoicesIn n cs → AnswersIn n u → SearchIn n (after_act (pattern_act s (at_place t) t) cs b left u)
+  doing_in s t cs b left u h k a = after_in (pattern_act s (at_place t) t) cs b left u (act_in s (at_place t) t (item_in (InstrIn n) t.code t.place h.0) h) k a
 
   return_in : (s : List ℕ) (ch : Choice) (cs : List Choice) (b left : ℕ) (u : Answers) → ChoiceIn n ch → ChoicesIn n cs → AnswersIn n u → SearchIn n (after_return s ch cs b left u)
   return_in s (Retry p e [] t) cs b left u h k a = go_in (onward t p e) cs b left u (onward_in t p e h) k a
@@ -121,7 +121,7 @@ module _ (n : ℕ) where
   return_in s (Again t) cs b left u h k a = doing_in s t cs b left u h k a
   return_in s Quit cs b left u h k a = tt
 
-  pub search_in : (s : List ℕ) (code : Code) (st : State) → CodeIn n code → SearchIn n st → SearchIn n (step s code st)
+  pub search_in : (s : List ℕ) (code : Code) (st : MatchState) → CodeIn n code → SearchIn n st → SearchIn n (pattern_step s code st)
   search_in s code (Starting b left u) h k = go_in (settled [] code 0 b []) [] b left u (settled_in [] code 0 b [] h tt) tt k
   search_in s code (Going t cs b left u) h k = doing_in s t cs b left u k.0 k.1 k.2
   search_in s code (Returning ch cs b left u) h k = return_in s ch cs b left u k.0 k.1 k.2
@@ -129,13 +129,13 @@ module _ (n : ℕ) where
   search_in s code (Waits w t cs b left (y ∷ u)) h k = move_in (answered s w t y) cs b left u (answered_in s w t y k.1 k.3.0) k.2 k.3.1
   search_in s code (Over e) h k = tt
 
-  pub searches_in : (s : List ℕ) (code : Code) (m : ℕ) (st : State) → CodeIn n code → SearchIn n st → SearchIn n (steps s code m st)
+  pub searches_in : (s : List ℕ) (code : Code) (m : ℕ) (st : MatchState) → CodeIn n code → SearchIn n st → SearchIn n (pattern_steps s code m st)
   searches_in s code zero st h k = k
-  searches_in s code (suc m) st h k = searches_in s code m (step s code st) h (search_in s code st h k)
+  searches_in s code (suc m) st h k = searches_in s code m (pattern_step s code st) h (search_in s code st h k)
 
   -- ---- events and answers
 
-  event_in : (st : State) → SearchIn n st → EventIn n (event_of st)
+  event_in : (st : MatchState) → SearchIn n st → EventIn n (event_of st)
   event_in (Starting b left u) k = tt
   event_in (Going t cs b left u) k = tt
   event_in (Returning ch cs b left u) k = tt
@@ -146,10 +146,10 @@ module _ (n : ℕ) where
   event_in (Over Lost) k = tt
   event_in (Over (Won b e a)) k = tt
 
-  pub asked_in : (st : State) → SearchIn n st → (k : ℕ) (want : Want) → event_of st ≡ Asks (AskFor k want) → k < n
+  pub asked_in : (st : MatchState) → SearchIn n st → (k : ℕ) (want : Want) → event_of st ≡ Asks (AskFor k want) → k < n
   asked_in st h k want e = subst (EventIn n) e (event_in st h)
 
-  pub supplied_in : (y : Answer Code) (st : State) → AnswerIn n y → SearchIn n st → SearchIn n (with_more (y ∷ []) st)
+  pub supplied_in : (y : Answer Code) (st : MatchState) → AnswerIn n y → SearchIn n st → SearchIn n (with_more (y ∷ []) st)
   supplied_in y (Starting b left u) h k = join_in (AnswerIn n) u (y ∷ []) k (h, tt)
   supplied_in y (Going t cs b left u) h k = (k.0, k.1, join_in (AnswerIn n) u (y ∷ []) k.2 (h, tt))
   supplied_in y (Returning ch cs b left u) h k = (k.0, k.1, join_in (AnswerIn n) u (y ∷ []) k.2 (h, tt))

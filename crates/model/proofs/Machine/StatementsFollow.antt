@@ -101,7 +101,7 @@ module _ (prog : Program) (img : Module) (trees_at : ℕ → Option Expr) (place
     by = (0, (o, fs, st, b), m, refl, wr, rk, up, inr (le_refl rk), 0, omega arith, (λ l w1 s (m1, r1, e1). (0, omega arith, (m1, r1, e1))), (λ w1 s b. absurd b));
   }
 
-  known_local : {rk : ℕ} {w : W} (fs : List Frame) (m : MW) (l : Bytes) (o : Option ℕ) → Base fs → 2 ≤ rk → prog.label l ≡ o → R w m → Fw prog img trees_at placed rk 0 (machine.to_known img o fs m) (Qe fs) Fe (to_known prog o w)
+  known_local : {rk : ℕ} {w : W} (fs : List Frame) (m : MW) (l : Bytes) (o : Option ℕ) → Base fs → 2 ≤ rk → prog.label l ≡ o → R w m → Fw prog img trees_at placed rk 0 (machine.go_to_known img o fs m) (Qe fs) Fe (to_known prog o w)
   known_local fs m l None b up e wr = faulted prog img trees_at placed error.UndefinedLabel wr
   known_local fs m l (Some k) b up e wr =
       let g = placed.gone_to l k e in
@@ -115,11 +115,11 @@ module _ (prog : Program) (img : Module) (trees_at : ℕ → Option Expr) (place
       go None e (q, is) = from prog img trees_at placed 1 (omega arith) (one prog img trees_at placed p q op.NoLabel [] [] fs m is) (known_local fs m l None b up e wr)
       go (Some k) e (q, is) = from prog img trees_at placed 1 (omega arith) (one prog img trees_at placed p q (op.Goto k) [] [] fs m is) (known_local fs m l (Some k) b up e wr)
 
-  return_local : {rk : ℕ} {s : State} {w : W} (fs : List Frame) (m : MW) (l : Bytes) (o : Option ReturnKind) → Base fs → step img s ≡ machine.to_return img l o fs m → 2 ≤ rk → R w m → Fw prog img trees_at placed rk 1 s (Qe fs) Fe (to_return prog l o w)
+  return_local : {rk : ℕ} {s : State} {w : W} (fs : List Frame) (m : MW) (l : Bytes) (o : Option ReturnKind) → Base fs → step img s ≡ machine.go_to_return img l o fs m → 2 ≤ rk → R w m → Fw prog img trees_at placed rk 1 s (Qe fs) Fe (to_return prog l o w)
   return_local fs m l (Some k) b e up wr = answers prog img trees_at placed 0 (omega arith) (m, wr, e)
-  return_local fs m l None b e up wr = from prog img trees_at placed 1 (omega arith) (e ∙ ap (λ o. machine.to_known img o fs m) (placed.labels l)) (known_local fs m l (prog.label l) b up refl wr)
+  return_local fs m l None b e up wr = from prog img trees_at placed 1 (omega arith) (e ∙ ap (λ o. machine.go_to_known img o fs m) (placed.labels l)) (known_local fs m l (prog.label l) b up refl wr)
 
-  text_local : {rk : ℕ} {s : State} {w : W} (fs : List Frame) (m : MW) (c : Conv Bytes) → Base fs → step img s ≡ machine.to_text_label img c fs m → 2 ≤ rk → R w m → Fw prog img trees_at placed rk 1 s (Qe fs) Fe (to_text_label prog c w)
+  text_local : {rk : ℕ} {s : State} {w : W} (fs : List Frame) (m : MW) (c : Conv Bytes) → Base fs → step img s ≡ machine.go_to_text img c fs m → 2 ≤ rk → R w m → Fw prog img trees_at placed rk 1 s (Qe fs) Fe (to_text_label prog c w)
   text_local fs m (Got l) b e up wr = return_local fs m l (return_of l) b e up wr
   text_local fs m (Bad x) b e up wr = from prog img trees_at placed 1 (omega arith) e (faulted prog img trees_at placed x wr)
 
@@ -139,7 +139,7 @@ module _ (prog : Program) (img : Module) (trees_at : ℕ → Option Expr) (place
   goto_local {fs = fs} {m = m} k p (Some (Computed e)) b next (r, q, code, is) up wr =
       ask_val prog img trees_at placed (bare p r fs) code wr up
       (λ u w1 x m1 hu r1. text_local fs m1 (to_label u) b
-      (one prog img trees_at placed r q op.GotoV (OV x ∷ []) [] fs m1 is ∙ ap (λ c. machine.to_text_label img c fs m1) (label_same trees_at hu)) (omega (arith, up)) r1)
+      (one prog img trees_at placed r q op.GotoV (OV x ∷ []) [] fs m1 is ∙ ap (λ c. machine.go_to_text img c fs m1) (label_same trees_at hu)) (omega (arith, up)) r1)
       (λ w1 m1 r1. same prog img trees_at placed (base_fail fs b m1) (faulted prog img trees_at placed error.FailureInGoto r1))
 
   limit_same : {w : W} {m : MW} → R w m → over_limit m ≡ over_limit w

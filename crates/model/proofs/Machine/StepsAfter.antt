@@ -14,7 +14,7 @@ use Rattle.model.specs.Pattern.Patterns as p
 use Rattle.model.specs.Pattern.Patterns.{Running, Failed, Asks, Matched, AskFor, SayThat}
 use Rattle.model.specs.Pattern.Steps as s
 use Rattle.model.specs.Language.Meaning.{over_limit}
-use Rattle.model.specs.Machine.Steps.{PCode, MVal, MW, MBack, codes_of, Fetched, Nowhere, At, Module, Operand, OV, ON, OR, Matching, Frame, InCall, InEval, Handler, OnBegin, OnTry, Caller, State, Run, InMatch, Over, Stuck, fail_to, after_op, resume_as, return_to, pop, pop_name, pop_span, pop_many, untry, unbegin, load, supplied, ret, match_from, to_stmt, to_known, to_return, to_text_label, call, finish, on_event, put, put_name, put_none, calls, primitive, act, step_at, step, steps}
+use Rattle.model.specs.Machine.Steps.{PCode, MVal, MW, MBack, codes_of, Fetched, Nowhere, At, Module, Operand, OV, ON, OR, Matching, Frame, InCall, InEval, Handler, OnBegin, OnTry, Caller, State, Run, InMatch, Over, Stuck, fail_to, after_op, resume_as, return_to, pop, pop_name, pop_span, pop_many, untry, unbegin, load, supplied, ret, match_from, to_stmt, go_to_known, go_to_return, go_to_text, call_function, finish_primitive, on_event, put, put_name, put_none, calls, primitive, act, step_at, step, steps}
 use Rattle.model.specs.Laws.Agreement.{Records}
 use Rattle.model.specs.Laws.PrintedBefore.{after_w, after_s, RunsAfter}
 use Rattle.model.proofs.Language.OperationsAfter.{sh, arith_after, sign_after, cat_after, alt_after, cond_after, imm_after, indir_after, fetch_after, assign_after, assign_all_after, splice_after, keyset_after, match_after, element_after, prim_after, enter_after, kept_after, leave_after, as_value_after, as_name_after, construct_after, select_after}
@@ -98,7 +98,7 @@ module _ (before : Records) (img : Module) where
   begun_on : (keep : Bool) (u v : MVal) (q : ℕ) (ops : List Operand) (hs : List Handler) (fs : List Frame) (m : MW) → match_from keep u v q ops hs fs (aft m) ≡ aft_s (match_from keep u v q ops hs fs m)
   begun_on keep u v q ops hs fs m = op_on _ _ hs ops fs _ (match_after before codes_of u v m) (λ g w. refl)
 
-  supplied_on : (c : Conv (p.Answer PCode)) (g : Matching) (st : s.State) (fs : List Frame) (m : MW) → supplied c g st fs (aft m) ≡ aft_s (supplied c g st fs m)
+  supplied_on : (c : Conv (p.Answer PCode)) (g : Matching) (st : s.MatchState) (fs : List Frame) (m : MW) → supplied c g st fs (aft m) ≡ aft_s (supplied c g st fs m)
   supplied_on (Got y) g st fs m = refl
   supplied_on (Bad e) g st fs m = refl
 
@@ -111,32 +111,32 @@ module _ (before : Records) (img : Module) where
   stmt_on (Some o) fs m = refl
   stmt_on None fs m = refl
 
-  known_on : (o : Option ℕ) (fs : List Frame) (m : MW) → to_known img o fs (aft m) ≡ aft_s (to_known img o fs m)
+  known_on : (o : Option ℕ) (fs : List Frame) (m : MW) → go_to_known img o fs (aft m) ≡ aft_s (go_to_known img o fs m)
   known_on (Some k) fs m = stmt_on (img.stmt k) fs m
   known_on None fs m = refl
 
-  label_on : (l : Bytes) (o : Option ReturnKind) (fs : List Frame) (m : MW) → to_return img l o fs (aft m) ≡ aft_s (to_return img l o fs m)
+  label_on : (l : Bytes) (o : Option ReturnKind) (fs : List Frame) (m : MW) → go_to_return img l o fs (aft m) ≡ aft_s (go_to_return img l o fs m)
   label_on l (Some r) fs m = return_on r fs m
   label_on l None fs m = known_on (img.label l) fs m
 
-  text_on : (c : Conv Bytes) (fs : List Frame) (m : MW) → to_text_label img c fs (aft m) ≡ aft_s (to_text_label img c fs m)
+  text_on : (c : Conv Bytes) (fs : List Frame) (m : MW) → go_to_text img c fs (aft m) ≡ aft_s (go_to_text img c fs m)
   text_on (Got l) fs m = label_on l (return_of l) fs m
   text_on (Bad e) fs m = refl
 
-  call_on : (f : Bytes) (vs : List MVal) (o : Option Function) (c : Caller) (fs : List Frame) (m : MW) → call img f vs o c fs (aft m) ≡ aft_s (call img f vs o c fs m)
+  call_on : (f : Bytes) (vs : List MVal) (o : Option Function) (c : Caller) (fs : List Frame) (m : MW) → call_function img f vs o c fs (aft m) ≡ aft_s (call_function img f vs o c fs m)
   call_on f vs None c fs m = refl
   call_on f vs (Some (Defined entry xs ys)) c fs m =
-      ap (λ w. to_return img entry (return_of entry) (InCall (kept_of f xs ys (aft m)) c ∷ fs) w) (enter_after before f xs ys vs m)
-      ∙ ap (λ k. to_return img entry (return_of entry) (InCall k c ∷ fs) (aft (enter_call f xs ys vs m))) (kept_after before f xs ys m)
+      ap (λ w. go_to_return img entry (return_of entry) (InCall (kept_of f xs ys (aft m)) c ∷ fs) w) (enter_after before f xs ys vs m)
+      ∙ ap (λ k. go_to_return img entry (return_of entry) (InCall k c ∷ fs) (aft (enter_call f xs ys vs m))) (kept_after before f xs ys m)
       ∙ label_on entry (return_of entry) (InCall (kept_of f xs ys m) c ∷ fs) (enter_call f xs ys vs m)
   call_on f vs (Some (Constructor fields)) c fs m = op_on (construct_op f fields vs m) _ c.hs c.ops fs _ (construct_after before f fields vs m) (λ g v. resume_on c.want_name c fs g v)
   call_on f vs (Some Field) c fs m = op_on _ _ c.hs c.ops fs _ (select_after before f vs m) (λ g v. resume_on c.want_name c fs g v)
 
-  finish_on : (r : Outcome PCode ℕ) (c : Caller) (fs : List Frame) (m : MW) → finish img r c fs (aft m) ≡ aft_s (finish img r c fs m)
+  finish_on : (r : Outcome PCode ℕ) (c : Caller) (fs : List Frame) (m : MW) → finish_primitive img r c fs (aft m) ≡ aft_s (finish_primitive img r c fs m)
   finish_on (Returns g) c fs m = resume_on c.want_name c fs g m
   finish_on (Calls f vs) c fs m = call_on f vs (m.plain.functions f) c fs m
 
-  event_on : (e : p.Event ℕ) (g : Matching) (st : s.State) (fs : List Frame) (m : MW) → on_event img e g st fs (aft m) ≡ aft_s (on_event img e g st fs m)
+  event_on : (e : p.Event ℕ) (g : Matching) (st : s.MatchState) (fs : List Frame) (m : MW) → on_event img e g st fs (aft m) ≡ aft_s (on_event img e g st fs m)
   event_on Running g st fs m = refl
   event_on Failed g st fs m = fail_on g.hs g.ops fs m
   event_on (Matched b e a) g st fs m = op_on _ _ g.hs g.ops fs _ (assign_all_after before a m) (λ _ v. refl)
@@ -206,7 +206,7 @@ module _ (before : Records) (img : Module) where
 
   step_on : (st : State) → step img (aft_s st) ≡ aft_s (step img st)
   step_on (Run pc ops hs fs m) = fetched_on (img.fetch pc) pc ops hs fs m
-  step_on (InMatch g st fs m) = event_on (s.event_of (s.step g.subject g.code st)) g (s.step g.subject g.code st) fs m
+  step_on (InMatch g st fs m) = event_on (s.event_of (s.pattern_step g.subject g.code st)) g (s.pattern_step g.subject g.code st) fs m
   step_on (Over e m) = refl
   step_on (Stuck m) = refl
 

@@ -15,7 +15,7 @@ use Rattle.model.specs.Pattern.Patterns as p
 use Rattle.model.specs.Pattern.Patterns.{Running, Failed, Asks, Matched, AskFor, SayThat, Want}
 use Rattle.model.specs.Pattern.Steps as s
 use Rattle.model.specs.Language.Meaning.{over_limit}
-use Rattle.model.specs.Machine.Steps.{PCode, MVal, MW, MBack, codes_of, Fetched, Nowhere, At, Module, Operand, OV, ON, OR, Matching, Frame, InCall, InEval, Handler, OnBegin, OnTry, Caller, State, Run, InMatch, Over, Stuck, fail_to, after_op, resume_as, return_to, pop, pop_name, pop_span, pop_many, untry, unbegin, load, found_as, supplied, ret, match_from, to_stmt, to_known, to_return, to_text_label, call, finish, on_event, put, put_name, put_none, calls, primitive, act, step_at, begun, step, steps}
+use Rattle.model.specs.Machine.Steps.{PCode, MVal, MW, MBack, codes_of, Fetched, Nowhere, At, Module, Operand, OV, ON, OR, Matching, Frame, InCall, InEval, Handler, OnBegin, OnTry, Caller, State, Run, InMatch, Over, Stuck, fail_to, after_op, resume_as, return_to, pop, pop_name, pop_span, pop_many, untry, unbegin, load, found_as, supplied, ret, match_from, to_stmt, go_to_known, go_to_return, go_to_text, call_function, finish_primitive, on_event, put, put_name, put_none, calls, primitive, act, step_at, begun, step, steps}
 use Rattle.model.specs.Machine.InRange.{CodeIn, ValueIn, ValuesIn, WorldIn, ReturnedIn, OutcomeIn, AnswerIn, SearchIn, OperandIn, OperandsIn, MatchingIn, FramesIn, StateIn, ModuleIn}
 use Rattle.model.proofs.Machine.Lists.{drop_in}
 use Rattle.model.proofs.Machine.OperationsIn.{Any, IfGot, OpIn, gives, refuses, faults, arith_in, sign_in, cat_in, alt_in, cond_in, imm_in, indir_in, fetch_in, assign_in, assign_all_in, splice_in, keyget_in, keyset_in, answer_in, BegunIn, match_in, told_in}
@@ -99,7 +99,7 @@ module _ (n : ℕ) where
   found_in true t b e ops o = (tt, o)
   found_in false t b e ops o = o
 
-  supply_in : (c : Conv (p.Answer PCode)) (g : Matching) (st : s.State) (fs : List Frame) (w : MW) → IfGot (AnswerIn n) c → MatchingIn n g → SearchIn n st → FramesIn n fs → WorldIn n w → StateIn n (supplied c g st fs w)
+  supply_in : (c : Conv (p.Answer PCode)) (g : Matching) (st : s.MatchState) (fs : List Frame) (w : MW) → IfGot (AnswerIn n) c → MatchingIn n g → SearchIn n st → FramesIn n fs → WorldIn n w → StateIn n (supplied c g st fs w)
   supply_in (Got y) g st fs w a m k f i = (m, supplied_in n y st a k, f, i)
   supply_in (Bad e) g st fs w a m k f i = i
 
@@ -116,33 +116,33 @@ module _ (n : ℕ) where
     pub begun_in : (w : MW) → WorldIn n w → StateIn n (begun im w)
     begun_in w i = stmt_in (im.stmt im.entry) [] w tt i
 
-    known_in : (o : Option ℕ) (fs : List Frame) (w : MW) → FramesIn n fs → WorldIn n w → StateIn n (to_known im o fs w)
+    known_in : (o : Option ℕ) (fs : List Frame) (w : MW) → FramesIn n fs → WorldIn n w → StateIn n (go_to_known im o fs w)
     known_in None fs w f i = i
     known_in (Some k) fs w f i = stmt_in (im.stmt k) fs w f i
 
-    label_in : (l : Bytes) (o : Option ReturnKind) (fs : List Frame) (w : MW) → FramesIn n fs → WorldIn n w → StateIn n (to_return im l o fs w)
+    label_in : (l : Bytes) (o : Option ReturnKind) (fs : List Frame) (w : MW) → FramesIn n fs → WorldIn n w → StateIn n (go_to_return im l o fs w)
     label_in l (Some r) fs w f i = return_in r fs w f i
     label_in l None fs w f i = known_in (im.label l) fs w f i
 
-    text_label_in : (c : Conv Bytes) (fs : List Frame) (w : MW) → FramesIn n fs → WorldIn n w → StateIn n (to_text_label im c fs w)
+    text_label_in : (c : Conv Bytes) (fs : List Frame) (w : MW) → FramesIn n fs → WorldIn n w → StateIn n (go_to_text im c fs w)
     text_label_in (Got l) fs w f i = label_in l (return_of l) fs w f i
     text_label_in (Bad e) fs w f i = i
 
     -- ---- calls
 
-    call_in : (g : Bytes) (vs : List MVal) (o : Option Function) (c : Caller) (fs : List Frame) (w : MW) → ValuesIn n vs → OperandsIn n c.ops → FramesIn n fs → WorldIn n w → StateIn n (call im g vs o c fs w)
+    call_in : (g : Bytes) (vs : List MVal) (o : Option Function) (c : Caller) (fs : List Frame) (w : MW) → ValuesIn n vs → OperandsIn n c.ops → FramesIn n fs → WorldIn n w → StateIn n (call_function im g vs o c fs w)
     call_in g vs None c fs w h o f i = i
     call_in g vs (Some (Defined entry xs ys)) c fs w h o f i = label_in entry (return_of entry) (InCall (kept_of g xs ys w) c ∷ fs) (enter_call g xs ys vs w) ((kept_in n g xs ys w i, o), f) (enter_in n g xs ys vs w h i)
     call_in g vs (Some (Constructor fields)) c fs w h o f i = after_in (ReturnedIn n) c.hs c.ops fs _ (construct_in n g fields vs w h i) o f (λ b v r j. resume_in c.want_name c fs b v o f r j)
     call_in g vs (Some Field) c fs w h o f i = after_in (ReturnedIn n) c.hs c.ops fs _ (select_in n g vs w i) o f (λ b v r j. resume_in c.want_name c fs b v o f r j)
 
-    finish_in : (r : Outcome PCode ℕ) (c : Caller) (fs : List Frame) (w : MW) → OutcomeIn n r → OperandsIn n c.ops → FramesIn n fs → WorldIn n w → StateIn n (finish im r c fs w)
+    finish_in : (r : Outcome PCode ℕ) (c : Caller) (fs : List Frame) (w : MW) → OutcomeIn n r → OperandsIn n c.ops → FramesIn n fs → WorldIn n w → StateIn n (finish_primitive im r c fs w)
     finish_in (Returns b) c fs w h o f i = resume_in c.want_name c fs b w o f h i
     finish_in (Calls g vs) c fs w h o f i = call_in g vs (w.plain.functions g) c fs w h o f i
 
     -- ---- events of a match
 
-    on_event_in : (e : p.Event ℕ) (g : Matching) (st : s.State) (fs : List Frame) (w : MW) → MatchingIn n g → SearchIn n st → FramesIn n fs → WorldIn n w → StateIn n (on_event im e g st fs w)
+    on_event_in : (e : p.Event ℕ) (g : Matching) (st : s.MatchState) (fs : List Frame) (w : MW) → MatchingIn n g → SearchIn n st → FramesIn n fs → WorldIn n w → StateIn n (on_event im e g st fs w)
     on_event_in Running g st fs w m k f i = (m, k, f, i)
     on_event_in Failed g st fs w m k f i = fail_in g.hs g.ops fs w m.1 f i
     on_event_in (Matched b e a) g st fs w m k f i = after_in Any g.hs g.ops fs _ (assign_all_in n a w i) m.1 f (λ _ v _ j. (found_in g.keep g.subject b e g.ops m.1, f, j))
@@ -228,7 +228,7 @@ module _ (n : ℕ) where
 
       pub step_in : (st : State) → StateIn n st → StateIn n (step im st)
       step_in (Run pc ops hs fs w) h = fetched_in (im.fetch pc) pc ops hs fs w refl h.0 h.1 h.2
-      step_in (InMatch g st fs w) h = let k = search_in n g.subject g.code st h.0.0 h.1 in on_event_in (s.event_of (s.step g.subject g.code st)) g (s.step g.subject g.code st) fs w h.0 k h.2 h.3
+      step_in (InMatch g st fs w) h = let k = search_in n g.subject g.code st h.0.0 h.1 in on_event_in (s.event_of (s.pattern_step g.subject g.code st)) g (s.pattern_step g.subject g.code st) fs w h.0 k h.2 h.3
       step_in (Over e w) h = h
       step_in (Stuck w) h = h
 
@@ -236,5 +236,5 @@ module _ (n : ℕ) where
       steps_in zero st h = h
       steps_in (suc m) st h = steps_in m (step im st) (step_in st h)
 
-  pub asks_in : (g : Matching) (st : s.State) (fs : List Frame) (w : MW) → StateIn n (InMatch g st fs w) → (k : ℕ) (want : Want) → s.event_of (s.step g.subject g.code st) ≡ Asks (AskFor k want) → k < n
-  asks_in g st fs w h k want e = asked_in n (s.step g.subject g.code st) (search_in n g.subject g.code st h.0.0 h.1) k want e
+  pub asks_in : (g : Matching) (st : s.MatchState) (fs : List Frame) (w : MW) → StateIn n (InMatch g st fs w) → (k : ℕ) (want : Want) → s.event_of (s.pattern_step g.subject g.code st) ≡ Asks (AskFor k want) → k < n
+  asks_in g st fs w h k want e = asked_in n (s.pattern_step g.subject g.code st) (search_in n g.subject g.code st h.0.0 h.1) k want e

@@ -15,7 +15,7 @@ use Rattle.model.specs.Pattern.Patterns as p
 use Rattle.model.specs.Pattern.Patterns.{Running, Failed, Asks, Matched, AskFor, SayThat}
 use Rattle.model.specs.Pattern.Steps as s
 use Rattle.model.specs.Language.Meaning.{over_limit}
-use Rattle.model.specs.Machine.Steps.{PCode, MVal, MW, MBack, codes_of, Fetched, Nowhere, At, Module, Operand, OV, ON, OR, Matching, Frame, InCall, InEval, Handler, OnBegin, OnTry, Caller, State, Run, InMatch, Over, Stuck, fail_to, after_op, resume_as, return_to, pop, pop_name, pop_span, pop_many, untry, unbegin, load, supplied, ret, match_from, to_stmt, to_known, to_return, to_text_label, call, finish, on_event, put, put_name, put_none, calls, primitive, act, step_at, step, steps, world_of}
+use Rattle.model.specs.Machine.Steps.{PCode, MVal, MW, MBack, codes_of, Fetched, Nowhere, At, Module, Operand, OV, ON, OR, Matching, Frame, InCall, InEval, Handler, OnBegin, OnTry, Caller, State, Run, InMatch, Over, Stuck, fail_to, after_op, resume_as, return_to, pop, pop_name, pop_span, pop_many, untry, unbegin, load, supplied, ret, match_from, to_stmt, go_to_known, go_to_return, go_to_text, call_function, finish_primitive, on_event, put, put_name, put_none, calls, primitive, act, step_at, step, steps, world_of}
 use Rattle.model.proofs.Language.MeaningGrows.{Before, before_refl, before_trans}
 use Rattle.model.proofs.Language.OperationsPrint.{OpOn, gon, ron, fon, same_printed, arith_on, sign_on, cat_on, alt_on, cond_on, imm_on, indir_on, fetch_on, assign_on, assign_all_on, splice_on, keyset_on, match_on, element_on, prim_on, enter_on, leave_on, as_value_on, as_name_on, construct_on, select_on}
 
@@ -96,7 +96,7 @@ begin_on false m k q f ops hs fs = record { is = same_printed m (enter_stmt k m)
 begun_on : (keep : Bool) (u v : MVal) (q : ℕ) (ops : List Operand) (hs : List Handler) (fs : List Frame) (m : MW) → On m (match_from keep u v q ops hs fs m)
 begun_on keep u v q ops hs fs m = op_on hs ops fs _ (match_on codes_of u v m) (λ g w b. record { is = b })
 
-supplied_on : (c : Conv (p.Answer PCode)) (g : Matching) (st : s.State) (fs : List Frame) (m : MW) → On m (supplied c g st fs m)
+supplied_on : (c : Conv (p.Answer PCode)) (g : Matching) (st : s.MatchState) (fs : List Frame) (m : MW) → On m (supplied c g st fs m)
 supplied_on (Got y) g st fs m = here m _ refl
 supplied_on (Bad e) g st fs m = here m _ refl
 
@@ -110,29 +110,29 @@ module _ (img : Module) where
   stmt_on (Some o) fs m = here m _ refl
   stmt_on None fs m = here m _ refl
 
-  known_on : (o : Option ℕ) (fs : List Frame) (m : MW) → On m (to_known img o fs m)
+  known_on : (o : Option ℕ) (fs : List Frame) (m : MW) → On m (go_to_known img o fs m)
   known_on (Some k) fs m = stmt_on (img.stmt k) fs m
   known_on None fs m = here m _ refl
 
-  label_on : (l : Bytes) (o : Option ReturnKind) (fs : List Frame) (m : MW) → On m (to_return img l o fs m)
+  label_on : (l : Bytes) (o : Option ReturnKind) (fs : List Frame) (m : MW) → On m (go_to_return img l o fs m)
   label_on l (Some r) fs m = return_on r fs m
   label_on l None fs m = known_on (img.label l) fs m
 
-  text_on : (c : Conv Bytes) (fs : List Frame) (m : MW) → On m (to_text_label img c fs m)
+  text_on : (c : Conv Bytes) (fs : List Frame) (m : MW) → On m (go_to_text img c fs m)
   text_on (Got l) fs m = label_on l (return_of l) fs m
   text_on (Bad e) fs m = here m _ refl
 
-  call_on : (f : Bytes) (vs : List MVal) (o : Option Function) (c : Caller) (fs : List Frame) (m : MW) → On m (call img f vs o c fs m)
+  call_on : (f : Bytes) (vs : List MVal) (o : Option Function) (c : Caller) (fs : List Frame) (m : MW) → On m (call_function img f vs o c fs m)
   call_on f vs None c fs m = here m _ refl
   call_on f vs (Some (Defined entry xs ys)) c fs m = on_trans m (enter_call f xs ys vs m) _ (enter_on f xs ys vs m) (label_on entry (return_of entry) (InCall (kept_of f xs ys m) c ∷ fs) (enter_call f xs ys vs m))
   call_on f vs (Some (Constructor fields)) c fs m = op_on c.hs c.ops fs _ (construct_on f fields vs m) (λ g v b. on_trans m v _ b (resume_on c.want_name c fs g v))
   call_on f vs (Some Field) c fs m = op_on c.hs c.ops fs _ (select_on f vs m) (λ g v b. on_trans m v _ b (resume_on c.want_name c fs g v))
 
-  finish_on : (r : Outcome PCode ℕ) (c : Caller) (fs : List Frame) (m : MW) → On m (finish img r c fs m)
+  finish_on : (r : Outcome PCode ℕ) (c : Caller) (fs : List Frame) (m : MW) → On m (finish_primitive img r c fs m)
   finish_on (Returns g) c fs m = resume_on c.want_name c fs g m
   finish_on (Calls f vs) c fs m = call_on f vs (m.plain.functions f) c fs m
 
-  event_on : (e : p.Event ℕ) (g : Matching) (st : s.State) (fs : List Frame) (m : MW) → On m (on_event img e g st fs m)
+  event_on : (e : p.Event ℕ) (g : Matching) (st : s.MatchState) (fs : List Frame) (m : MW) → On m (on_event img e g st fs m)
   event_on Running g st fs m = here m _ refl
   event_on Failed g st fs m = fail_on m m g.hs g.ops fs (before_refl m)
   event_on (Matched b e a) g st fs m = op_on g.hs g.ops fs _ (assign_all_on a m) (λ _ v b. record { is = b })
@@ -202,7 +202,7 @@ module _ (img : Module) where
 
   step_on : (st : State) → Before (world_of st) (world_of (step img st))
   step_on (Run pc ops hs fs m) = (fetched_on (img.fetch pc) pc ops hs fs m).is
-  step_on (InMatch g st fs m) = (event_on (s.event_of (s.step g.subject g.code st)) g (s.step g.subject g.code st) fs m).is
+  step_on (InMatch g st fs m) = (event_on (s.event_of (s.pattern_step g.subject g.code st)) g (s.pattern_step g.subject g.code st) fs m).is
   step_on (Over e m) = before_refl m
   step_on (Stuck m) = before_refl m
 

@@ -11,9 +11,9 @@ use Rattle.model.specs.declared.image.PatInstr.{PatInstr}
 use Rattle.model.specs.declared.image.PatInstr.TheVariants as pats
 use Rattle.model.specs.declared.instr.Instr.{Instr}
 use Rattle.model.specs.declared.instr.Instr.TheVariants as op
-use Rattle.model.specs.Module.Images.{bytes, total}
+use Rattle.model.specs.Module.Images.{instr_size, code_size}
 use Rattle.model.specs.Module.Flow.{BreaksFlow, IsLeast}
-use Rattle.model.specs.Module.WellFormed.{first, rule, told, scan, entry_at, labels_at, statements_at, expressions_at, patterns_at, code_at, entry_rule, label_rule, statement_rule, expression_rule, pat_rule, pat_bytes, pattern_bytes, pattern_fault, instr_fault, part_fault, indices_fit, place_fits, is_last_instr, is_end, begins_last, number_of, comes_first, lesser, flow_fault}
+use Rattle.model.specs.Module.WellFormed.{or_else, unless, fault_if, fault_among, entry_offset, labels_offset, statements_offset, expressions_offset, patterns_offset, code_offset, entry_rule, label_rule, statement_rule, expression_rule, pat_rule, pat_bytes, pattern_bytes, pattern_fault, instr_fault, part_fault, indices_fit, place_fits, is_last_instr, is_end_instr, begins_last, number_of, comes_first, lesser_fault, flow_fault}
 use Rattle.model.specs.Laws.LeastFaults.{IsAt, Among, InInstr, InPattern, Has, InEntry, InLabels, InStatements, InExpressions, InPatterns, InCode, InFlow, NotAfter, IsLeastOf, LeastIsTold, OneIsTold, WellFormedHasNone, NoneIsWellFormed}
 
 abbrev Faults : Type 1
@@ -21,7 +21,7 @@ Faults = ModuleFault → Type 0
 
 -- ---- of one part, and of two
 
-least_at : (at : ℕ) (r : Option ModuleRule) → IsLeastOf (IsAt at r) (told at r)
+least_at : (at : ℕ) (r : Option ModuleRule) → IsLeastOf (IsAt at r) (fault_if at r)
 least_at at None = λ f h. let e : None ≡ Some f.rule = h.1 in absurd (cc)
 least_at at (Some r) = (
   (refl, refl),
@@ -36,7 +36,7 @@ least_same P Q (Some f) to from h = (to f h.0, λ g q. h.1 g (from g q))
 abbrev Before : Faults → Faults → Type 0
 Before P Q = (f g : ModuleFault) → P f → Q g → NotAfter f g
 
-least_join : (P Q : Faults) (x y : Option ModuleFault) → Before P Q → IsLeastOf P x → IsLeastOf Q y → IsLeastOf (λ f. P f ⊎ Q f) (first x y)
+least_join : (P Q : Faults) (x y : Option ModuleFault) → Before P Q → IsLeastOf P x → IsLeastOf Q y → IsLeastOf (λ f. P f ⊎ Q f) (or_else x y)
 least_join P Q None None b h k = λ f s. elim s [ inl p ↦ h f p | inr q ↦ k f q ]
 least_join P Q None (Some g) b h k = (inr k.0, λ f s. elim s [ inl p ↦ absurd (h f p) | inr q ↦ k.1 f q ])
 least_join P Q (Some f) y b h k = (inl h.0, λ g s. elim s [ inl p ↦ h.1 g p | inr q ↦ b f g h.0 q ])
@@ -89,9 +89,9 @@ module _ {A : Type 0} (fault : List A → ℕ → A → Option ModuleFault) (wid
   unsplit start at x xs f (inl r) =
       ([], x, xs, refl, subst (λ s. R s (at + 0) x f) (sym (append-nil start)) (subst (λ n. R start n x f) (let z : at ≡ at + 0 = omega arith in z) r))
   unsplit start at x xs f (inr (front, y, back, e, r)) =
-      let total = sum_cons x front in
+      let code_size = sum_cons x front in
       let here : R (start ++ x ∷ front) (at + width x + sum (map width front)) y f = subst (λ s. R s (at + width x + sum (map width front)) y f) (append_assoc start (x ∷ []) front) r in
-      (x ∷ front, y, back, ap (λ l. x ∷ l) e, subst (λ n. R (start ++ x ∷ front) n y f) (let q : at + width x + sum (map width front) ≡ at + sum (map width (x ∷ front)) = omega (arith, total) in q) here)
+      (x ∷ front, y, back, ap (λ l. x ∷ l) e, subst (λ n. R (start ++ x ∷ front) n y f) (let q : at + width x + sum (map width front) ≡ at + sum (map width (x ∷ front)) = omega (arith, code_size) in q) here)
 
   nowhere : (start : List A) (at : ℕ) (f : ModuleFault) → From start at [] f → ⊥
   nowhere start at f ([], y, back, e, r) = cc
@@ -101,26 +101,26 @@ module _ {A : Type 0} (fault : List A → ℕ → A → Option ModuleFault) (wid
     within_from : (start : List A) (at : ℕ) (xs : List A) → Within at (sum (map width xs)) (From start at xs)
     within_from start at [] f h = absurd (nowhere start at f h)
     within_from start at (x ∷ xs) f h =
-        let total = sum_cons x xs in
+        let code_size = sum_cons x xs in
         elim (split start at x xs f h) [
-          | inl r ↦ (let w = wide start at x f r in (omega (arith, w), omega (arith, w, total)))
-          | inr k ↦ (let w = within_from (start ++ x ∷ []) (at + width x) xs f k in (omega (arith, w), omega (arith, w, total)))
+          | inl r ↦ (let w = wide start at x f r in (omega (arith, w), omega (arith, w, code_size)))
+          | inr k ↦ (let w = within_from (start ++ x ∷ []) (at + width x) xs f k in (omega (arith, w), omega (arith, w, code_size)))
         ]
 
-    least_from : (start : List A) (at : ℕ) (xs : List A) → IsLeastOf (From start at xs) (scan fault width start at xs)
+    least_from : (start : List A) (at : ℕ) (xs : List A) → IsLeastOf (From start at xs) (fault_among fault width start at xs)
     least_from start at [] = nowhere start at
     least_from start at (x ∷ xs) =
         let next : ℕ = at + width x in
         let more : Faults = From (start ++ x ∷ []) next xs in
-        least_same (λ f. R start at x f ⊎ more f) (From start at (x ∷ xs)) (scan fault width start at (x ∷ xs)) (unsplit start at x xs) (split start at x xs)
-        (least_join (R start at x) more (fault start at x) (scan fault width (start ++ x ∷ []) next xs)
+        least_same (λ f. R start at x f ⊎ more f) (From start at (x ∷ xs)) (fault_among fault width start at (x ∷ xs)) (unsplit start at x xs) (split start at x xs)
+        (least_join (R start at x) more (fault start at x) (fault_among fault width (start ++ x ∷ []) next xs)
         (within_before at (width x) next (R start at x) more (omega arith) (wide start at x) (from_within next (sum (map width xs)) more (within_from (start ++ x ∷ []) next xs)))
         (one start at x) (least_from (start ++ x ∷ []) next xs))
 
     within_among : (at : ℕ) (xs : List A) → Within at (sum (map width xs)) (Among R width at xs)
     within_among at xs = within_from [] at xs
 
-    least_among : (at : ℕ) (xs : List A) → IsLeastOf (Among R width at xs) (scan fault width [] at xs)
+    least_among : (at : ℕ) (xs : List A) → IsLeastOf (Among R width at xs) (fault_among fault width [] at xs)
     least_among at xs = least_from [] at xs
 
 sum_same : {A : Type 0} (k : ℕ) (xs : List A) → sum (map (λ x. k) xs) ≡ k * length xs
@@ -134,15 +134,15 @@ module _ {A : Type 0} (k : ℕ) (some : 0 < k) (broken : List A → A → Option
 
   within_table : (at : ℕ) (xs : List A) → Within at (k * length xs) (Table at xs)
   within_table at xs = subst (λ n. Within at n (Table at xs)) (sum_same k xs)
-      (within_among (λ front place x. told place (broken front x)) (λ x. k) (λ front place x. IsAt place (broken front x)) (λ front place x. least_at place (broken front x)) (λ front place x. within_at place k (broken front x) some) at xs)
+      (within_among (λ front place x. fault_if place (broken front x)) (λ x. k) (λ front place x. IsAt place (broken front x)) (λ front place x. least_at place (broken front x)) (λ front place x. within_at place k (broken front x) some) at xs)
 
-  least_table : (at : ℕ) (xs : List A) → IsLeastOf (Table at xs) (scan (λ front place x. told place (broken front x)) (λ x. k) [] at xs)
+  least_table : (at : ℕ) (xs : List A) → IsLeastOf (Table at xs) (fault_among (λ front place x. fault_if place (broken front x)) (λ x. k) [] at xs)
   least_table at xs =
-      least_among (λ front place x. told place (broken front x)) (λ x. k) (λ front place x. IsAt place (broken front x)) (λ front place x. least_at place (broken front x)) (λ front place x. within_at place k (broken front x) some) at xs
+      least_among (λ front place x. fault_if place (broken front x)) (λ x. k) (λ front place x. IsAt place (broken front x)) (λ front place x. least_at place (broken front x)) (λ front place x. within_at place k (broken front x) some) at xs
 
 -- ---- the parts of an image
 
-some_bytes : (i : Instr) → 0 < bytes i
+some_bytes : (i : Instr) → 0 < instr_size i
 some_bytes op.End = omega arith
 some_bytes _ = omega arith
 
@@ -151,19 +151,19 @@ some_pat_bytes (pats.Len n) = omega arith
 some_pat_bytes _ = omega arith
 
 module _ (im : Image) where
-  rule_is : (r : ModuleRule) (b : Bool) (f : ModuleFault) → rule r b ≡ Some f.rule → r ≡ f.rule
+  rule_is : (r : ModuleRule) (b : Bool) (f : ModuleFault) → unless r b ≡ Some f.rule → r ≡ f.rule
   rule_is r true f e = absurd (cc)
   rule_is r false f e = cc
 
   -- the rules of an instruction stand by their numbers
-  ordered : (at : ℕ) (r : ModuleRule) (b : Bool) (Q : Faults) → ((g : ModuleFault) → Q g → (g.offset ≡ at) × (number_of r ≤ number_of g.rule)) → Before (IsAt at (rule r b)) Q
+  ordered : (at : ℕ) (r : ModuleRule) (b : Bool) (Q : Faults) → ((g : ModuleFault) → Q g → (g.offset ≡ at) × (number_of r ≤ number_of g.rule)) → Before (IsAt at (unless r b)) Q
   ordered at r b Q h f g p q =
       let x = p.0 in
       let y = h g q in
       let z : number_of r ≡ number_of f.rule = ap number_of (rule_is r b f p.1) in
       inr (omega (arith, x, y), omega (arith, y, z))
 
-  number_at : (at : ℕ) (r : ModuleRule) (b : Bool) (n : ℕ) → n ≤ number_of r → (g : ModuleFault) → IsAt at (rule r b) g → (g.offset ≡ at) × (n ≤ number_of g.rule)
+  number_at : (at : ℕ) (r : ModuleRule) (b : Bool) (n : ℕ) → n ≤ number_of r → (g : ModuleFault) → IsAt at (unless r b) g → (g.offset ≡ at) × (n ≤ number_of g.rule)
   number_at at r b n le g (e, h) = let z : number_of r ≡ number_of g.rule = ap number_of (rule_is r b g h) in (e, omega (arith, le, z))
 
   least_in_instr : (front : List Instr) (at : ℕ) (i : Instr) → IsLeastOf (InInstr im front at i) (instr_fault im front at i)
@@ -173,106 +173,106 @@ module _ (im : Image) where
       a = indices_fit im i
 
       b : Bool
-      b = place_fits im (total front) i && (is_last_instr i || not (total front + bytes i == total im.code))
+      b = place_fits im (code_size front) i && (is_last_instr i || not (code_size front + instr_size i == code_size im.code))
 
       c : Bool
-      c = is_end i || not (begins_last im (total front))
+      c = is_end_instr i || not (begins_last im (code_size front))
 
-      first_told : (r s : Option ModuleRule) → told at (first r s) ≡ first (told at r) (told at s)
+      first_told : (r s : Option ModuleRule) → fault_if at (or_else r s) ≡ or_else (fault_if at r) (fault_if at s)
       first_told None s = refl
       first_told (Some r) s = refl
 
-      last_two : IsLeastOf (λ f. IsAt at (rule BadTarget b) f ⊎ IsAt at (rule NoEnd c) f) (first (told at (rule BadTarget b)) (told at (rule NoEnd c)))
-      last_two = least_join (IsAt at (rule BadTarget b)) (IsAt at (rule NoEnd c)) _ _ (ordered at BadTarget b _ (number_at at NoEnd c 2 (omega arith))) (least_at at (rule BadTarget b)) (least_at at (rule NoEnd c))
+      last_two : IsLeastOf (λ f. IsAt at (unless BadTarget b) f ⊎ IsAt at (unless NoEnd c) f) (or_else (fault_if at (unless BadTarget b)) (fault_if at (unless NoEnd c)))
+      last_two = least_join (IsAt at (unless BadTarget b)) (IsAt at (unless NoEnd c)) _ _ (ordered at BadTarget b _ (number_at at NoEnd c 2 (omega arith))) (least_at at (unless BadTarget b)) (least_at at (unless NoEnd c))
 
-      all_three : IsLeastOf (InInstr im front at i) (first (told at (rule BadIndex a)) (first (told at (rule BadTarget b)) (told at (rule NoEnd c))))
+      all_three : IsLeastOf (InInstr im front at i) (or_else (fault_if at (unless BadIndex a)) (or_else (fault_if at (unless BadTarget b)) (fault_if at (unless NoEnd c))))
       all_three =
-          least_join (IsAt at (rule BadIndex a)) (λ f. IsAt at (rule BadTarget b) f ⊎ IsAt at (rule NoEnd c) f) _ _
+          least_join (IsAt at (unless BadIndex a)) (λ f. IsAt at (unless BadTarget b) f ⊎ IsAt at (unless NoEnd c) f) _ _
           (ordered at BadIndex a _ (λ g s. elim s [ inl h ↦ number_at at BadTarget b 1 (omega arith) g h | inr h ↦ number_at at NoEnd c 1 (omega arith) g h ]))
-          (least_at at (rule BadIndex a)) last_two
+          (least_at at (unless BadIndex a)) last_two
 
       told_first : IsLeastOf (InInstr im front at i) (instr_fault im front at i)
-      told_first = subst (IsLeastOf (InInstr im front at i)) (sym (first_told (rule BadIndex a) (first (rule BadTarget b) (rule NoEnd c)) ∙ ap (λ o. first (told at (rule BadIndex a)) o) (first_told (rule BadTarget b) (rule NoEnd c)))) all_three
+      told_first = subst (IsLeastOf (InInstr im front at i)) (sym (first_told (unless BadIndex a) (or_else (unless BadTarget b) (unless NoEnd c)) ∙ ap (λ o. or_else (fault_if at (unless BadIndex a)) o) (first_told (unless BadTarget b) (unless NoEnd c)))) all_three
 
-  within_instr : (front : List Instr) (at : ℕ) (i : Instr) → Within at (bytes i) (InInstr im front at i)
-  within_instr front at i f (inl h) = within_at at (bytes i) _ (some_bytes i) f h
-  within_instr front at i f (inr (inl h)) = within_at at (bytes i) _ (some_bytes i) f h
-  within_instr front at i f (inr (inr h)) = within_at at (bytes i) _ (some_bytes i) f h
+  within_instr : (front : List Instr) (at : ℕ) (i : Instr) → Within at (instr_size i) (InInstr im front at i)
+  within_instr front at i f (inl h) = within_at at (instr_size i) _ (some_bytes i) f h
+  within_instr front at i f (inr (inl h)) = within_at at (instr_size i) _ (some_bytes i) f h
+  within_instr front at i f (inr (inr h)) = within_at at (instr_size i) _ (some_bytes i) f h
 
   least_in_pattern : (front : List (List PatInstr)) (at : ℕ) (is : List PatInstr) → IsLeastOf (InPattern im front at is) (pattern_fault im front at is)
-  least_in_pattern front at is = least_among (λ before place i. told place (pat_rule im (length is) before i)) pat_bytes (λ before place i. IsAt place (pat_rule im (length is) before i)) (λ before place i. least_at place (pat_rule im (length is) before i)) (λ before place i. within_at place (pat_bytes i) (pat_rule im (length is) before i) (some_pat_bytes i)) (at + 4) is
+  least_in_pattern front at is = least_among (λ before place i. fault_if place (pat_rule im (length is) before i)) pat_bytes (λ before place i. IsAt place (pat_rule im (length is) before i)) (λ before place i. least_at place (pat_rule im (length is) before i)) (λ before place i. within_at place (pat_bytes i) (pat_rule im (length is) before i) (some_pat_bytes i)) (at + 4) is
 
   within_pattern : (front : List (List PatInstr)) (at : ℕ) (is : List PatInstr) → Within at (pattern_bytes is) (InPattern im front at is)
   within_pattern front at is f h =
-      let w = within_among (λ before place i. told place (pat_rule im (length is) before i)) pat_bytes (λ before place i. IsAt place (pat_rule im (length is) before i)) (λ before place i. least_at place (pat_rule im (length is) before i)) (λ before place i. within_at place (pat_bytes i) (pat_rule im (length is) before i) (some_pat_bytes i)) (at + 4) is f h in
+      let w = within_among (λ before place i. fault_if place (pat_rule im (length is) before i)) pat_bytes (λ before place i. IsAt place (pat_rule im (length is) before i)) (λ before place i. least_at place (pat_rule im (length is) before i)) (λ before place i. within_at place (pat_bytes i) (pat_rule im (length is) before i) (some_pat_bytes i)) (at + 4) is f h in
       (omega (arith, w), omega (arith, w))
 
   abbrev Labels : Faults
-  Labels = Among (λ front at l. IsAt at (label_rule im front l)) (λ l. 8) (labels_at im) im.labels
+  Labels = Among (λ front at l. IsAt at (label_rule im front l)) (λ l. 8) (labels_offset im) im.labels
 
   abbrev Statements : Faults
-  Statements = Among (λ front at o. IsAt at (statement_rule im front o)) (λ o. 4) (statements_at im) im.statements
+  Statements = Among (λ front at o. IsAt at (statement_rule im front o)) (λ o. 4) (statements_offset im) im.statements
 
   abbrev Expressions : Faults
-  Expressions = Among (λ front at o. IsAt at (expression_rule im front o)) (λ o. 4) (expressions_at im) im.expressions
+  Expressions = Among (λ front at o. IsAt at (expression_rule im front o)) (λ o. 4) (expressions_offset im) im.expressions
 
   abbrev Patterns : Faults
-  Patterns = Among (InPattern im) pattern_bytes (patterns_at im) im.patterns
+  Patterns = Among (InPattern im) pattern_bytes (patterns_offset im) im.patterns
 
   abbrev Code : Faults
-  Code = Among (InInstr im) bytes (code_at im) im.code
+  Code = Among (InInstr im) instr_size (code_offset im) im.code
 
   -- each part stands before the next one
-  from_code : AtLeast (code_at im) Code
-  from_code = from_within _ _ Code (within_among (instr_fault im) bytes (InInstr im) least_in_instr within_instr (code_at im) im.code)
+  from_code : AtLeast (code_offset im) Code
+  from_code = from_within _ _ Code (within_among (instr_fault im) instr_size (InInstr im) least_in_instr within_instr (code_offset im) im.code)
 
-  in_patterns : Within (patterns_at im) (sum (map pattern_bytes im.patterns)) Patterns
-  in_patterns = within_among (pattern_fault im) pattern_bytes (InPattern im) least_in_pattern within_pattern (patterns_at im) im.patterns
+  in_patterns : Within (patterns_offset im) (sum (map pattern_bytes im.patterns)) Patterns
+  in_patterns = within_among (pattern_fault im) pattern_bytes (InPattern im) least_in_pattern within_pattern (patterns_offset im) im.patterns
 
-  from_patterns : AtLeast (patterns_at im) (λ f. Patterns f ⊎ Code f)
-  from_patterns = from_either (patterns_at im) Patterns Code (from_within _ _ Patterns in_patterns) (from_later (patterns_at im) (code_at im) Code (omega arith) from_code)
+  from_patterns : AtLeast (patterns_offset im) (λ f. Patterns f ⊎ Code f)
+  from_patterns = from_either (patterns_offset im) Patterns Code (from_within _ _ Patterns in_patterns) (from_later (patterns_offset im) (code_offset im) Code (omega arith) from_code)
 
-  in_expressions : Within (expressions_at im) (4 * length im.expressions) Expressions
-  in_expressions = within_table 4 (omega arith) (expression_rule im) (expressions_at im) im.expressions
+  in_expressions : Within (expressions_offset im) (4 * length im.expressions) Expressions
+  in_expressions = within_table 4 (omega arith) (expression_rule im) (expressions_offset im) im.expressions
 
-  from_expressions : AtLeast (expressions_at im) (λ f. Expressions f ⊎ (Patterns f ⊎ Code f))
-  from_expressions = from_either (expressions_at im) Expressions _ (from_within _ _ Expressions in_expressions) (from_later (expressions_at im) (patterns_at im) _ (omega arith) from_patterns)
+  from_expressions : AtLeast (expressions_offset im) (λ f. Expressions f ⊎ (Patterns f ⊎ Code f))
+  from_expressions = from_either (expressions_offset im) Expressions _ (from_within _ _ Expressions in_expressions) (from_later (expressions_offset im) (patterns_offset im) _ (omega arith) from_patterns)
 
-  in_statements : Within (statements_at im) (4 * length im.statements) Statements
-  in_statements = within_table 4 (omega arith) (statement_rule im) (statements_at im) im.statements
+  in_statements : Within (statements_offset im) (4 * length im.statements) Statements
+  in_statements = within_table 4 (omega arith) (statement_rule im) (statements_offset im) im.statements
 
-  from_statements : AtLeast (statements_at im) (λ f. Statements f ⊎ (Expressions f ⊎ (Patterns f ⊎ Code f)))
-  from_statements = from_either (statements_at im) Statements _ (from_within _ _ Statements in_statements) (from_later (statements_at im) (expressions_at im) _ (omega arith) from_expressions)
+  from_statements : AtLeast (statements_offset im) (λ f. Statements f ⊎ (Expressions f ⊎ (Patterns f ⊎ Code f)))
+  from_statements = from_either (statements_offset im) Statements _ (from_within _ _ Statements in_statements) (from_later (statements_offset im) (expressions_offset im) _ (omega arith) from_expressions)
 
-  in_labels : Within (labels_at im) (8 * length im.labels) Labels
-  in_labels = within_table 8 (omega arith) (label_rule im) (labels_at im) im.labels
+  in_labels : Within (labels_offset im) (8 * length im.labels) Labels
+  in_labels = within_table 8 (omega arith) (label_rule im) (labels_offset im) im.labels
 
-  from_labels : AtLeast (labels_at im) (λ f. Labels f ⊎ (Statements f ⊎ (Expressions f ⊎ (Patterns f ⊎ Code f))))
-  from_labels = from_either (labels_at im) Labels _ (from_within _ _ Labels in_labels) (from_later (labels_at im) (statements_at im) _ (omega arith) from_statements)
+  from_labels : AtLeast (labels_offset im) (λ f. Labels f ⊎ (Statements f ⊎ (Expressions f ⊎ (Patterns f ⊎ Code f))))
+  from_labels = from_either (labels_offset im) Labels _ (from_within _ _ Labels in_labels) (from_later (labels_offset im) (statements_offset im) _ (omega arith) from_statements)
 
   abbrev Parts : Faults
-  Parts f = IsAt entry_at (entry_rule im) f ⊎ (Labels f ⊎ (Statements f ⊎ (Expressions f ⊎ (Patterns f ⊎ Code f))))
+  Parts f = IsAt entry_offset (entry_rule im) f ⊎ (Labels f ⊎ (Statements f ⊎ (Expressions f ⊎ (Patterns f ⊎ Code f))))
 
   least_parts : IsLeastOf Parts (part_fault im)
   least_parts =
-      least_join _ _ _ _ (within_before entry_at 1 (labels_at im) _ _ (omega arith) (within_at entry_at 1 (entry_rule im) (omega arith)) from_labels) (least_at entry_at (entry_rule im))
-      (least_join _ _ _ _ (within_before (labels_at im) (8 * length im.labels) (statements_at im) _ _ (omega arith) in_labels from_statements) (least_table 8 (omega arith) (label_rule im) (labels_at im) im.labels)
-      (least_join _ _ _ _ (within_before (statements_at im) (4 * length im.statements) (expressions_at im) _ _ (omega arith) in_statements from_expressions) (least_table 4 (omega arith) (statement_rule im) (statements_at im) im.statements)
-      (least_join _ _ _ _ (within_before (expressions_at im) (4 * length im.expressions) (patterns_at im) _ _ (omega arith) in_expressions from_patterns) (least_table 4 (omega arith) (expression_rule im) (expressions_at im) im.expressions)
-      (least_join _ _ _ _ (within_before (patterns_at im) (sum (map pattern_bytes im.patterns)) (code_at im) _ _ (omega arith) in_patterns from_code)
-      (least_among (pattern_fault im) pattern_bytes (InPattern im) least_in_pattern within_pattern (patterns_at im) im.patterns)
-      (least_among (instr_fault im) bytes (InInstr im) least_in_instr within_instr (code_at im) im.code)))))
+      least_join _ _ _ _ (within_before entry_offset 1 (labels_offset im) _ _ (omega arith) (within_at entry_offset 1 (entry_rule im) (omega arith)) from_labels) (least_at entry_offset (entry_rule im))
+      (least_join _ _ _ _ (within_before (labels_offset im) (8 * length im.labels) (statements_offset im) _ _ (omega arith) in_labels from_statements) (least_table 8 (omega arith) (label_rule im) (labels_offset im) im.labels)
+      (least_join _ _ _ _ (within_before (statements_offset im) (4 * length im.statements) (expressions_offset im) _ _ (omega arith) in_statements from_expressions) (least_table 4 (omega arith) (statement_rule im) (statements_offset im) im.statements)
+      (least_join _ _ _ _ (within_before (expressions_offset im) (4 * length im.expressions) (patterns_offset im) _ _ (omega arith) in_expressions from_patterns) (least_table 4 (omega arith) (expression_rule im) (expressions_offset im) im.expressions)
+      (least_join _ _ _ _ (within_before (patterns_offset im) (sum (map pattern_bytes im.patterns)) (code_offset im) _ _ (omega arith) in_patterns from_code)
+      (least_among (pattern_fault im) pattern_bytes (InPattern im) least_in_pattern within_pattern (patterns_offset im) im.patterns)
+      (least_among (instr_fault im) instr_size (InInstr im) least_in_instr within_instr (code_offset im) im.code)))))
 
 -- ---- with the flow
 
 abbrev InFlowAt : Image → Faults
-InFlowAt im f = (at : ℕ) × BreaksFlow im at × (f ≡ record { offset = code_at im + at; rule = BadFlow })
+InFlowAt im f = (at : ℕ) × BreaksFlow im at × (f ≡ record { offset = code_offset im + at; rule = BadFlow })
 
 least_flow : (im : Image) (flow : Option ℕ) → IsLeast (BreaksFlow im) flow → IsLeastOf (InFlowAt im) (flow_fault im flow)
 least_flow im None h = λ f (at, b, e). h at b
-least_flow im (Some n) h = ((n, h.0, refl), λ g (at, b, e). subst (NotAfter (record { offset = code_at im + n; rule = BadFlow })) (sym e) (by at (h.1 at b)))
+least_flow im (Some n) h = ((n, h.0, refl), λ g (at, b, e). subst (NotAfter (record { offset = code_offset im + n; rule = BadFlow })) (sym e) (by at (h.1 at b)))
   where
-    by : (at : ℕ) → n ≤ at → NotAfter (record { offset = code_at im + n; rule = BadFlow }) (record { offset = code_at im + at; rule = BadFlow })
+    by : (at : ℕ) → n ≤ at → NotAfter (record { offset = code_offset im + n; rule = BadFlow }) (record { offset = code_offset im + at; rule = BadFlow })
     by at le = elim (cases_lt n at) [ inl lt ↦ inl (omega (arith, lt)) | inr ge ↦ inr (omega (arith, le, ge), omega arith) ]
 
 -- the one that comes first isn't after the other
@@ -298,7 +298,7 @@ not_after f g h (inl a) (inr b) = inl (omega (arith, a, b))
 not_after f g h (inr a) (inl b) = inl (omega (arith, a, b))
 not_after f g h (inr a) (inr b) = inr (omega (arith, a, b), omega (arith, a, b))
 
-least_lesser : (P Q : Faults) (x y : Option ModuleFault) → IsLeastOf P x → IsLeastOf Q y → IsLeastOf (λ f. P f ⊎ Q f) (lesser x y)
+least_lesser : (P Q : Faults) (x y : Option ModuleFault) → IsLeastOf P x → IsLeastOf Q y → IsLeastOf (λ f. P f ⊎ Q f) (lesser_fault x y)
 least_lesser P Q None None h k = λ f s. elim s [ inl p ↦ h f p | inr q ↦ k f q ]
 least_lesser P Q None (Some g) h k = (inr k.0, λ f s. elim s [ inl p ↦ absurd (h f p) | inr q ↦ k.1 f q ])
 least_lesser P Q (Some f) None h k = (inl h.0, λ g s. elim s [ inl p ↦ h.1 g p | inr q ↦ absurd (k g q) ])
@@ -329,7 +329,7 @@ module _ (im : Image) where
 pub least_is_told : LeastIsTold
 least_is_told im fault (flow, least, e) =
     subst (IsLeastOf (Has im)) (sym e)
-    (least_same _ (Has im) (lesser (part_fault im) (flow_fault im flow)) (to_has im) (of_has im) (least_lesser _ (InFlowAt im) (part_fault im) (flow_fault im flow) (least_parts im) (least_flow im flow least)))
+    (least_same _ (Has im) (lesser_fault (part_fault im) (flow_fault im flow)) (to_has im) (of_has im) (least_lesser _ (InFlowAt im) (part_fault im) (flow_fault im flow) (least_parts im) (least_flow im flow least)))
 
 pub well_formed_has_none : WellFormedHasNone
 well_formed_has_none im w = least_is_told im None (None, w.flow, rw (w.parts) refl)
@@ -341,7 +341,7 @@ none_least P (Some f) h free = absurd (free f h.0)
 pub none_is_well_formed : NoneIsWellFormed
 none_is_well_formed im free = record {
   parts = none_least (Parts im) (part_fault im) (least_parts im) (λ f p. free f (to_has im f (inl p)));
-  flow = λ at b. free (record { offset = code_at im + at; rule = BadFlow }) (InFlow at b refl);
+  flow = λ at b. free (record { offset = code_offset im + at; rule = BadFlow }) (InFlow at b refl);
 }
 
 -- ---- one alone

@@ -10,7 +10,7 @@ use Rattle.model.specs.declared.format.FormatRule.{FormatRule}
 use Rattle.model.specs.declared.format.FormatRule.TheVariants.{BadMagic, BadVersion, TrailingBytes}
 use Rattle.model.specs.declared.image.Image.{Image}
 use Rattle.model.specs.Module.Spelling.{u16, u32, magic, counted, string, label, pattern, code_bytes, spelling, IsImage, IsTable, StringFits, LabelFits, StatementFits, OffsetFits, PatternFits, InstrFits, most_code}
-use Rattle.model.specs.Module.Reading.{◌>>=◌, number_at, checked, fixed_at, table_at, string_at, label_at, statement_at, offset_at, pattern_at, code_at, image_at, image_of}
+use Rattle.model.specs.Module.Reading.{◌>>=◌, number_at, checked, fixed_at, table_at, string_at, label_at, statement_at, offset_at, pattern_at, code_at, image_at, read_image}
 use Rattle.model.specs.Laws.OneSpelling.{IsBytes, ReadIsSpelt, SpeltIsRead}
 use Rattle.model.proofs.Module.SpeltNumbers.{ok_bind, ok_is, checked_ok, required_ok, Takes, Takes-then, IsWide, wide16, wide32, number_takes, number_again, u32_takes, u32_again}
 use Rattle.model.proofs.Module.SpeltTables.{table_takes, table_again}
@@ -87,7 +87,7 @@ image_again m rest is =
     (then_ok _ _ _ _ (code_at_again m.code rest is.code is.code_length) refl))))))))
 
 pub read_is_spelt : ReadIsSpelt
-unfolding image_of
+unfolding read_image
 read_is_spelt bytes m fits e =
     let a = ok_bind (image_at bytes) (λ x. checked (length x.1 == 0) TrailingBytes x.1 x.0) m e in
     let g = checked_ok (length a.0.1 == 0) TrailingBytes a.0.1 a.0.0 m a.2 in
@@ -98,7 +98,7 @@ read_is_spelt bytes m fits e =
     subst P g.1 (t.1, whole)
 
 pub spelt_is_read : SpeltIsRead
-unfolding image_of
+unfolding read_image
 spelt_is_read m is =
     let e : image_at (spelling m) ≡ Ok (m, []) = ap image_at (sym (append-nil (spelling m))) ∙ image_again m [] is in
     rw e refl

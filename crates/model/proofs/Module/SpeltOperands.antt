@@ -8,7 +8,7 @@ use Rattle.model.specs.declared.primitives.PrimId.{PrimId}
 use Rattle.model.specs.Language.Names.{prims}
 use Rattle.model.specs.Module.Codes.{prim_code}
 use Rattle.model.specs.Module.Spelling.{u16, u32, u64}
-use Rattle.model.specs.Module.Reading.{◌>>>◌, number, byte, alone, wide, short, long, whole, distance, call, choice, prim}
+use Rattle.model.specs.Module.Reading.{◌>>>◌, number, byte, alone, wide, short, long, whole_number, distance, call_operands, choice, prim}
 use Rattle.model.specs.Laws.OneSpelling.{IsBytes}
 use Rattle.model.proofs.Module.SpeltNumbers.{some_bind, some_is, Takes, Takes-then, wide16, wide32, wide64, number_takes, number_again, byte_takes}
 
@@ -57,8 +57,8 @@ module _ {I : Type 0} (op : I → ℕ) (ops : I → List ℕ) (Fits : I → Type
       let t = number_takes w64 (2 ^ 64) u64 wide64 bytes a.0 fits a.1 in
       subst (λ (y : I × List ℕ). Takes bytes (ops y.0) y.1 × (op y.0 ≡ k) × Fits y.0) (some_is (f a.0.0, a.0.1) x a.2) (rw (s a.0.0) t.0, o a.0.0, h a.0.0 t.1)
 
-  pub whole_reads : (f : ℤ → I) → ((z : ℤ) → op (f z) ≡ k) → ((z : ℤ) → ops (f z) ≡ u64 (cast_unsigned w64 z)) → ((z : ℤ) → FitsSigned w64 z → Fits (f z)) → IsReader op ops Fits k (whole f)
-  unfolding whole
+  pub whole_reads : (f : ℤ → I) → ((z : ℤ) → op (f z) ≡ k) → ((z : ℤ) → ops (f z) ≡ u64 (cast_unsigned w64 z)) → ((z : ℤ) → FitsSigned w64 z → Fits (f z)) → IsReader op ops Fits k (whole_number f)
+  unfolding whole_number
   whole_reads f o s h bytes x fits e =
       let a = some_bind (number w64 bytes) (λ n. Some (f (cast_signed w64 n.0), n.1)) x e in
       let t = number_takes w64 (2 ^ 64) u64 wide64 bytes a.0 fits a.1 in
@@ -75,8 +75,8 @@ module _ {I : Type 0} (op : I → ℕ) (ops : I → List ℕ) (Fits : I → Type
       let fine : FitsSigned w32 (cast_signed w32 a.0.0) = search (rules, t.1) in
       subst (λ (y : I × List ℕ). Takes bytes (ops y.0) y.1 × (op y.0 ≡ k) × Fits y.0) (some_is (f (cast_signed w32 a.0.0), a.0.1) x a.2) (rw (s (cast_signed w32 a.0.0), back) t.0, o (cast_signed w32 a.0.0), h (cast_signed w32 a.0.0) fine)
 
-  pub call_reads : (f : ℕ → ℕ → I) → ((s n : ℕ) → op (f s n) ≡ k) → ((s n : ℕ) → ops (f s n) ≡ u32 s ++ u16 n) → ((s n : ℕ) → s < 2 ^ 32 → n < 2 ^ 16 → Fits (f s n)) → IsReader op ops Fits k (call f)
-  unfolding call
+  pub call_reads : (f : ℕ → ℕ → I) → ((s n : ℕ) → op (f s n) ≡ k) → ((s n : ℕ) → ops (f s n) ≡ u32 s ++ u16 n) → ((s n : ℕ) → s < 2 ^ 32 → n < 2 ^ 16 → Fits (f s n)) → IsReader op ops Fits k (call_operands f)
+  unfolding call_operands
   call_reads f o s h bytes x fits e =
       let a = some_bind (number w32 bytes) (λ s. number w16 s.1 >>> λ n. Some (f s.0 n.0, n.1)) x e in
       let b = some_bind (number w16 a.0.1) (λ n. Some (f a.0.0 n.0, n.1)) x a.2 in
@@ -123,8 +123,8 @@ module _ {I : Type 0} where
   unfolding long
   long_again f n rest lt = rw (number_again w64 (2 ^ 64) u64 wide64 n rest lt) refl
 
-  pub whole_again : (f : ℤ → I) (z : ℤ) (rest : List ℕ) → FitsSigned w64 z → whole f (u64 (cast_unsigned w64 z) ++ rest) ≡ Some (f z, rest)
-  unfolding whole
+  pub whole_again : (f : ℤ → I) (z : ℤ) (rest : List ℕ) → FitsSigned w64 z → whole_number f (u64 (cast_unsigned w64 z) ++ rest) ≡ Some (f z, rest)
+  unfolding whole_number
   whole_again f z rest h =
       let lt : cast_unsigned w64 z < 2 ^ 64 = search (rules, h) in
       rw (number_again w64 (2 ^ 64) u64 wide64 (cast_unsigned w64 z) rest lt, to_z-of_z w64 z h) refl
@@ -135,10 +135,10 @@ module _ {I : Type 0} where
       let lt : cast_unsigned w32 z < 2 ^ 32 = search (rules, h) in
       rw (number_again w32 (2 ^ 32) u32 wide32 (cast_unsigned w32 z) rest lt, to_z-of_z w32 z h) refl
 
-  pub call_again : (f : ℕ → ℕ → I) (s n : ℕ) (rest : List ℕ) → s < 2 ^ 32 → n < 2 ^ 16 → call f ((u32 s ++ u16 n) ++ rest) ≡ Some (f s n, rest)
-  unfolding call
+  pub call_again : (f : ℕ → ℕ → I) (s n : ℕ) (rest : List ℕ) → s < 2 ^ 32 → n < 2 ^ 16 → call_operands f ((u32 s ++ u16 n) ++ rest) ≡ Some (f s n, rest)
+  unfolding call_operands
   call_again f s n rest ls ln =
-      ap (call f) (append_assoc (u32 s) (u16 n) rest) ∙ rw (number_again w32 (2 ^ 32) u32 wide32 s (u16 n ++ rest) ls, number_again w16 (2 ^ 16) u16 wide16 n rest ln) refl
+      ap (call_operands f) (append_assoc (u32 s) (u16 n) rest) ∙ rw (number_again w32 (2 ^ 32) u32 wide32 s (u16 n ++ rest) ls, number_again w16 (2 ^ 16) u16 wide16 n rest ln) refl
 
   pub choice_again : {A : Type 0} (xs : List A) (b : ℕ) (f : A → I) (a : A) (rest : List ℕ) → slice_get xs b ≡ Some a → choice xs f (b ∷ rest) ≡ Some (f a, rest)
   unfolding choice

@@ -1,10 +1,11 @@
 -- Code that stands for a pattern comes to the events of its scan, and to no others.
 use Rattle.std.proofs.Common.{◌≡◌, ℕ, List, [], ◌∷◌, refl, sym, ◌∙◌, ap, subst, inl, inr, Option}
-use Rattle.model.specs.Pattern.Patterns.{Pat, Expr, Ask, Event, Running, Failed, Asks, Matched}
+use Rattle.model.specs.Pattern.Patterns.{Pat, Ask, Event, Running, Failed, Asks, Matched}
 use Rattle.model.specs.Pattern.Search.{Found, Hit, Part, Script, search, scan}
 use Rattle.model.specs.Pattern.Steps.{Code, Answers, event_of, settled, match_steps}
 use Rattle.model.specs.Pattern.Stands as St
 use Rattle.model.specs.Pattern.Stands.{Stands, Alike, AlikeAsk, AlikeEvent}
+use Rattle.model.specs.Deck.Trees.{Expr}
 use Rattle.model.proofs.Pattern.CodeSearch.{Handed, bare, bare_grows, run, run_scan, IsOver, run_from_steps, steps_from_run}
 use Rattle.model.proofs.Pattern.Followed.{AlikeFound, misses, finals, SameEnd, hits, stops, waits, Followed, AlikeTold, fail, match, ask, EventFollowed, over_starts_followed}
 use Rattle.model.proofs.Pattern.StandsAt.{Whole, RestAt, part, ended, stands_alone, past_end}

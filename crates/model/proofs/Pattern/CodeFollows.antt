@@ -1,12 +1,14 @@
 -- The search of code finds what the search of its pattern finds.
 use Rattle.std.proofs.Common.{◌≡◌, ℕ, ℤ, zero, suc, ◌+◌, List, [], ◌∷◌, ◌++◌, refl, sym, ◌∙◌, ap, subst, arith, ◌≤◌, inl, inr, Option, Some, None}
 use Rattle.std.specs.Prelude.{slice_get}
-use Rattle.model.specs.Pattern.Patterns.{Basic, Lit, Pat, Plain, Succeed, Abort, Fence, Cat, Alt, Arbno, FenceOf, Cond, Imm, At, Defer, DeferBasic, Name, Expr, Kind, Instr, Do, Split, Jmp, DoSucceed, DoAbort, DoFence, Open, OpenFence, CloseFence, Close, Say, AtCursor, Eval, EvalBasic, Pending, Answer, IsPattern, IsCount, IsBytes, IsFailed, IsSaid, Ask, AskFor, SayThat, Told, Text, Number, Event, Running, Failed, Asks, Matched, with_answer}
+use Rattle.model.specs.Pattern.Patterns.{Basic, Lit, Pat, Plain, Succeed, Abort, Fence, Cat, Alt, Arbno, FenceOf, Cond, Imm, At, Defer, DeferBasic, Kind, Instr, Do, Split, Jmp, DoSucceed, DoAbort, DoFence, Open, OpenFence, CloseFence, Close, Say, AtCursor, Eval, EvalBasic, Pending, Answer, IsPattern, IsCount, IsBytes, IsFailed, IsSaid, Ask, AskFor, SayThat, Told, Text, Number, Event, Running, Failed, Asks, Matched, with_answer}
 use Rattle.model.specs.Pattern.BasicEnds.{ends_at}
 use Rattle.model.specs.Pattern.Ends.{between}
-use Rattle.model.specs.Pattern.Search.{Found, Hit, Miss, Stop, Wait, on_miss, on_hit, try_each, Goal, Part, Closing, Saying, Script, search, told, given, given_argument}
-use Rattle.model.specs.Pattern.Steps.{Code, Answers, Thread, Note, Opened, Fenced, Left, settled, at_place, onward, Retry, Again, Quit, Goes, Forks, Fails, ForSaid, ForPattern, ForArgument, act, answered, forked, at_distance, on_after}
+use Rattle.model.specs.Pattern.Search.{Found, Hit, Miss, Stop, Wait, on_miss, on_hit, try_each, Goal, Part, Closing, Saying, Script, search, told_that, given_pattern, given_argument}
+use Rattle.model.specs.Pattern.Steps.{Code, Answers, Thread, Note, Opened, Fenced, Left, settled, at_place, onward, Retry, Again, Quit, Goes, Forks, Fails, ForSaid, ForPattern, ForArgument, pattern_act, answered, forked, at_distance, on_after}
 use Rattle.model.specs.Pattern.Stands.{Alike, none, more, patterns, counts, bytes, failed, said, AlikeAsk, asked, says}
+use Rattle.model.specs.Deck.Target.{Name}
+use Rattle.model.specs.Deck.Trees.{Expr}
 use Rattle.model.proofs.Pattern.SearchGrows.{Grows, grows_refl, search_more, try_each_grows, on_hit_grows}
 use Rattle.model.proofs.Pattern.CodeSearch.{Handed, Question, Closed, each, each_grows, on_closed, on_closed_grows, moving, doing, run, run_more}
 use Rattle.model.proofs.Pattern.Followed.{Followed, AlikeFound, misses, finals, IsFinal, Rises, at_more, by_equal, then_followed, on_miss_followed, on_miss_none}
@@ -28,10 +30,10 @@ settled_past notes code code' p p' c a e =
     ap (λ o. elim o [ None ↦ settled notes code' p' c a | Some j ↦ thread code p (Left code' p' ∷ notes) c a ]) e
 
 module _ (s : List ℕ) where
-  run_here : (m num : ℕ) (notes : List Note) (code : Code) (p c : ℕ) (a : Pending) (i : Instr) (u : Answers) → slice_get code p ≡ Some i → run s (suc m) num (settled notes code p c a) u ≡ doing s (run s m) num (act s (Some i) (thread code p notes c a)) u
+  run_here : (m num : ℕ) (notes : List Note) (code : Code) (p c : ℕ) (a : Pending) (i : Instr) (u : Answers) → slice_get code p ≡ Some i → run s (suc m) num (settled notes code p c a) u ≡ doing s (run s m) num (pattern_act s (Some i) (thread code p notes c a)) u
   run_here m num notes code p c a i u e =
       ap (λ t. run s (suc m) num t u) (settled_here notes code p c a i e)
-      ∙ ap (λ o. doing s (run s m) num (act s o (thread code p notes c a)) u) e
+      ∙ ap (λ o. doing s (run s m) num (pattern_act s o (thread code p notes c a)) u) e
 
   pub run_rises : (num : ℕ) (t : Thread) (u : Answers) (n m : ℕ) → n ≤ m → Grows (run s n num t u) (run s m num t u)
   run_rises num t u n m le = run_more s n m le num t u
@@ -69,10 +71,10 @@ module _ (s : List ℕ) (xs : ℕ → Option Expr) where
   f_on_miss : (en : Ending) (x : Found (Ask Expr) Pat) (k : Script → Found (Ask Expr) Pat) (f : ℕ → Found Handed Code) (l : ℕ → Answers → Found Handed Code) → Rises Handed Code f → ((u : Answers) → Rises Handed Code (λ m. l m u)) → After en x f → ((t : Script) (u : Answers) → Alike xs t u → After en (k t) (λ m. l m u)) → After en (on_miss x k) (λ m. on_miss (f m) (l m))
   f_on_miss en = on_miss_followed (Ask Expr) Pat Handed Code (Ends xs en) (Alike xs)
 
-  f_here : (x : Found (Ask Expr) Pat) (notes : List Note) (en : Ending) (num : ℕ) (code : Code) (p c : ℕ) (a : Pending) (i : Instr) (u : Answers) → slice_get code p ≡ Some i → After en x (λ m. doing s (run s m) num (act s (Some i) (thread code p notes c a)) u) → After en x (λ m. run s m num (settled notes code p c a) u)
+  f_here : (x : Found (Ask Expr) Pat) (notes : List Note) (en : Ending) (num : ℕ) (code : Code) (p c : ℕ) (a : Pending) (i : Instr) (u : Answers) → slice_get code p ≡ Some i → After en x (λ m. doing s (run s m) num (pattern_act s (Some i) (thread code p notes c a)) u) → After en x (λ m. run s m num (settled notes code p c a) u)
   f_here x notes en num code p c a i u e h =
       at_more (Ask Expr) Pat Handed Code (Ends xs en) (Alike xs) x (λ m. run s m num (settled notes code p c a) u)
-      (by_equal (Ask Expr) Pat Handed Code (Ends xs en) (Alike xs) x (λ m. run s (suc m) num (settled notes code p c a) u) (λ m. doing s (run s m) num (act s (Some i) (thread code p notes c a)) u) (λ m. run_here s m num notes code p c a i u e) h)
+      (by_equal (Ask Expr) Pat Handed Code (Ends xs en) (Alike xs) x (λ m. run s (suc m) num (settled notes code p c a) u) (λ m. doing s (run s m) num (pattern_act s (Some i) (thread code p notes c a)) u) (λ m. run_here s m num notes code p c a i u e) h)
 
   -- the one end needs no choice
   f_last : (en : Ending) (x : Found (Ask Expr) Pat) (f : ℕ → Found Handed Code) → After en x f → After en (on_miss x (λ u. Miss u)) f
@@ -103,7 +105,7 @@ module _ (s : List ℕ) (xs : ℕ → Option Expr) where
   closed_forward n f en num code y notes rest r x z (finals fx fz stop) = inr (0, finals tt tt stop)
   closed_forward n f en num code y notes rest r x z (finals fx fz (wait v)) = inr (0, finals tt tt (wait v))
 
-  told_forward : (n : ℕ) → Forward n → (en : Ending) (num : ℕ) (code : Code) (p : ℕ) (notes : List Note) (rest : List Goal) (c : ℕ) (a : Pending) (x : Name) (v : Told) (t : Script) (u : Answers) → RestAt xs en code p notes rest → Alike xs t u → After en (told (SayThat x v) (λ w. search s n rest c a w) t) (λ m. doing s (run s m) num (Rattle.model.specs.Pattern.Steps.Asking (ForSaid x v) (settled notes code p c a)) u)
+  told_forward : (n : ℕ) → Forward n → (en : Ending) (num : ℕ) (code : Code) (p : ℕ) (notes : List Note) (rest : List Goal) (c : ℕ) (a : Pending) (x : Name) (v : Told) (t : Script) (u : Answers) → RestAt xs en code p notes rest → Alike xs t u → After en (told_that (SayThat x v) (λ w. search s n rest c a w) t) (λ m. doing s (run s m) num (Rattle.model.specs.Pattern.Steps.Asking (ForSaid x v) (settled notes code p c a)) u)
   told_forward n f en num code p notes rest c a x v t u r none = inr (0, finals tt tt (wait says))
   told_forward n f en num code p notes rest c a x v ts us r (more (patterns st) al) = inr (0, misses al)
   told_forward n f en num code p notes rest c a x v ts us r (more counts al) = inr (0, misses al)
@@ -111,7 +113,7 @@ module _ (s : List ℕ) (xs : ℕ → Option Expr) where
   told_forward n f en num code p notes rest c a x v ts us r (more failed al) = inr (0, misses al)
   told_forward n f en num code p notes rest c a x v ts us r (more {t = t} {u = u} said al) = f en num code p notes rest c a t u r al
 
-  given_forward : (n : ℕ) → Forward n → (en : Ending) (num : ℕ) (code : Code) (p : ℕ) (notes : List Note) (rest : List Goal) (c : ℕ) (a : Pending) (x : Expr) (k : ℕ) (t : Script) (u : Answers) → xs k ≡ Some x → RestAt xs en code (p + 1) notes rest → Alike xs t u → After en (given x (λ q w. search s n (Part q ∷ rest) c a w) t) (λ m. doing s (run s m) num (act s (Some (Eval k)) (thread code p notes c a)) u)
+  given_forward : (n : ℕ) → Forward n → (en : Ending) (num : ℕ) (code : Code) (p : ℕ) (notes : List Note) (rest : List Goal) (c : ℕ) (a : Pending) (x : Expr) (k : ℕ) (t : Script) (u : Answers) → xs k ≡ Some x → RestAt xs en code (p + 1) notes rest → Alike xs t u → After en (given_pattern x (λ q w. search s n (Part q ∷ rest) c a w) t) (λ m. doing s (run s m) num (pattern_act s (Some (Eval k)) (thread code p notes c a)) u)
   given_forward n f en num code p notes rest c a x k t u e r none = inr (0, finals tt tt (wait (asked e)))
   given_forward n f en num code p notes rest c a x k ts us e r (more {t = t} {u = u} (patterns {p = q} {code = inner} st) al) =
       f en num inner 0 (Left code (on_after code (p + 1)) ∷ notes) (Part q ∷ rest) c a t u (part (stands_alone xs inner q st) (left (past_end inner) (rest_after xs code (p + 1) notes rest r))) al
@@ -120,7 +122,7 @@ module _ (s : List ℕ) (xs : ℕ → Option Expr) where
   given_forward n f en num code p notes rest c a x k ts us e r (more failed al) = inr (0, misses al)
   given_forward n f en num code p notes rest c a x k ts us e r (more said al) = inr (0, misses al)
 
-  argument_forward : (n : ℕ) → BasicForward n → (en : Ending) (num : ℕ) (code : Code) (p : ℕ) (notes : List Note) (rest : List Goal) (c : ℕ) (a : Pending) (j : Kind) (x : Expr) (k : ℕ) (t : Script) (u : Answers) → xs k ≡ Some x → RestAt xs en code (p + 1) notes rest → Alike xs t u → After en (given_argument j x (λ b w. search s n (Part (Plain b) ∷ rest) c a w) t) (λ m. doing s (run s m) num (act s (Some (EvalBasic j k)) (thread code p notes c a)) u)
+  argument_forward : (n : ℕ) → BasicForward n → (en : Ending) (num : ℕ) (code : Code) (p : ℕ) (notes : List Note) (rest : List Goal) (c : ℕ) (a : Pending) (j : Kind) (x : Expr) (k : ℕ) (t : Script) (u : Answers) → xs k ≡ Some x → RestAt xs en code (p + 1) notes rest → Alike xs t u → After en (given_argument j x (λ b w. search s n (Part (Plain b) ∷ rest) c a w) t) (λ m. doing s (run s m) num (pattern_act s (Some (EvalBasic j k)) (thread code p notes c a)) u)
   argument_forward n f en num code p notes rest c a j x k t u e r none = inr (0, finals tt tt (wait (asked e)))
   argument_forward n f en num code p notes rest c a j x k ts us e r (more {t = t} {u = u} (patterns st) al) = f Rattle.model.specs.Pattern.Patterns.Fail en num code p notes rest c a t u r al
   argument_forward n f en num code p notes rest c a j x k ts us e r (more {t = t} {u = u} (counts {n = i}) al) = f (with_answer {P = Pat} j (IsCount i)) en num code p notes rest c a t u r al
@@ -192,7 +194,7 @@ module _ (s : List ℕ) (xs : ℕ → Option Expr) where
 
   rest_forward : (n : ℕ) → Forward n → BasicForward n → Forward (suc n)
   rest_forward n f g en num code p notes rest c a t u (ended e) al =
-      inr (1, subst (λ o. AlikeFound (Ask Expr) Pat Handed Code (Ends xs Whole) (Alike xs) (Hit c a t) (doing s (run s 0) num (act s o (thread code p [] c a)) u)) (sym e) (finals tt tt (hit refl al)))
+      inr (1, subst (λ o. AlikeFound (Ask Expr) Pat Handed Code (Ends xs Whole) (Alike xs) (Hit c a t) (doing s (run s 0) num (pattern_act s o (thread code p [] c a)) u)) (sym e) (finals tt tt (hit refl al)))
   rest_forward n f g en num code p notes rest c a t u (fence_ended {k = k} {notes = inner} e) al =
       f_here (search s (suc n) [] c a t) (Fenced k ∷ inner) (InFence k code p inner) num code p c a CloseFence u e
       (inr (0, finals tt tt (hit refl al)))
@@ -240,7 +242,7 @@ module _ (s : List ℕ) (xs : ℕ → Option Expr) where
   b_equal : (en : Ending) (y : Found Handed Code) (f g : ℕ → Found (Ask Expr) Pat) → ((m : ℕ) → f m ≡ g m) → Before en y g → Before en y f
   b_equal en = by_equal Handed Code (Ask Expr) Pat (λ y x. Ends xs en x y) (λ u t. Alike xs t u)
 
-  b_here : (m : ℕ) (f : ℕ → Found (Ask Expr) Pat) (notes : List Note) (en : Ending) (num : ℕ) (code : Code) (p c : ℕ) (a : Pending) (i : Instr) (u : Answers) → slice_get code p ≡ Some i → Before en (doing s (run s m) num (act s (Some i) (thread code p notes c a)) u) f → Before en (run s (suc m) num (settled notes code p c a) u) f
+  b_here : (m : ℕ) (f : ℕ → Found (Ask Expr) Pat) (notes : List Note) (en : Ending) (num : ℕ) (code : Code) (p c : ℕ) (a : Pending) (i : Instr) (u : Answers) → slice_get code p ≡ Some i → Before en (doing s (run s m) num (pattern_act s (Some i) (thread code p notes c a)) u) f → Before en (run s (suc m) num (settled notes code p c a) u) f
   b_here m f notes en num code p c a i u e h = subst (λ y. Before en y f) (sym (run_here s m num notes code p c a i u e)) h
 
   jumps_cont : (m : ℕ) → Backward m → (en : Ending) (num : ℕ) (code : Code) (notes : List Note) (rest : List Goal) (k p x : ℕ) → Jumps code k p x → RestAt xs en code x notes rest → Cont m en num code x notes rest → Cont m en num code p notes rest
@@ -275,7 +277,7 @@ module _ (s : List ℕ) (xs : ℕ → Option Expr) where
   closed_backward m f en num code y notes rest r z x (finals fz fx stop) = inr (0, finals tt tt stop)
   closed_backward m f en num code y notes rest r z x (finals fz fx (wait v)) = inr (0, finals tt tt (wait v))
 
-  told_backward : (m : ℕ) → Backward m → (en : Ending) (num : ℕ) (code : Code) (p : ℕ) (notes : List Note) (rest : List Goal) (c : ℕ) (a : Pending) (x : Name) (v : Told) (t : Script) (u : Answers) → RestAt xs en code p notes rest → Alike xs t u → Before en (doing s (run s m) num (Rattle.model.specs.Pattern.Steps.Asking (ForSaid x v) (settled notes code p c a)) u) (λ n. told (SayThat x v) (λ w. search s n rest c a w) t)
+  told_backward : (m : ℕ) → Backward m → (en : Ending) (num : ℕ) (code : Code) (p : ℕ) (notes : List Note) (rest : List Goal) (c : ℕ) (a : Pending) (x : Name) (v : Told) (t : Script) (u : Answers) → RestAt xs en code p notes rest → Alike xs t u → Before en (doing s (run s m) num (Rattle.model.specs.Pattern.Steps.Asking (ForSaid x v) (settled notes code p c a)) u) (λ n. told_that (SayThat x v) (λ w. search s n rest c a w) t)
   told_backward m f en num code p notes rest c a x v t u r none = inr (0, finals tt tt (wait says))
   told_backward m f en num code p notes rest c a x v ts us r (more (patterns st) al) = inr (0, misses al)
   told_backward m f en num code p notes rest c a x v ts us r (more counts al) = inr (0, misses al)
@@ -283,7 +285,7 @@ module _ (s : List ℕ) (xs : ℕ → Option Expr) where
   told_backward m f en num code p notes rest c a x v ts us r (more failed al) = inr (0, misses al)
   told_backward m f en num code p notes rest c a x v ts us r (more {t = t} {u = u} said al) = f en num code p notes rest c a t u r al
 
-  given_backward : (m : ℕ) → Backward m → (en : Ending) (num : ℕ) (code : Code) (p : ℕ) (notes : List Note) (rest : List Goal) (c : ℕ) (a : Pending) (x : Expr) (k : ℕ) (t : Script) (u : Answers) → xs k ≡ Some x → RestAt xs en code (p + 1) notes rest → Alike xs t u → Before en (doing s (run s m) num (act s (Some (Eval k)) (thread code p notes c a)) u) (λ n. given x (λ q w. search s n (Part q ∷ rest) c a w) t)
+  given_backward : (m : ℕ) → Backward m → (en : Ending) (num : ℕ) (code : Code) (p : ℕ) (notes : List Note) (rest : List Goal) (c : ℕ) (a : Pending) (x : Expr) (k : ℕ) (t : Script) (u : Answers) → xs k ≡ Some x → RestAt xs en code (p + 1) notes rest → Alike xs t u → Before en (doing s (run s m) num (pattern_act s (Some (Eval k)) (thread code p notes c a)) u) (λ n. given_pattern x (λ q w. search s n (Part q ∷ rest) c a w) t)
   given_backward m f en num code p notes rest c a x k t u e r none = inr (0, finals tt tt (wait (asked e)))
   given_backward m f en num code p notes rest c a x k ts us e r (more {t = t} {u = u} (patterns {p = q} {code = inner} st) al) =
       f en num inner 0 (Left code (on_after code (p + 1)) ∷ notes) (Part q ∷ rest) c a t u (part (stands_alone xs inner q st) (left (past_end inner) (rest_after xs code (p + 1) notes rest r))) al
@@ -298,7 +300,7 @@ module _ (s : List ℕ) (xs : ℕ → Option Expr) where
       b_more en (moving (run s m) num (forked (thread code p notes c a) (ends_at s b c)) u) (λ n. search s n (Part (Plain b) ∷ rest) c a t)
       (ends_backward m f en num code p notes rest c a t u r al (ends_at s b c))
 
-  argument_backward : (m : ℕ) → Backward m → (en : Ending) (num : ℕ) (code : Code) (p : ℕ) (notes : List Note) (rest : List Goal) (c : ℕ) (a : Pending) (j : Kind) (x : Expr) (k : ℕ) (t : Script) (u : Answers) → xs k ≡ Some x → RestAt xs en code (p + 1) notes rest → Alike xs t u → Before en (doing s (run s m) num (act s (Some (EvalBasic j k)) (thread code p notes c a)) u) (λ n. given_argument j x (λ b w. search s n (Part (Plain b) ∷ rest) c a w) t)
+  argument_backward : (m : ℕ) → Backward m → (en : Ending) (num : ℕ) (code : Code) (p : ℕ) (notes : List Note) (rest : List Goal) (c : ℕ) (a : Pending) (j : Kind) (x : Expr) (k : ℕ) (t : Script) (u : Answers) → xs k ≡ Some x → RestAt xs en code (p + 1) notes rest → Alike xs t u → Before en (doing s (run s m) num (pattern_act s (Some (EvalBasic j k)) (thread code p notes c a)) u) (λ n. given_argument j x (λ b w. search s n (Part (Plain b) ∷ rest) c a w) t)
   argument_backward m f en num code p notes rest c a j x k t u e r none = inr (0, finals tt tt (wait (asked e)))
   argument_backward m f en num code p notes rest c a j x k ts us e r (more {t = t} {u = u} (patterns st) al) = basic_backward m f Rattle.model.specs.Pattern.Patterns.Fail en num code p notes rest c a t u r al
   argument_backward m f en num code p notes rest c a j x k ts us e r (more {t = t} {u = u} (counts {n = i}) al) = basic_backward m f (with_answer {P = Pat} j (IsCount i)) en num code p notes rest c a t u r al
@@ -326,7 +328,7 @@ module _ (s : List ℕ) (xs : ℕ → Option Expr) where
       (basic_backward m f k en num code p notes rest c a t u (jumps_rest xs code notes rest l.0 (p + 1) x l.1 r) al)
   part_backward m f Succeed en num code p x notes rest (e, l) r g c a t u al =
       b_here m (λ n. search s n (Part Succeed ∷ rest) c a t) notes en num code p c a DoSucceed u e
-      (b_more en (doing s (run s m) num (act s (Some DoSucceed) (thread code p notes c a)) u) (λ n. search s n (Part Succeed ∷ rest) c a t)
+      (b_more en (doing s (run s m) num (pattern_act s (Some DoSucceed) (thread code p notes c a)) u) (λ n. search s n (Part Succeed ∷ rest) c a t)
       (b_on_miss en (run s m (suc num) (settled notes code (p + 1) c a) u) (λ w. run s m num (thread code p notes c a) w) (λ n. search s n rest c a t) (λ n w. search s n (Part Succeed ∷ rest) c a w)
       (search_rises s rest c a t) (λ w. search_rises s (Part Succeed ∷ rest) c a w)
       (f en (suc num) code (p + 1) notes rest c a t u (jumps_rest xs code notes rest l.0 (p + 1) x l.1 r) al)
@@ -335,7 +337,7 @@ module _ (s : List ℕ) (xs : ℕ → Option Expr) where
       b_here m (λ n. search s n (Part Abort ∷ rest) c a t) notes en num code p c a DoAbort u e (inr (1, finals tt tt stop))
   part_backward m f Fence en num code p x notes rest (e, l) r g c a t u al =
       b_here m (λ n. search s n (Part Fence ∷ rest) c a t) notes en num code p c a DoFence u e
-      (b_more en (doing s (run s m) num (act s (Some DoFence) (thread code p notes c a)) u) (λ n. search s n (Part Fence ∷ rest) c a t)
+      (b_more en (doing s (run s m) num (pattern_act s (Some DoFence) (thread code p notes c a)) u) (λ n. search s n (Part Fence ∷ rest) c a t)
       (b_on_miss en (run s m (suc num) (settled notes code (p + 1) c a) u) (λ w. Stop) (λ n. search s n rest c a t) (λ n w. Stop)
       (search_rises s rest c a t) (λ w i j le. refl)
       (f en (suc num) code (p + 1) notes rest c a t u (jumps_rest xs code notes rest l.0 (p + 1) x l.1 r) al) (λ w v h. inr (0, finals tt tt stop))))
@@ -351,7 +353,7 @@ module _ (s : List ℕ) (xs : ℕ → Option Expr) where
       (alt_backward m f (Plain (Lit [])) (Cat q (Arbno q)) en num code p d notes rest c a t u e (part (inl (refl, l)) r) (part (p, h, (d, e, l, h)) r) al))
   part_backward m f (FenceOf q) en num code p x notes rest (e, y, h, k, l) r g c a t u al =
       b_here m (λ n. search s n (Part (FenceOf q) ∷ rest) c a t) notes en num code p c a OpenFence u e
-      (b_more en (doing s (run s m) num (act s (Some OpenFence) (thread code p notes c a)) u) (λ n. search s n (Part (FenceOf q) ∷ rest) c a t)
+      (b_more en (doing s (run s m) num (pattern_act s (Some OpenFence) (thread code p notes c a)) u) (λ n. search s n (Part (FenceOf q) ∷ rest) c a t)
       (then_followed Handed Code (Ask Expr) Pat (λ y' x'. Ends xs (InFence num code y notes) x' y') (λ y' x'. Ends xs en x' y') (λ u' t'. Alike xs t' u') (run s m num (settled (Fenced num ∷ notes) code (p + 1) c a) u) (λ z. on_closed z (λ d w. run s m num d w))
       (λ n. search s n (Part q ∷ []) c a t) (λ n z. on_hit z (λ e' b w. search s n rest e' b w)) refl
       (search_rises s (Part q ∷ []) c a t)
@@ -368,20 +370,20 @@ module _ (s : List ℕ) (xs : ℕ → Option Expr) where
       (f en num code (p + 1) (Opened c ∷ notes) (Part q ∷ Saying i c ∷ rest) c a t u (part h (saying k (jumps_rest xs code notes rest l.0 (y + 1) x l.1 r))) al))
   part_backward m f (At i) en num code p x notes rest (e, l) r g c a t u al =
       b_here m (λ n. search s n (Part (At i) ∷ rest) c a t) notes en num code p c a (AtCursor i) u e
-      (b_more en (doing s (run s m) num (act s (Some (AtCursor i)) (thread code p notes c a)) u) (λ n. search s n (Part (At i) ∷ rest) c a t)
+      (b_more en (doing s (run s m) num (pattern_act s (Some (AtCursor i)) (thread code p notes c a)) u) (λ n. search s n (Part (At i) ∷ rest) c a t)
       (told_backward m f en num code (p + 1) notes rest c a i (Number c) t u (jumps_rest xs code notes rest l.0 (p + 1) x l.1 r) al))
   part_backward m f (Defer y) en num code p x notes rest (k, ek, e, l) r g c a t u al =
       b_here m (λ n. search s n (Part (Defer y) ∷ rest) c a t) notes en num code p c a (Eval k) u e
-      (b_more en (doing s (run s m) num (act s (Some (Eval k)) (thread code p notes c a)) u) (λ n. search s n (Part (Defer y) ∷ rest) c a t)
+      (b_more en (doing s (run s m) num (pattern_act s (Some (Eval k)) (thread code p notes c a)) u) (λ n. search s n (Part (Defer y) ∷ rest) c a t)
       (given_backward m f en num code p notes rest c a y k t u ek (jumps_rest xs code notes rest l.0 (p + 1) x l.1 r) al))
   part_backward m f (DeferBasic j y) en num code p x notes rest (k, ek, e, l) r g c a t u al =
       b_here m (λ n. search s n (Part (DeferBasic j y) ∷ rest) c a t) notes en num code p c a (EvalBasic j k) u e
-      (b_more en (doing s (run s m) num (act s (Some (EvalBasic j k)) (thread code p notes c a)) u) (λ n. search s n (Part (DeferBasic j y) ∷ rest) c a t)
+      (b_more en (doing s (run s m) num (pattern_act s (Some (EvalBasic j k)) (thread code p notes c a)) u) (λ n. search s n (Part (DeferBasic j y) ∷ rest) c a t)
       (argument_backward m f en num code p notes rest c a j y k t u ek (jumps_rest xs code notes rest l.0 (p + 1) x l.1 r) al))
 
   rest_backward : (m : ℕ) → Backward m → (en : Ending) (num : ℕ) (code : Code) (p : ℕ) (notes : List Note) (rest : List Goal) → RestAt xs en code p notes rest → Cont m en num code p notes rest
   rest_backward m f en num code p notes rest (ended e) c a t u al =
-      subst (λ o. Before Whole (doing s (run s m) num (act s o (thread code p [] c a)) u) (λ n. search s n [] c a t)) (sym e) (inr (1, finals tt tt (hit refl al)))
+      subst (λ o. Before Whole (doing s (run s m) num (pattern_act s o (thread code p [] c a)) u) (λ n. search s n [] c a t)) (sym e) (inr (1, finals tt tt (hit refl al)))
   rest_backward m f en num code p notes rest (fence_ended {k = k} {notes = inner} e) c a t u al =
       b_here m (λ n. search s n [] c a t) (Fenced k ∷ inner) (InFence k code p inner) num code p c a CloseFence u e (inr (1, finals tt tt (hit refl al)))
   rest_backward m f en num code p notes rest (left {code' = code'} {p' = p'} {notes = inner} e d) c a t u al =
@@ -397,7 +399,7 @@ module _ (s : List ℕ) (xs : ℕ → Option Expr) where
       (f en num code (p + 1) inner rest c (a ++ (i, between s b c) ∷ []) t u r al))
   rest_backward m f en num code p notes goals (saying {b = b} {notes = inner} {rest = rest} {n = i} e r) c a t u al =
       b_here m (λ n. search s n (Saying i b ∷ rest) c a t) (Opened b ∷ inner) en num code p c a (Say i) u e
-      (b_more en (doing s (run s m) num (act s (Some (Say i)) (thread code p (Opened b ∷ inner) c a)) u) (λ n. search s n (Saying i b ∷ rest) c a t)
+      (b_more en (doing s (run s m) num (pattern_act s (Some (Say i)) (thread code p (Opened b ∷ inner) c a)) u) (λ n. search s n (Saying i b ∷ rest) c a t)
       (told_backward m f en num code (p + 1) inner rest c a i (Text (between s b c)) t u r al))
 
   pub backward : (m : ℕ) → Backward m

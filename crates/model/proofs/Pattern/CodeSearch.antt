@@ -5,7 +5,7 @@ use Rattle.model.specs.Pattern.Patterns.{Instr, Do, Split, Jmp, DoSucceed, DoAbo
 use Rattle.model.specs.Pattern.BasicEnds.{ends_at}
 use Rattle.model.specs.Pattern.Ends.{between}
 use Rattle.model.specs.Pattern.Search.{Found, Hit, Miss, Stop, Deep, Wait, on_miss, started, over_starts}
-use Rattle.model.specs.Pattern.Steps.{Won, Code, Answers, Thread, Note, Opened, Fenced, Left, Choice, Retry, Again, Quit, settled, at_place, onward, Move, Goes, Forks, Fails, Act, Moves, Aborts, Arrives, Asking, Fences, Drops, Waiting, ForPattern, ForArgument, ForSaid, ask_of, act, answered, forked, closed, fence_closed, fenced, kept, at_distance, on_after, State, Starting, Going, Returning, Waits, Over, go, back, after_move, after_act, step, steps, event_of}
+use Rattle.model.specs.Pattern.Steps.{Won, Code, Answers, Thread, Note, Opened, Fenced, Left, Choice, Retry, Again, Quit, settled, at_place, onward, Move, Goes, Forks, Fails, Act, Moves, Aborts, Arrives, Asking, Fences, Drops, Waiting, ForPattern, ForArgument, ForSaid, ask_of, pattern_act, answered, forked, closed, fence_closed, fenced, choices_kept, at_distance, on_after, MatchState, Starting, Going, Returning, Waits, Over, go, back, after_move, after_act, pattern_step, pattern_steps, event_of}
 use Rattle.model.proofs.Pattern.SearchGrows.{Grows, on_miss_grows}
 
 -- what a search of code hands on: a question, or that it closed a fence that was open before it, with the number
@@ -58,7 +58,7 @@ doing s f k (Drops m t) u = Wait (Closed m t u)
 
 abbrev pub run : List ℕ → ℕ → Next
 run s zero k t u = Deep
-run s (suc n) k t u = doing s (run s n) k (act s (at_place t) t) u
+run s (suc n) k t u = doing s (run s n) k (pattern_act s (at_place t) t) u
 
 -- without the fences that are closed; of the whole code none is
 abbrev pub bare : Found' → Found (Ask ℕ) Code
@@ -109,7 +109,7 @@ doing_grows s f g h k (Drops m t) u = refl
 pub run_more : (s : List ℕ) (n m : ℕ) → n ≤ m → NextGrows (run s n) (run s m)
 run_more s zero m le k t u = tt
 run_more s (suc n) zero le k t u = absurd (omega arith)
-run_more s (suc n) (suc m) le k t u = doing_grows s (run s n) (run s m) (run_more s n m (omega arith)) k (act s (at_place t) t) u
+run_more s (suc n) (suc m) le k t u = doing_grows s (run s n) (run s m) (run_more s n m (omega arith)) k (pattern_act s (at_place t) t) u
 
 pub bare_grows : (x y : Found') → Grows x y → Grows (bare x) (bare y)
 bare_grows Deep y e = tt
@@ -185,7 +185,7 @@ fence_closed_keeps (Opened b ∷ notes) f h = tt
 fence_closed_keeps (Fenced k ∷ notes) f h = h k notes
 fence_closed_keeps (Left code p ∷ notes) f h = tt
 
-act_keeps : (s : List ℕ) (o : Option Instr) (t : Thread) → KeepsAct (marks t.notes) (act s o t)
+act_keeps : (s : List ℕ) (o : Option Instr) (t : Thread) → KeepsAct (marks t.notes) (pattern_act s o t)
 act_keeps s None t = tt
 act_keeps s (Some (Do k)) t = forked_keeps t (ends_at s k t.cursor)
 act_keeps s (Some (Split d)) t = (onward_keeps t (t.place + 1) t.cursor, refl)
@@ -217,78 +217,78 @@ answered_keeps s (ForSaid x v) t IsSaid = refl
 answered_keeps s (ForSaid x v) t _ = tt
 
 -- The choices kept.
-pub kept_all : (cs : List Choice) → kept (length cs) cs ≡ cs
+pub kept_all : (cs : List Choice) → choices_kept (length cs) cs ≡ cs
 kept_all cs = let e : length cs - length cs ≡ 0 = omega arith in ap (λ n. drop n cs) e
 
-pub kept_before : (m : ℕ) (ch : Choice) (cs : List Choice) → m ≤ length cs → kept m (ch ∷ cs) ≡ kept m cs
+pub kept_before : (m : ℕ) (ch : Choice) (cs : List Choice) → m ≤ length cs → choices_kept m (ch ∷ cs) ≡ choices_kept m cs
 kept_before m ch cs le =
     let e : length (ch ∷ cs) - m ≡ suc (length cs - m) = omega (arith, le) in ap (λ n. drop n (ch ∷ cs)) e
 
 -- The steps.
 module _ (s : List ℕ) (code : Code) where
   -- the one state comes to the other
-  pub record Comes (x y : State) : Type 0 where
-    pub by : (k : ℕ) → (j : ℕ) × (k ≤ j) × (steps s code j x ≡ steps s code k y)
+  pub record Comes (x y : MatchState) : Type 0 where
+    pub by : (k : ℕ) → (j : ℕ) × (k ≤ j) × (pattern_steps s code j x ≡ pattern_steps s code k y)
 
-  comes_refl : (x : State) → Comes x x
+  comes_refl : (x : MatchState) → Comes x x
   comes_refl x = record { by = λ k. (k, omega arith, refl) }
 
-  comes_step : (x y : State) → Comes (step s code x) y → Comes x y
+  comes_step : (x y : MatchState) → Comes (pattern_step s code x) y → Comes x y
   comes_step x y h = record { by = λ k. let a = h.by k in (suc a.0, omega (arith, a.1), a.2) }
 
-  comes_trans : (x y z : State) → Comes x y → Comes y z → Comes x z
+  comes_trans : (x y z : MatchState) → Comes x y → Comes y z → Comes x z
   comes_trans x y z g h = record { by = λ k. let b = h.by k in let a = g.by b.0 in (a.0, omega (arith, a.1, b.1), a.2 ∙ b.2) }
 
   -- it comes to this event
-  abbrev pub Ends : State → Event ℕ → Type 0
-  Ends x e = (j : ℕ) × (event_of (steps s code j x) ≡ e)
+  abbrev pub Ends : MatchState → Event ℕ → Type 0
+  Ends x e = (j : ℕ) × (event_of (pattern_steps s code j x) ≡ e)
 
-  ends_along : (x y : State) (e : Event ℕ) → Comes x y → Ends y e → Ends x e
+  ends_along : (x y : MatchState) (e : Event ℕ) → Comes x y → Ends y e → Ends x e
   ends_along x y e g h = let a = g.by h.0 in (a.0, ap event_of a.2 ∙ h.1)
 
   -- it is still running where n - 1 steps or more are done
-  abbrev pub Lasts : ℕ → State → Type 0
+  abbrev pub Lasts : ℕ → MatchState → Type 0
   Lasts zero x = Unit {0}
-  Lasts (suc n) x = (j : ℕ) × (n ≤ j) × (event_of (steps s code j x) ≡ Running)
+  Lasts (suc n) x = (j : ℕ) × (n ≤ j) × (event_of (pattern_steps s code j x) ≡ Running)
 
-  lasts_along : (n : ℕ) (x y : State) → Comes x y → Lasts n y → Lasts n x
+  lasts_along : (n : ℕ) (x y : MatchState) → Comes x y → Lasts n y → Lasts n x
   lasts_along zero x y g h = tt
   lasts_along (suc n) x y g h = let a = g.by h.0 in (a.0, omega (arith, a.1, h.1), ap event_of a.2 ∙ h.2)
 
-  lasts_step : (n : ℕ) (x : State) → event_of x ≡ Running → Lasts n (step s code x) → Lasts (suc n) x
+  lasts_step : (n : ℕ) (x : MatchState) → event_of x ≡ Running → Lasts n (pattern_step s code x) → Lasts (suc n) x
   lasts_step zero x e h = (0, omega arith, e)
   lasts_step (suc n) x e h = (suc h.0, omega (arith, h.1), h.2)
 
-  lasts_less : (n : ℕ) (x : State) → Lasts (suc n) x → Lasts n x
+  lasts_less : (n : ℕ) (x : MatchState) → Lasts (suc n) x → Lasts n x
   lasts_less zero x h = tt
   lasts_less (suc n) x h = (h.0, omega (arith, h.1), h.2)
 
   -- from x, with these choices and this start to go back to and these numbers noted, the steps do what was found
-  abbrev pub Gives : ℕ → State → List Choice → List ℕ → ℕ → ℕ → Found' → Type 0
+  abbrev pub Gives : ℕ → MatchState → List Choice → List ℕ → ℕ → ℕ → Found' → Type 0
   Gives n x cs ms b left (Hit e a u) = Ends x (Matched b e a)
   Gives n x cs ms b left (Miss u) = Comes x (back cs b left u)
   Gives n x cs ms b left Stop = Ends x Failed
   Gives n x cs ms b left Deep = Lasts n x
   Gives n x cs ms b left (Wait (Question v)) = Ends x (Asks v)
-  Gives n x cs ms b left (Wait (Closed m t u)) = (ms ≡ m ∷ marks t.notes) × Comes x (go t (kept m cs) b left u)
+  Gives n x cs ms b left (Wait (Closed m t u)) = (ms ≡ m ∷ marks t.notes) × Comes x (go t (choices_kept m cs) b left u)
 
-  gives_step : (n : ℕ) (x : State) (cs : List Choice) (ms : List ℕ) (b left : ℕ) (r : Found') → event_of x ≡ Running → Gives n (step s code x) cs ms b left r → Gives (suc n) x cs ms b left r
+  gives_step : (n : ℕ) (x : MatchState) (cs : List Choice) (ms : List ℕ) (b left : ℕ) (r : Found') → event_of x ≡ Running → Gives n (pattern_step s code x) cs ms b left r → Gives (suc n) x cs ms b left r
   gives_step n x cs ms b left (Hit e a u) o h = (suc h.0, h.1)
   gives_step n x cs ms b left (Miss u) o h = comes_step x (back cs b left u) h
   gives_step n x cs ms b left Stop o h = (suc h.0, h.1)
   gives_step n x cs ms b left Deep o h = lasts_step n x o h
   gives_step n x cs ms b left (Wait (Question v)) o h = (suc h.0, h.1)
-  gives_step n x cs ms b left (Wait (Closed m t u)) o h = (h.0, comes_step x (go t (kept m cs) b left u) h.1)
+  gives_step n x cs ms b left (Wait (Closed m t u)) o h = (h.0, comes_step x (go t (choices_kept m cs) b left u) h.1)
 
-  gives_along : (n : ℕ) (x y : State) (cs : List Choice) (ms : List ℕ) (b left : ℕ) (r : Found') → Comes x y → Gives n y cs ms b left r → Gives n x cs ms b left r
+  gives_along : (n : ℕ) (x y : MatchState) (cs : List Choice) (ms : List ℕ) (b left : ℕ) (r : Found') → Comes x y → Gives n y cs ms b left r → Gives n x cs ms b left r
   gives_along n x y cs ms b left (Hit e a u) g h = ends_along x y (Matched b e a) g h
   gives_along n x y cs ms b left (Miss u) g h = comes_trans x y (back cs b left u) g h
   gives_along n x y cs ms b left Stop g h = ends_along x y Failed g h
   gives_along n x y cs ms b left Deep g h = lasts_along n x y g h
   gives_along n x y cs ms b left (Wait (Question v)) g h = ends_along x y (Asks v) g h
-  gives_along n x y cs ms b left (Wait (Closed m t u)) g h = (h.0, comes_trans x y (go t (kept m cs) b left u) g h.1)
+  gives_along n x y cs ms b left (Wait (Closed m t u)) g h = (h.0, comes_trans x y (go t (choices_kept m cs) b left u) g h.1)
 
-  gives_less : (n : ℕ) (x : State) (cs : List Choice) (ms : List ℕ) (b left : ℕ) (r : Found') → Gives (suc n) x cs ms b left r → Gives n x cs ms b left r
+  gives_less : (n : ℕ) (x : MatchState) (cs : List Choice) (ms : List ℕ) (b left : ℕ) (r : Found') → Gives (suc n) x cs ms b left r → Gives n x cs ms b left r
   gives_less n x cs ms b left (Hit e a u) h = h
   gives_less n x cs ms b left (Miss u) h = h
   gives_less n x cs ms b left Stop h = h
@@ -297,7 +297,7 @@ module _ (s : List ℕ) (code : Code) where
   gives_less n x cs ms b left (Wait (Closed m t u)) h = h
 
   -- what is tried first, with the rest kept as a choice
-  gives_on_miss : (n : ℕ) (x : State) (ch : Choice) (cs : List Choice) (ms : List ℕ) (b left : ℕ) (r : Found') (k : Answers → Found') → AreWithin (length cs) ms → Gives n x (ch ∷ cs) ms b left r → ((u : Answers) → Gives n (Returning ch cs b left u) cs ms b left (k u)) → Gives n x cs ms b left (on_miss r k)
+  gives_on_miss : (n : ℕ) (x : MatchState) (ch : Choice) (cs : List Choice) (ms : List ℕ) (b left : ℕ) (r : Found') (k : Answers → Found') → AreWithin (length cs) ms → Gives n x (ch ∷ cs) ms b left r → ((u : Answers) → Gives n (Returning ch cs b left u) cs ms b left (k u)) → Gives n x cs ms b left (on_miss r k)
   gives_on_miss n x ch cs ms b left (Hit e a u) k w g h = g
   gives_on_miss n x ch cs ms b left (Miss u) k w g h = gives_along n x (Returning ch cs b left u) cs ms b left (k u) g (h u)
   gives_on_miss n x ch cs ms b left Stop k w g h = g
@@ -308,7 +308,7 @@ module _ (s : List ℕ) (code : Code) where
       (g.0, subst (λ z. Comes x (go t z b left u)) (kept_before m ch cs le) g.1)
 
   -- a fence is opened, and what it closes goes on with the choices that there were
-  gives_on_closed : (n : ℕ) (x : State) (cs : List Choice) (ms : List ℕ) (b left : ℕ) (r : Found') (k : Thread → Answers → Found') → Gives n x cs (length cs ∷ ms) b left r → ((t : Thread) (u : Answers) → marks t.notes ≡ ms → Gives n (go t cs b left u) cs ms b left (k t u)) → Gives n x cs ms b left (on_closed r k)
+  gives_on_closed : (n : ℕ) (x : MatchState) (cs : List Choice) (ms : List ℕ) (b left : ℕ) (r : Found') (k : Thread → Answers → Found') → Gives n x cs (length cs ∷ ms) b left r → ((t : Thread) (u : Answers) → marks t.notes ≡ ms → Gives n (go t cs b left u) cs ms b left (k t u)) → Gives n x cs ms b left (on_closed r k)
   gives_on_closed n x cs ms b left (Hit e a u) k g h = g
   gives_on_closed n x cs ms b left (Miss u) k g h = g
   gives_on_closed n x cs ms b left Stop k g h = g
@@ -319,7 +319,7 @@ module _ (s : List ℕ) (code : Code) where
       let first : m ≡ length cs = cc in
       let rest : marks t.notes ≡ ms = cc in
       gives_along n x (go t cs b left u) cs ms b left (k t u)
-      (subst (λ z. Comes x (go t z b left u)) (kept_all cs) (subst (λ i. Comes x (go t (kept i cs) b left u)) first g.1)) (h t u rest)
+      (subst (λ z. Comes x (go t z b left u)) (kept_all cs) (subst (λ i. Comes x (go t (choices_kept i cs) b left u)) first g.1)) (h t u rest)
 
   -- each attempt does what the search finds at bound n
   abbrev pub Follows : ℕ → Type 0
@@ -372,18 +372,18 @@ module _ (s : List ℕ) (code : Code) where
       gives_on_closed n (go (fenced (length cs) t) cs b left u) cs ms b left (run s n (length cs) (fenced (length cs) t) u) (λ d v. run s n (length cs) d v)
       (follow_on n f (fenced (length cs) t) cs (length cs ∷ ms) b left u (ap (λ z. length cs ∷ z) q) (omega arith, w))
       (λ d v e. follow_on n f d cs ms b left v e w)
-  act_follows n f g (Drops m t) cs ms b left u q w = (q, comes_refl (go t (kept m cs) b left u))
+  act_follows n f g (Drops m t) cs ms b left u q w = (q, comes_refl (go t (choices_kept m cs) b left u))
 
   again_follows : (n : ℕ) → Follows n → AgainFollows n → AgainFollows (suc n)
   again_follows n f g t cs ms b left u q w =
       gives_step n (Returning (Again t) cs b left u) cs ms b left (run s (suc n) (length cs) t u) refl
-      (act_follows n f g (act s (at_place t) t) cs ms b left u (subst (λ z. KeepsAct z (act s (at_place t) t)) q (act_keeps s (at_place t) t)) w)
+      (act_follows n f g (pattern_act s (at_place t) t) cs ms b left u (subst (λ z. KeepsAct z (pattern_act s (at_place t) t)) q (act_keeps s (at_place t) t)) w)
 
   go_follows : (n : ℕ) → Follows n → AgainFollows n → (t : Thread) (cs : List Choice) (b left : ℕ) (u : Answers) (o : Option Instr) → at_place t ≡ o → AreWithin (length cs) (marks t.notes) → Gives (suc n) (elim o [ None ↦ Over (Won b t.cursor t.pending) | Some i ↦ Going t cs b left u ]) cs (marks t.notes) b left (run s (suc n) (length cs) t u)
   go_follows n f g t cs b left u None e w =
-      subst (λ o. Gives (suc n) (Over (Won b t.cursor t.pending)) cs (marks t.notes) b left (doing s (run s n) (length cs) (act s o t) u)) (sym e) (0, refl)
+      subst (λ o. Gives (suc n) (Over (Won b t.cursor t.pending)) cs (marks t.notes) b left (doing s (run s n) (length cs) (pattern_act s o t) u)) (sym e) (0, refl)
   go_follows n f g t cs b left u (Some i) e w =
-      gives_step n (Going t cs b left u) cs (marks t.notes) b left (run s (suc n) (length cs) t u) refl (act_follows n f g (act s (at_place t) t) cs (marks t.notes) b left u (act_keeps s (at_place t) t) w)
+      gives_step n (Going t cs b left u) cs (marks t.notes) b left (run s (suc n) (length cs) t u) refl (act_follows n f g (pattern_act s (at_place t) t) cs (marks t.notes) b left u (act_keeps s (at_place t) t) w)
 
   both_follow : (n : ℕ) → Follows n × AgainFollows n
   both_follow zero = ((λ t cs b left u w. tt), (λ t cs ms b left u q w. tt))
@@ -395,11 +395,11 @@ module _ (s : List ℕ) (code : Code) where
   abbrev pub run_scan : ℕ → ℕ → ℕ → Answers → Event ℕ
   run_scan n left b u = over_starts (λ c w. bare (run s n 0 (settled [] code 0 c []) w)) left b u
 
-  abbrev Tells : ℕ → State → Event ℕ → Type 0
+  abbrev Tells : ℕ → MatchState → Event ℕ → Type 0
   Tells n x Running = Lasts n x
   Tells n x e = Ends x e
 
-  tells_along : (n : ℕ) (x y : State) (e : Event ℕ) → Comes x y → Tells n y e → Tells n x e
+  tells_along : (n : ℕ) (x y : MatchState) (e : Event ℕ) → Comes x y → Tells n y e → Tells n x e
   tells_along n x y Running g h = lasts_along n x y g h
   tells_along n x y Failed g h = ends_along x y Failed g h
   tells_along n x y (Asks v) g h = ends_along x y (Asks v) g h
@@ -408,7 +408,7 @@ module _ (s : List ℕ) (code : Code) where
   none_closed : {A : Type 0} (m : ℕ) (ms : List ℕ) → [] ≡ m ∷ ms → A
   none_closed m ms e = cc
 
-  tells_start : (n : ℕ) (x : State) (b left : ℕ) (r : Found') (k : Answers → Event ℕ) → Gives n x [] [] b left r → ((u : Answers) → Tells n (back [] b left u) (k u)) → Tells n x (started b (bare r) k)
+  tells_start : (n : ℕ) (x : MatchState) (b left : ℕ) (r : Found') (k : Answers → Event ℕ) → Gives n x [] [] b left r → ((u : Answers) → Tells n (back [] b left u) (k u)) → Tells n x (started b (bare r) k)
   tells_start n x b left (Hit e a u) k g h = g
   tells_start n x b left (Miss u) k g h = tells_along n x (back [] b left u) (k u) g (h u)
   tells_start n x b left Stop k g h = g
@@ -433,7 +433,7 @@ module _ (s : List ℕ) (code : Code) where
   IsOver Running = ⊥
   IsOver _ = Unit {0}
 
-  over_stays : (x : State) → IsOver (event_of x) → step s code x ≡ x
+  over_stays : (x : MatchState) → IsOver (event_of x) → pattern_step s code x ≡ x
   over_stays (Starting b left u) h = absurd h
   over_stays (Going t cs b left u) h = absurd h
   over_stays (Returning ch cs b left u) h = absurd h
@@ -441,20 +441,20 @@ module _ (s : List ℕ) (code : Code) where
   over_stays (Waits w t cs b left (y ∷ u)) h = absurd h
   over_stays (Over e) h = refl
 
-  pub all_stays : (k : ℕ) (x : State) → IsOver (event_of x) → steps s code k x ≡ x
+  pub all_stays : (k : ℕ) (x : MatchState) → IsOver (event_of x) → pattern_steps s code k x ≡ x
   all_stays zero x h = refl
-  all_stays (suc k) x h = ap (steps s code k) (over_stays x h) ∙ all_stays k x h
+  all_stays (suc k) x h = ap (pattern_steps s code k) (over_stays x h) ∙ all_stays k x h
 
   -- what it comes to after j steps, it has come to after more
-  pub later : (j i : ℕ) (x : State) (e : Event ℕ) → IsOver e → j ≤ i → event_of (steps s code j x) ≡ e → event_of (steps s code i x) ≡ e
+  pub later : (j i : ℕ) (x : MatchState) (e : Event ℕ) → IsOver e → j ≤ i → event_of (pattern_steps s code j x) ≡ e → event_of (pattern_steps s code i x) ≡ e
   later zero i x e o le h = ap event_of (all_stays i x (subst IsOver (sym h) o)) ∙ h
   later (suc j) zero x e o le h = absurd (omega arith)
-  later (suc j) (suc i) x e o le h = later j i (step s code x) e o (omega arith) h
+  later (suc j) (suc i) x e o le h = later j i (pattern_step s code x) e o (omega arith) h
 
-  pub run_from_steps : (j left b : ℕ) (u : Answers) (e : Event ℕ) → IsOver e → event_of (steps s code j (Starting b left u)) ≡ e → run_scan j left b u ≡ e
+  pub run_from_steps : (j left b : ℕ) (u : Answers) (e : Event ℕ) → IsOver e → event_of (pattern_steps s code j (Starting b left u)) ≡ e → run_scan j left b u ≡ e
   run_from_steps j left b u e o h = same (run_scan j left b u) (steps_tell j left b u)
     where
-      two : (i : ℕ) (d : Event ℕ) → IsOver d → event_of (steps s code i (Starting b left u)) ≡ d → d ≡ e
+      two : (i : ℕ) (d : Event ℕ) → IsOver d → event_of (pattern_steps s code i (Starting b left u)) ≡ d → d ≡ e
       two i d od g =
           sym (later i (i + j) (Starting b left u) d od (omega arith) g) ∙ later j (i + j) (Starting b left u) e o (omega arith) h
 
@@ -464,7 +464,7 @@ module _ (s : List ℕ) (code : Code) where
       same (Asks v) g = two g.0 (Asks v) tt g.1
       same (Matched p q a) g = two g.0 (Matched p q a) tt g.1
 
-  tells_ends : (n : ℕ) (x : State) (e : Event ℕ) → IsOver e → Tells n x e → Ends x e
+  tells_ends : (n : ℕ) (x : MatchState) (e : Event ℕ) → IsOver e → Tells n x e → Ends x e
   tells_ends n x Running o h = absurd o
   tells_ends n x Failed o h = h
   tells_ends n x (Asks v) o h = h

@@ -1,10 +1,12 @@
 -- The first end of a plain pattern is what its scan answers.
 use Rattle.std.proofs.Common.{◌≡◌, ℕ, zero, suc, ◌+◌, List, [], ◌∷◌, ◌++◌, refl, sym, ◌∙◌, ap, subst, arith, ◌≤◌, ◌⊎◌, inl, inr, append_assoc}
 use Rattle.std.proofs.lemmas.List.{append-nil}
-use Rattle.model.specs.Pattern.Patterns.{Basic, Lit, Pat, Plain, Succeed, Abort, Fence, Cat, Alt, Arbno, FenceOf, Cond, Imm, At, Defer, DeferBasic, Name, Expr, Pending, Ask, Event, Running, Failed, Asks}
+use Rattle.model.specs.Pattern.Patterns.{Basic, Lit, Pat, Plain, Succeed, Abort, Fence, Cat, Alt, Arbno, FenceOf, Cond, Imm, At, Defer, DeferBasic, Pending, Ask, Event, Running, Failed, Asks}
 use Rattle.model.specs.Pattern.BasicEnds.{ends_at}
 use Rattle.model.specs.Pattern.Ends.{Item, End, Aborted, join, replaced, first_only, put_before, plain_ends, between, ends, IsPlain, first_item, first}
 use Rattle.model.specs.Pattern.Search.{Hit, Miss, Stop, Deep, Wait, on_miss, on_hit, try_each, Goal, Part, Closing, Found', Script, search, started, over_starts, scan}
+use Rattle.model.specs.Deck.Target.{Name}
+use Rattle.model.specs.Deck.Trees.{Expr}
 use Rattle.model.proofs.Pattern.SearchGrows.{Grows, grows_refl, on_miss_grows, on_hit_grows, search_more, search_grows}
 use Rattle.model.proofs.Pattern.Ends.{Begins, ends_more}
 use Rattle.model.proofs.Pattern.Followed.{AlikeFound, misses, finals, SameEnd, hits, stops, waits, AlikeTold, fail, match, ask, Followed, at_more, by_equal, alike_grows, then_followed, on_miss_followed, on_miss_none, EventFollowed, over_starts_followed}

@@ -2,10 +2,11 @@
 use Rattle.std.proofs.Common.{◌≡◌, ℕ, ℤ, zero, suc, ◌+◌, [], ◌∷◌, ◌++◌, length, refl, sym, ◌∙◌, ap, subst, arith, ◌≤◌, ◌<◌, ◌⊎◌, inl, inr, Option, Some, None, length-append}
 use Rattle.std.specs.Prelude.{slice_get, pos, negsuc}
 use Rattle.std.proofs.lemmas.Option.{slice_get_past}
-use Rattle.model.specs.Pattern.Patterns.{Lit, Pat, Plain, Succeed, Abort, Fence, Cat, Alt, Arbno, FenceOf, Cond, Imm, At, Defer, DeferBasic, Expr, Instr, Split, Jmp, Open, OpenFence, CloseFence, Close, Say}
+use Rattle.model.specs.Pattern.Patterns.{Lit, Pat, Plain, Succeed, Abort, Fence, Cat, Alt, Arbno, FenceOf, Cond, Imm, At, Defer, DeferBasic, Instr, Split, Jmp, Open, OpenFence, CloseFence, Close, Say}
 use Rattle.model.specs.Pattern.Steps.{Code, at_distance, past_jump, on_after}
 use Rattle.model.specs.Pattern.Stands.{Stands}
 use Rattle.model.specs.Pattern.Code.{led_past, exit_past, exits_past, alt_code, arbno_code}
+use Rattle.model.specs.Deck.Trees.{Expr}
 use Rattle.model.proofs.Pattern.Exits.{led_here, Within, exits_none, exits_length, exits_before, exits_last, exits_twice}
 use Rattle.model.proofs.Pattern.StandsAt.{HasAt, has_front, has_back, has_all, stands_within, none_or_some, null_code, behind, alt_length}
 

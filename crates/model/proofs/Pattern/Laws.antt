@@ -1,6 +1,6 @@
 -- The laws, as they are stated.
 use Rattle.std.proofs.Common.{◌≡◌, ℕ, List, [], ◌∷◌, refl, sym, ◌∙◌, ap, subst, inl, inr}
-use Rattle.model.specs.Pattern.Patterns.{Expr, Event, Running, Failed, Asks, Matched, Pending}
+use Rattle.model.specs.Pattern.Patterns.{Event, Running, Failed, Asks, Matched, Pending}
 use Rattle.model.specs.Pattern.Ends.{Item, End, Aborted, Deep, ends, Permits}
 use Rattle.model.specs.Pattern.Search.{scan}
 use Rattle.model.specs.Laws.Patterns.{Begins, EndsGrow, SearchStays, ScanStays, IsItem, EndsPermitted, StepsOfScan, ScanOfSteps}
@@ -9,6 +9,7 @@ use Rattle.model.proofs.Pattern.Ends.{Begins as BeginsBy, ends_more, EachEnd, ea
 use Rattle.model.proofs.Pattern.CodeEvents.{steps_of_scan, scan_of_steps}
 use Rattle.model.specs.Pattern.Search as S
 use Rattle.model.specs.Pattern.Search.{Found', search, Part}
+use Rattle.model.specs.Deck.Trees.{Expr}
 
 begins : (xs ys : List Item) → BeginsBy xs ys → Begins xs ys
 begins [] ys h = inl (sym h)

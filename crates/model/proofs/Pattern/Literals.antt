@@ -1,7 +1,7 @@
 -- Patterns of literals, `|` and blank: some scan isn't deep, and what is answered is right.
 use Rattle.std.proofs.Common.{◌≡◌, ℕ, zero, suc, ◌+◌, List, [], ◌∷◌, ◌++◌, refl, sym, ◌∙◌, ap, subst, arith, ◌≤◌, ◌⊎◌, inl, inr, Option}
 use Rattle.std.specs.Prelude.{◌≢◌, max}
-use Rattle.model.specs.Pattern.Patterns.{Lit, Pat, Plain, Cat, Alt, Expr, Pending, Event, Running, Failed, Asks, Matched}
+use Rattle.model.specs.Pattern.Patterns.{Lit, Pat, Plain, Cat, Alt, Pending, Event, Running, Failed, Asks, Matched}
 use Rattle.model.specs.Pattern.BasicEnds.{ends_at}
 use Rattle.model.specs.Pattern.Ends.{Item, End, Aborted, Deep, join, replaced, put_before, plain_ends, ends, first_item, first, IsOneOf, Permits, IsPlain, IsOfLiterals}
 use Rattle.model.specs.Pattern.Search.{scan}
@@ -9,6 +9,7 @@ use Rattle.model.specs.Pattern.Steps.{match_steps, event_of}
 use Rattle.model.specs.Pattern.Stands as St
 use Rattle.model.specs.Pattern.Stands.{Stands, AlikeEvent}
 use Rattle.model.specs.Laws.Patterns.{IsItem, IsStart, TellsRight, LiteralsScanned, LiteralScansRight, LiteralsRun, LiteralRunsRight}
+use Rattle.model.specs.Deck.Trees.{Expr}
 use Rattle.model.proofs.Pattern.SearchGrows.{EventGrows}
 use Rattle.model.proofs.Pattern.Ends.{Begins, ends_more, EachEnd, each_permitted}
 use Rattle.model.proofs.Pattern.Laws.{event_same}

@@ -1,9 +1,10 @@
 -- What a search, a scan and the ends give stays at a greater bound.
 use Rattle.std.proofs.Common.{◌≡◌, ℕ, zero, suc, ◌+◌, List, [], ◌∷◌, ◌++◌, refl, sym, ap, subst, arith, ◌≤◌}
-use Rattle.model.specs.Pattern.Patterns.{Basic, Lit, Pat, Plain, Succeed, Abort, Fence, Cat, Alt, Arbno, FenceOf, Cond, Imm, At, Defer, DeferBasic, Expr, Kind, Pending, Answer, IsPattern, IsSaid, Ask, SayThat, Text, Number, Event, Running, Failed, with_answer}
+use Rattle.model.specs.Pattern.Patterns.{Basic, Lit, Pat, Plain, Succeed, Abort, Fence, Cat, Alt, Arbno, FenceOf, Cond, Imm, At, Defer, DeferBasic, Kind, Pending, Answer, IsPattern, IsSaid, Ask, SayThat, Text, Number, Event, Running, Failed, with_answer}
 use Rattle.model.specs.Pattern.BasicEnds.{ends_at}
 use Rattle.model.specs.Pattern.Ends.{between}
-use Rattle.model.specs.Pattern.Search.{Found, Hit, Miss, Stop, Deep, Wait, on_miss, on_hit, try_each, Goal, Part, Closing, Saying, Found', Script, Next, told, given, given_argument, rule, level, search, started, over_starts, scan}
+use Rattle.model.specs.Pattern.Search.{Found, Hit, Miss, Stop, Deep, Wait, on_miss, on_hit, try_each, Goal, Part, Closing, Saying, Found', Script, SearchOn, told_that, given_pattern, given_argument, search_rule, level, search, started, over_starts, scan}
+use Rattle.model.specs.Deck.Trees.{Expr}
 
 -- what x found, y finds
 abbrev pub Grows : {E P : Type 0} → Found E P → Found E P → Type 0
@@ -43,15 +44,15 @@ try_each_grows k l h [] t = refl
 try_each_grows k l h (e ∷ es) t =
     on_miss_grows (k e t) (l e t) (λ u. try_each k es u) (λ u. try_each l es u) (h e t) (λ u. try_each_grows k l h es u)
 
-abbrev pub NextGrows : Next → Next → Type 0
+abbrev pub NextGrows : SearchOn → SearchOn → Type 0
 NextGrows f g = (rest : List Goal) (c : ℕ) (a : Pending) (t : Script) → Grows (f rest c a t) (g rest c a t)
 
-told_grows : (v : Ask Expr) (k l : Script → Found') → ((t : Script) → Grows (k t) (l t)) → (t : Script) → Grows (told v k t) (told v l t)
+told_grows : (v : Ask Expr) (k l : Script → Found') → ((t : Script) → Grows (k t) (l t)) → (t : Script) → Grows (told_that v k t) (told_that v l t)
 told_grows v k l h [] = refl
 told_grows v k l h (IsSaid ∷ t) = h t
 told_grows v k l h (_ ∷ t) = refl
 
-given_grows : (x : Expr) (k l : Pat → Script → Found') → ((p : Pat) (t : Script) → Grows (k p t) (l p t)) → (t : Script) → Grows (given x k t) (given x l t)
+given_grows : (x : Expr) (k l : Pat → Script → Found') → ((p : Pat) (t : Script) → Grows (k p t) (l p t)) → (t : Script) → Grows (given_pattern x k t) (given_pattern x l t)
 given_grows x k l h [] = refl
 given_grows x k l h (IsPattern p ∷ t) = h p t
 given_grows x k l h (_ ∷ t) = refl
@@ -60,7 +61,7 @@ argument_grows : (j : Kind) (x : Expr) (k l : Basic → Script → Found') → (
 argument_grows j x k l h [] = refl
 argument_grows j x k l h (y ∷ t) = h (with_answer j y) t
 
-rule_grows : (s : List ℕ) (f g : Next) → NextGrows f g → (x : Goal) (rest : List Goal) (c : ℕ) (a : Pending) (t : Script) → Grows (rule s f x rest c a t) (rule s g x rest c a t)
+rule_grows : (s : List ℕ) (f g : SearchOn) → NextGrows f g → (x : Goal) (rest : List Goal) (c : ℕ) (a : Pending) (t : Script) → Grows (search_rule s f x rest c a t) (search_rule s g x rest c a t)
 rule_grows s f g h (Part (Plain k)) rest c a t = try_each_grows (λ e u. f rest e a u) (λ e u. g rest e a u) (λ e u. h rest e a u) (ends_at s k c) t
 rule_grows s f g h (Part Succeed) rest c a t = on_miss_grows (f rest c a t) (g rest c a t) (λ u. f (Part Succeed ∷ rest) c a u) (λ u. g (Part Succeed ∷ rest) c a u) (h rest c a t) (λ u. h (Part Succeed ∷ rest) c a u)
 rule_grows s f g h (Part Abort) rest c a t = refl
@@ -77,7 +78,7 @@ rule_grows s f g h (Part (DeferBasic k x)) rest c a t = argument_grows k x (λ b
 rule_grows s f g h (Closing x b) rest c a t = h rest c (a ++ (x, between s b c) ∷ []) t
 rule_grows s f g h (Saying x b) rest c a t = told_grows (SayThat x (Text (between s b c))) (λ u. f rest c a u) (λ u. g rest c a u) (λ u. h rest c a u) t
 
-level_grows : (s : List ℕ) (f g : Next) → NextGrows f g → NextGrows (level s f) (level s g)
+level_grows : (s : List ℕ) (f g : SearchOn) → NextGrows f g → NextGrows (level s f) (level s g)
 level_grows s f g h [] c a t = refl
 level_grows s f g h (x ∷ rest) c a t = rule_grows s f g h x rest c a t
 

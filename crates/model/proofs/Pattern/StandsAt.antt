@@ -3,11 +3,13 @@ use Rattle.std.proofs.Common.{◌≡◌, ℕ, ℤ, zero, suc, ◌+◌, List, [],
 use Rattle.std.specs.Prelude.{slice_get, pos, negsuc}
 use Rattle.std.proofs.Math.Seq.{get_or-append_seam}
 use Rattle.std.proofs.lemmas.Option.{slice_get-get_or, slice_get_past}
-use Rattle.model.specs.Pattern.Patterns.{Lit, Pat, Plain, Succeed, Abort, Fence, Cat, Alt, Arbno, FenceOf, Cond, Imm, At, Defer, DeferBasic, Name, Expr, Instr, Do, Split, Jmp, DoSucceed, DoAbort, DoFence, Open, OpenFence, CloseFence, Close, Say, AtCursor, Eval, EvalBasic}
+use Rattle.model.specs.Pattern.Patterns.{Lit, Pat, Plain, Succeed, Abort, Fence, Cat, Alt, Arbno, FenceOf, Cond, Imm, At, Defer, DeferBasic, Instr, Do, Split, Jmp, DoSucceed, DoAbort, DoFence, Open, OpenFence, CloseFence, Close, Say, AtCursor, Eval, EvalBasic}
 use Rattle.model.specs.Pattern.Search.{Goal, Part, Closing, Saying}
 use Rattle.model.specs.Pattern.Steps.{Code, Note, Opened, Fenced, Left, at_distance, past_jump, on_after}
 use Rattle.model.specs.Pattern.Stands.{Stands}
 use Rattle.model.specs.Pattern.Code.{led_past, exit_past, exits_past, alt_code, arbno_code}
+use Rattle.model.specs.Deck.Target.{Name}
+use Rattle.model.specs.Deck.Trees.{Expr}
 use Rattle.model.proofs.Pattern.Exits.{led_here, led_not, Within, exits_none, exits_length, exits_before, exits_last, exits_twice, within_append, within_exits}
 
 -- from p to x by k jumps

@@ -2,15 +2,17 @@
 use Rattle.std.proofs.Common.{◌≡◌, ℕ, ℤ, zero, suc, ◌+◌, ◌-◌, ◌*◌, List, [], ◌∷◌, ◌++◌, refl, sym, ◌∙◌, ap, subst, arith, ◌≤◌, ◌<◌, ◌⊎◌, inl, inr, Option, Some, None}
 use Rattle.std.specs.Prelude.{slice_get, pos, negsuc, Bool, true, false, not, ◌&&◌, length, drop, ◌==◌, nat_le, nat_lt, eqb}
 use Rattle.std.specs.List.{starts_with, prefix_len}
-use Rattle.model.specs.Pattern.Patterns.{Basic, Lit, Len, Pos, RPos, Tab, RTab, AnyOf, NotAnyOf, Span, Break, Rem, Arb, Bal, Pat, Plain, Succeed, Abort, Fence, Cat, Alt, Arbno, FenceOf, Cond, Imm, At, Defer, DeferBasic, Name, Expr, Kind, Instr, Do, Split, Jmp, DoSucceed, DoAbort, DoFence, Open, OpenFence, CloseFence, Close, Say, AtCursor, Eval, EvalBasic, Pending, Answer, IsPattern, IsCount, IsBytes, IsFailed, IsSaid, Ask, AskFor, SayThat, Told, Text, Number, Event, Running, Failed, Asks, Matched, want_of, with_answer}
-use Rattle.model.specs.Pattern.BasicEnds.{is_among, end_if, one_byte, ends_at}
+use Rattle.model.specs.Pattern.Patterns.{Basic, Lit, Len, Pos, RPos, Tab, RTab, AnyOf, NotAnyOf, Span, Break, Rem, Arb, Bal, Pat, Plain, Succeed, Abort, Fence, Cat, Alt, Arbno, FenceOf, Cond, Imm, At, Defer, DeferBasic, Kind, Instr, Do, Split, Jmp, DoSucceed, DoAbort, DoFence, Open, OpenFence, CloseFence, Close, Say, AtCursor, Eval, EvalBasic, Pending, Answer, IsPattern, IsCount, IsBytes, IsFailed, IsSaid, Ask, AskFor, SayThat, Told, Text, Number, Event, Running, Failed, Asks, Matched, want_of_kind, with_answer}
+use Rattle.model.specs.Pattern.BasicEnds.{is_in_set, end_if, one_byte, ends_at}
 use Rattle.model.specs.Pattern.Ends.{between}
-use Rattle.model.specs.Pattern.Search.{Hit, Miss, Stop, Deep, Wait, on_miss, on_hit, try_each, Goal, Part, Closing, Saying, Found', Script, search, told, given, given_argument, started, scan}
-use Rattle.model.specs.Pattern.Steps.{Code, Answers, Thread, Note, Opened, Fenced, Left, settled, Choice, Retry, Again, Quit, ForSaid, ForPattern, ForArgument, act, forked, at_distance, on_after, State, Starting, Going, Returning, Waits, Over, Won, go, back, after_move, kept, after_act, step, steps, event_of, match_steps}
+use Rattle.model.specs.Pattern.Search.{Hit, Miss, Stop, Deep, Wait, on_miss, on_hit, try_each, Goal, Part, Closing, Saying, Found', Script, search, told_that, given_pattern, given_argument, started, scan}
+use Rattle.model.specs.Pattern.Steps.{Code, Answers, Thread, Note, Opened, Fenced, Left, settled, Choice, Retry, Again, Quit, ForSaid, ForPattern, ForArgument, pattern_act, forked, at_distance, on_after, MatchState, Starting, Going, Returning, Waits, Over, Won, go, back, after_move, choices_kept, after_act, pattern_step, pattern_steps, event_of, match_steps}
 use Rattle.model.specs.Pattern.Stands as St
 use Rattle.model.specs.Pattern.Stands.{Stands, Alike, none, more, patterns, counts, bytes, failed, said, AlikeAsk, asked, says, AlikeEvent}
 use Rattle.model.specs.Language.RulesUsed.{if_missed, if_hit, end_counts, each_count, told_count, given_count, argument_count, rule_count, search_count, scan_count}
 use Rattle.model.specs.Laws.StepBound.{PatternStepsBounded, PatternStepsOnBounded}
+use Rattle.model.specs.Deck.Target.{Name}
+use Rattle.model.specs.Deck.Trees.{Expr}
 use Rattle.model.proofs.Pattern.Followed.{on_miss_none}
 use Rattle.model.proofs.Pattern.StandsAt.{StandsAt, Ending, Whole, InFence, RestAt, ended, fence_ended, left as entered, jump, part, closing, saying, jumps_rest, stands_alone, past_end, rest_after}
 use Rattle.model.proofs.Pattern.JumpsEnd.{below_or, NotForward, IsSplit, Fine, stands_fine, after_fine}
@@ -80,10 +82,10 @@ basic_cost s (Pos i) c f n t = single_cost f n (ends_at s (Pos i) c) t (single_i
 basic_cost s (RPos i) c f n t = single_cost f n (ends_at s (RPos i) c) t (single_if (c + i == length s) c)
 basic_cost s (Tab i) c f n t = single_cost f n (ends_at s (Tab i) c) t (single_if (nat_le c i && nat_le i (length s)) i)
 basic_cost s (RTab i) c f n t = single_cost f n (ends_at s (RTab i) c) t (single_if (nat_le (c + i) (length s)) (length s - i))
-basic_cost s (AnyOf w) c f n t = single_cost f n (ends_at s (AnyOf w) c) t (single_byte (is_among w) (drop c s) c)
-basic_cost s (NotAnyOf w) c f n t = single_cost f n (ends_at s (NotAnyOf w) c) t (single_byte (λ b. not (is_among w b)) (drop c s) c)
-basic_cost s (Span w) c f n t = single_cost f n (ends_at s (Span w) c) t (single_if (nat_lt 0 (prefix_len (is_among w) (drop c s))) (c + prefix_len (is_among w) (drop c s)))
-basic_cost s (Break w) c f n t = single_cost f n (ends_at s (Break w) c) t (single_if (nat_lt (c + prefix_len (λ b. not (is_among w b)) (drop c s)) (length s)) (c + prefix_len (λ b. not (is_among w b)) (drop c s)))
+basic_cost s (AnyOf w) c f n t = single_cost f n (ends_at s (AnyOf w) c) t (single_byte (is_in_set w) (drop c s) c)
+basic_cost s (NotAnyOf w) c f n t = single_cost f n (ends_at s (NotAnyOf w) c) t (single_byte (λ b. not (is_in_set w b)) (drop c s) c)
+basic_cost s (Span w) c f n t = single_cost f n (ends_at s (Span w) c) t (single_if (nat_lt 0 (prefix_len (is_in_set w) (drop c s))) (c + prefix_len (is_in_set w) (drop c s)))
+basic_cost s (Break w) c f n t = single_cost f n (ends_at s (Break w) c) t (single_if (nat_lt (c + prefix_len (λ b. not (is_in_set w b)) (drop c s)) (length s)) (c + prefix_len (λ b. not (is_in_set w b)) (drop c s)))
 basic_cost s Rem c f n t = single_cost f n (ends_at s Rem c) t tt
 basic_cost s Arb c f n t = several_cost f n (ends_at s Arb c) t
 basic_cost s Bal c f n t = several_cost f n (ends_at s Bal c) t
@@ -92,33 +94,33 @@ basic_cost s Rattle.model.specs.Pattern.Patterns.Fail c f n t = single_cost f n 
 -- ---- from a state, with these choices and this start to go back to, at most n steps lead to what was found
 
 module _ (s : List ℕ) (xs : ℕ → Option Expr) (main : Code) where
-  steps_add : (i j : ℕ) (x : State) → steps s main (i + j) x ≡ steps s main j (steps s main i x)
-  steps_add zero j x = let e : zero + j ≡ j = omega arith in ap (λ k. steps s main k x) e
-  steps_add (suc i) j x = let e : suc i + j ≡ suc (i + j) = omega arith in ap (λ k. steps s main k x) e ∙ steps_add i j (step s main x)
+  steps_add : (i j : ℕ) (x : MatchState) → pattern_steps s main (i + j) x ≡ pattern_steps s main j (pattern_steps s main i x)
+  steps_add zero j x = let e : zero + j ≡ j = omega arith in ap (λ k. pattern_steps s main k x) e
+  steps_add (suc i) j x = let e : suc i + j ≡ suc (i + j) = omega arith in ap (λ k. pattern_steps s main k x) e ∙ steps_add i j (pattern_step s main x)
 
 module _ (s : List ℕ) (xs : ℕ → Option Expr) (main : Code) (en : Ending) (base : List Choice) where
   -- what an end is: the match's, or on after the FCLOSE, with the choices that were there at its FOPEN
-  abbrev pub HitsAt : Ending → ℕ → ℕ → ℕ → Pending → Script → State → Type 0
+  abbrev pub HitsAt : Ending → ℕ → ℕ → ℕ → Pending → Script → MatchState → Type 0
   HitsAt Whole b left e a t x = event_of x ≡ Matched b e a
   HitsAt (InFence k code p notes) b left e a t x = (u : Answers) × Alike xs t u × (x ≡ go (settled notes code (p + 1) e a) base b left u)
 
   -- which an FCLOSE leaves of these choices
   abbrev pub Keeps : Ending → List Choice → Type 0
   Keeps Whole cs = Unit {0}
-  Keeps (InFence k code p notes) cs = (k ≤ length cs) × (kept k cs ≡ base)
+  Keeps (InFence k code p notes) cs = (k ≤ length cs) × (choices_kept k cs ≡ base)
 
   keeps_more : (o : Ending) (ch : Choice) (cs : List Choice) → Keeps o cs → Keeps o (ch ∷ cs)
   keeps_more Whole ch cs h = tt
   keeps_more (InFence k code p notes) ch cs h = (omega (arith, h.0), kept_before k ch cs h.0 ∙ h.1)
 
-  abbrev pub Costs : ℕ → State → List Choice → ℕ → ℕ → Found' → Type 0
-  Costs n x cs b left (Hit e a t) = (j : ℕ) × (j ≤ n) × HitsAt en b left e a t (steps s main j x)
-  Costs n x cs b left (Miss t) = (j : ℕ) × (j ≤ n) × (u : Answers) × Alike xs t u × (steps s main j x ≡ back cs b left u)
-  Costs n x cs b left Stop = (j : ℕ) × (j ≤ n) × (event_of (steps s main j x) ≡ Failed)
+  abbrev pub Costs : ℕ → MatchState → List Choice → ℕ → ℕ → Found' → Type 0
+  Costs n x cs b left (Hit e a t) = (j : ℕ) × (j ≤ n) × HitsAt en b left e a t (pattern_steps s main j x)
+  Costs n x cs b left (Miss t) = (j : ℕ) × (j ≤ n) × (u : Answers) × Alike xs t u × (pattern_steps s main j x ≡ back cs b left u)
+  Costs n x cs b left Stop = (j : ℕ) × (j ≤ n) × (event_of (pattern_steps s main j x) ≡ Failed)
   Costs n x cs b left Deep = Unit {0}
-  Costs n x cs b left (Wait v) = (j : ℕ) × (j ≤ n) × (w : Ask ℕ) × AlikeAsk xs v w × (event_of (steps s main j x) ≡ Asks w)
+  Costs n x cs b left (Wait v) = (j : ℕ) × (j ≤ n) × (w : Ask ℕ) × AlikeAsk xs v w × (event_of (pattern_steps s main j x) ≡ Asks w)
 
-  within : (n m : ℕ) (x : State) (cs : List Choice) (b left : ℕ) (r : Found') → n ≤ m → Costs n x cs b left r → Costs m x cs b left r
+  within : (n m : ℕ) (x : MatchState) (cs : List Choice) (b left : ℕ) (r : Found') → n ≤ m → Costs n x cs b left r → Costs m x cs b left r
   within n m x cs b left (Hit e a t) le h = (h.0, omega (arith, h.1), h.2)
   within n m x cs b left (Miss t) le h = (h.0, omega (arith, h.1), h.2, h.3, h.4)
   within n m x cs b left Stop le h = (h.0, omega (arith, h.1), h.2)
@@ -126,33 +128,33 @@ module _ (s : List ℕ) (xs : ℕ → Option Expr) (main : Code) (en : Ending) (
   within n m x cs b left (Wait v) le h = (h.0, omega (arith, h.1), h.2, h.3, h.4)
 
   -- one step before
-  one_more : (n : ℕ) (x : State) (cs : List Choice) (b left : ℕ) (r : Found') → Costs n (step s main x) cs b left r → Costs (suc n) x cs b left r
+  one_more : (n : ℕ) (x : MatchState) (cs : List Choice) (b left : ℕ) (r : Found') → Costs n (pattern_step s main x) cs b left r → Costs (suc n) x cs b left r
   one_more n x cs b left (Hit e a t) h = (suc h.0, omega (arith, h.1), h.2)
   one_more n x cs b left (Miss t) h = (suc h.0, omega (arith, h.1), h.2, h.3, h.4)
   one_more n x cs b left Stop h = (suc h.0, omega (arith, h.1), h.2)
   one_more n x cs b left Deep h = tt
   one_more n x cs b left (Wait v) h = (suc h.0, omega (arith, h.1), h.2, h.3, h.4)
 
-  along : (i m n : ℕ) (x y : State) (cs : List Choice) (b left : ℕ) (r : Found') → i ≤ m → steps s main i x ≡ y → Costs n y cs b left r → Costs (m + n) x cs b left r
-  along i m n x y cs b left (Hit e a t) le q h = (i + h.0, omega (arith, h.1), subst (HitsAt en b left e a t) (sym (steps_add s xs main i h.0 x ∙ ap (steps s main h.0) q)) h.2)
-  along i m n x y cs b left (Miss t) le q h = (i + h.0, omega (arith, h.1), h.2, h.3, steps_add s xs main i h.0 x ∙ ap (steps s main h.0) q ∙ h.4)
-  along i m n x y cs b left Stop le q h = (i + h.0, omega (arith, h.1), ap event_of (steps_add s xs main i h.0 x ∙ ap (steps s main h.0) q) ∙ h.2)
+  along : (i m n : ℕ) (x y : MatchState) (cs : List Choice) (b left : ℕ) (r : Found') → i ≤ m → pattern_steps s main i x ≡ y → Costs n y cs b left r → Costs (m + n) x cs b left r
+  along i m n x y cs b left (Hit e a t) le q h = (i + h.0, omega (arith, h.1), subst (HitsAt en b left e a t) (sym (steps_add s xs main i h.0 x ∙ ap (pattern_steps s main h.0) q)) h.2)
+  along i m n x y cs b left (Miss t) le q h = (i + h.0, omega (arith, h.1), h.2, h.3, steps_add s xs main i h.0 x ∙ ap (pattern_steps s main h.0) q ∙ h.4)
+  along i m n x y cs b left Stop le q h = (i + h.0, omega (arith, h.1), ap event_of (steps_add s xs main i h.0 x ∙ ap (pattern_steps s main h.0) q) ∙ h.2)
   along i m n x y cs b left Deep le q h = tt
-  along i m n x y cs b left (Wait v) le q h = (i + h.0, omega (arith, h.1), h.2, h.3, ap event_of (steps_add s xs main i h.0 x ∙ ap (steps s main h.0) q) ∙ h.4)
+  along i m n x y cs b left (Wait v) le q h = (i + h.0, omega (arith, h.1), h.2, h.3, ap event_of (steps_add s xs main i h.0 x ∙ ap (pattern_steps s main h.0) q) ∙ h.4)
 
   -- what is tried first, with the rest kept as a choice
-  on_miss_costs : (n1 : ℕ) (n2 : Script → ℕ) (x : State) (cs ds : List Choice) (b left : ℕ) (r : Found') (k : Script → Found') → Costs n1 x ds b left r → ((t : Script) (u : Answers) → Alike xs t u → Costs (n2 t) (back ds b left u) cs b left (k t)) → Costs (n1 + if_missed r n2) x cs b left (on_miss r k)
+  on_miss_costs : (n1 : ℕ) (n2 : Script → ℕ) (x : MatchState) (cs ds : List Choice) (b left : ℕ) (r : Found') (k : Script → Found') → Costs n1 x ds b left r → ((t : Script) (u : Answers) → Alike xs t u → Costs (n2 t) (back ds b left u) cs b left (k t)) → Costs (n1 + if_missed r n2) x cs b left (on_miss r k)
   on_miss_costs n1 n2 x cs ds b left (Hit e a t) k h g = (h.0, omega (arith, h.1), h.2)
   on_miss_costs n1 n2 x cs ds b left (Miss t) k h g = along h.0 n1 (n2 t) x (back ds b left h.2) cs b left (k t) h.1 h.4 (g t h.2 h.3)
   on_miss_costs n1 n2 x cs ds b left Stop k h g = (h.0, omega (arith, h.1), h.2)
   on_miss_costs n1 n2 x cs ds b left Deep k h g = tt
   on_miss_costs n1 n2 x cs ds b left (Wait v) k h g = (h.0, omega (arith, h.1), h.2, h.3, h.4)
 
-  no_miss : (n : ℕ) (x : State) (cs : List Choice) (b left : ℕ) (r : Found') → Costs n x cs b left r → Costs n x cs b left (on_miss r (λ u. Miss u))
+  no_miss : (n : ℕ) (x : MatchState) (cs : List Choice) (b left : ℕ) (r : Found') → Costs n x cs b left r → Costs n x cs b left (on_miss r (λ u. Miss u))
   no_miss n x cs b left r h = subst (Costs n x cs b left) (sym (on_miss_none r)) h
 
-  abbrev at_instr : Instr → Code → ℕ → List Note → ℕ → Pending → List Choice → ℕ → ℕ → Answers → State
-  at_instr i code p notes c a cs b left u = after_act (act s (Some i) (thread code p notes c a)) cs b left u
+  abbrev at_instr : Instr → Code → ℕ → List Note → ℕ → Pending → List Choice → ℕ → ℕ → Answers → MatchState
+  at_instr i code p notes c a cs b left u = after_act (pattern_act s (Some i) (thread code p notes c a)) cs b left u
 
   -- at an instruction, one step
   here : (n : ℕ) (i : Instr) (code : Code) (p : ℕ) (notes : List Note) (c : ℕ) (a : Pending) (cs : List Choice) (b left : ℕ) (u : Answers) (r : Found') → slice_get code p ≡ Some i → Costs n (at_instr i code p notes c a cs b left u) cs b left r → Costs (suc n) (go (settled notes code p c a) cs b left u) cs b left r
@@ -161,7 +163,7 @@ module _ (s : List ℕ) (xs : ℕ → Option Expr) (main : Code) (en : Ending) (
       let q : go (settled notes code p c a) cs b left u ≡ Going t cs b left u =
       ap (λ y. go y cs b left u) (settled_here notes code p c a i e) ∙ ap (λ o. elim o [ None ↦ Over (Won b c a) | Some j ↦ Going t cs b left u ]) e in
       subst (λ y. Costs (suc n) y cs b left r) (sym q)
-      (one_more n (Going t cs b left u) cs b left r (subst (λ o. Costs n (after_act (act s o t) cs b left u) cs b left r) (sym e) h))
+      (one_more n (Going t cs b left u) cs b left r (subst (λ o. Costs n (after_act (pattern_act s o t) cs b left u) cs b left r) (sym e) h))
 
   -- ---- from a place where these goals are still to match
 
@@ -200,7 +202,7 @@ module _ (s : List ℕ) (xs : ℕ → Option Expr) (main : Code) (en : Ending) (
 
   -- going back to a choice of ends is going on from the first of them
   retry_same : (code : Code) (p : ℕ) (notes : List Note) (c : ℕ) (a : Pending) (e : ℕ) (es : List ℕ) (cs : List Choice) (b left : ℕ) (u : Answers)
-      → step s main (Returning (Retry (p + 1) e es (thread code p notes c a)) cs b left u) ≡ after_move (forked (thread code p notes c a) (e ∷ es)) cs b left u
+      → pattern_step s main (Returning (Retry (p + 1) e es (thread code p notes c a)) cs b left u) ≡ after_move (forked (thread code p notes c a) (e ∷ es)) cs b left u
   retry_same code p notes c a e [] cs b left u = refl
   retry_same code p notes c a e (d ∷ es) cs b left u = refl
 
@@ -244,17 +246,17 @@ module _ (s : List ℕ) (xs : ℕ → Option Expr) (main : Code) (en : Ending) (
 
   again_forward : (n : ℕ) → Forward n → AgainForward n → AgainForward (suc n)
   again_forward n f g code p notes rest c a t u cs b left fc fn kp e r al =
-      let x : State = Returning (Again (thread code p notes c a)) cs b left u in
+      let x : MatchState = Returning (Again (thread code p notes c a)) cs b left u in
       let y : Found' = search s (suc n) (Part Succeed ∷ rest) c a t in
       within (suc (4 * rows n (Part Succeed) rest c a t)) (4 * suc (rows n (Part Succeed) rest c a t)) x cs b left y (omega arith)
       (one_more (4 * rows n (Part Succeed) rest c a t) x cs b left y
-      (subst (λ o. Costs (4 * rows n (Part Succeed) rest c a t) (after_act (act s o (thread code p notes c a)) cs b left u) cs b left y) (sym e)
+      (subst (λ o. Costs (4 * rows n (Part Succeed) rest c a t) (after_act (pattern_act s o (thread code p notes c a)) cs b left u) cs b left y) (sym e)
       (succeed_forward n f g code p notes rest c a t u cs b left fc fn kp e r al)))
 
   -- a value is told
   told_forward : (n : ℕ) → Forward n → (code : Code) (p : ℕ) (notes : List Note) (rest : List Goal) (c : ℕ) (a : Pending) (x : Name) (v : Told) (t : Script) (u : Answers) (cs : List Choice) (b left : ℕ)
       → Fine code → FineNotes notes → Keeps en cs → RestAt xs en code p notes rest → Alike xs t u
-      → Costs (suc (4 * told_count (λ w. search_count s n rest c a w) t)) (Waits (ForSaid x v) (settled notes code p c a) cs b left u) cs b left (told (SayThat x v) (λ w. search s n rest c a w) t)
+      → Costs (suc (4 * told_count (λ w. search_count s n rest c a w) t)) (Waits (ForSaid x v) (settled notes code p c a) cs b left u) cs b left (told_that (SayThat x v) (λ w. search s n rest c a w) t)
   told_forward n f code p notes rest c a x v t u cs b left fc fn kp r none = (0, omega arith, SayThat x v, says, refl)
   told_forward n f code p notes rest c a x v ts us cs b left fc fn kp r (more {u = u} (patterns st) al) = (1, omega arith, u, al, refl)
   told_forward n f code p notes rest c a x v ts us cs b left fc fn kp r (more {u = u} counts al) = (1, omega arith, u, al, refl)
@@ -266,7 +268,7 @@ module _ (s : List ℕ) (xs : ℕ → Option Expr) (main : Code) (en : Ending) (
   -- an expression gives a pattern
   given_forward : (n : ℕ) → Forward n → (code : Code) (p : ℕ) (notes : List Note) (rest : List Goal) (c : ℕ) (a : Pending) (x : Expr) (k : ℕ) (t : Script) (u : Answers) (cs : List Choice) (b left : ℕ)
       → Fine code → FineNotes notes → Keeps en cs → xs k ≡ Some x → RestAt xs en code (p + 1) notes rest → Alike xs t u
-      → Costs (suc (4 * given_count (λ q w. search_count s n (Part q ∷ rest) c a w) t)) (Waits (ForPattern k) (thread code p notes c a) cs b left u) cs b left (given x (λ q w. search s n (Part q ∷ rest) c a w) t)
+      → Costs (suc (4 * given_count (λ q w. search_count s n (Part q ∷ rest) c a w) t)) (Waits (ForPattern k) (thread code p notes c a) cs b left u) cs b left (given_pattern x (λ q w. search s n (Part q ∷ rest) c a w) t)
   given_forward n f code p notes rest c a x k t u cs b left fc fn kp e r none = (0, omega arith, AskFor k Rattle.model.specs.Pattern.Patterns.WantPattern, asked e, refl)
   given_forward n f code p notes rest c a x k ts us cs b left fc fn kp e r (more {t = t} {u = u} (patterns {p = q} {code = inner} st) al) =
       one_more (4 * search_count s n (Part q ∷ rest) c a t) (Waits (ForPattern k) (thread code p notes c a) cs b left (IsPattern inner ∷ u)) cs b left (search s n (Part q ∷ rest) c a t)
@@ -281,7 +283,7 @@ module _ (s : List ℕ) (xs : ℕ → Option Expr) (main : Code) (en : Ending) (
   argument_forward : (n : ℕ) → BasicForward n → (code : Code) (p : ℕ) (notes : List Note) (rest : List Goal) (c : ℕ) (a : Pending) (j : Kind) (x : Expr) (k : ℕ) (t : Script) (u : Answers) (cs : List Choice) (b left : ℕ)
       → Fine code → FineNotes notes → Keeps en cs → xs k ≡ Some x → RestAt xs en code (p + 1) notes rest → Alike xs t u
       → Costs (suc (4 * argument_count (λ y w. search_count s n (Part (Plain (with_answer j y)) ∷ rest) c a w) t)) (Waits (ForArgument j k) (thread code p notes c a) cs b left u) cs b left (given_argument j x (λ q w. search s n (Part (Plain q) ∷ rest) c a w) t)
-  argument_forward n f code p notes rest c a j x k t u cs b left fc fn kp e r none = (0, omega arith, AskFor k (want_of j), asked e, refl)
+  argument_forward n f code p notes rest c a j x k t u cs b left fc fn kp e r none = (0, omega arith, AskFor k (want_of_kind j), asked e, refl)
   argument_forward n f code p notes rest c a j x k ts us cs b left fc fn kp e r (more {t = t} {u = u} (patterns {p = q} {code = inner} st) al) =
       one_more (4 * search_count s n (Part (Plain Rattle.model.specs.Pattern.Patterns.Fail) ∷ rest) c a t) (Waits (ForArgument j k) (thread code p notes c a) cs b left (IsPattern inner ∷ u)) cs b left (search s n (Part (Plain Rattle.model.specs.Pattern.Patterns.Fail) ∷ rest) c a t)
       (f Rattle.model.specs.Pattern.Patterns.Fail code p notes rest c a t u cs b left fc fn kp r al)
@@ -383,7 +385,7 @@ module _ (s : List ℕ) (xs : ℕ → Option Expr) (main : Code) (en : Ending) (
 module _ (s : List ℕ) (xs : ℕ → Option Expr) (main : Code) where
   -- ---- a fence
 
-  on_hit_costs : (en : Ending) (base : List Choice) (num : ℕ) (code : Code) (y : ℕ) (notes : List Note) (n1 : ℕ) (n2 : ℕ → Pending → Script → ℕ) (x : State) (cs : List Choice) (b left : ℕ) (r : Found') (k : ℕ → Pending → Script → Found')
+  on_hit_costs : (en : Ending) (base : List Choice) (num : ℕ) (code : Code) (y : ℕ) (notes : List Note) (n1 : ℕ) (n2 : ℕ → Pending → Script → ℕ) (x : MatchState) (cs : List Choice) (b left : ℕ) (r : Found') (k : ℕ → Pending → Script → Found')
       → Costs s xs main (InFence num code y notes) cs n1 x cs b left r
       → ((e : ℕ) (a : Pending) (t : Script) (u : Answers) → Alike xs t u → Costs s xs main en base (n2 e a t) (go (settled notes code (y + 1) e a) cs b left u) cs b left (k e a t))
       → Costs s xs main en base (n1 + if_hit r n2) x cs b left (on_hit r k)
@@ -440,7 +442,7 @@ module _ (s : List ℕ) (xs : ℕ → Option Expr) (main : Code) where
   rest_forward m f g h en base code p notes rest c a t u cs b left j n lv le fc fn kp (ended e) al =
       (0, omega arith, subst (λ o. event_of (elim o [ None ↦ Over (Won b c a) | Some i ↦ Going (thread code p [] c a) cs b left u ]) ≡ Matched b c a) (sym e) refl)
   rest_forward m f g h en base code p notes rest c a t u cs b left j n lv le fc fn kp (fence_ended {k = k} {notes = inner} e) al =
-      let q : go (settled inner code (p + 1) c a) (kept k cs) b left u ≡ go (settled inner code (p + 1) c a) base b left u = ap (λ z. go (settled inner code (p + 1) c a) z b left u) kp.1 in
+      let q : go (settled inner code (p + 1) c a) (choices_kept k cs) b left u ≡ go (settled inner code (p + 1) c a) base b left u = ap (λ z. go (settled inner code (p + 1) c a) z b left u) kp.1 in
       let fits : 2 + 4 * 0 ≤ n = room j 0 n le in
       by_instr s xs main (InFence k code p inner) base 0 n CloseFence code p (Fenced k ∷ inner) c a cs b left u (Hit c a t) (omega (arith, fits)) e (0, omega arith, (u, al, q))
   rest_forward m f g h en base code p notes rest c a t u cs b left j n lv le fc fn kp (entered {code' = code'} {p' = p'} {notes = inner} e d) al =
@@ -450,7 +452,7 @@ module _ (s : List ℕ) (xs : ℕ → Option Expr) (main : Code) where
   rest_forward m f g h en base code p notes rest c a t u cs b left j n lv le fc fn kp (jump {d = d} e r) al =
       let i = next_level j code p d fc e lv in
       let one = count_some m rest c a t in
-      let x : State = go (settled notes code p c a) cs b left u in
+      let x : MatchState = go (settled notes code p c a) cs b left u in
       let y : Found' = search s (suc m) rest c a t in
       by_instr s xs main en base (n - 1) n (Jmp d) code p notes c a cs b left u y (omega (arith, i.1, one, le)) e
       (rest_forward m f g h en base code (at_distance code p d) notes rest c a t u cs b left i.0 (n - 1) i.2 (omega (arith, i.1, one, le)) fc fn kp r al)
@@ -465,7 +467,7 @@ module _ (s : List ℕ) (xs : ℕ → Option Expr) (main : Code) where
   rest_forward m f g h en base code p notes goals c a t u cs b left j n lv le fc fn kp (saying {b = o} {notes = inner} {rest = rest} {n = i} e r) al =
       let count : ℕ = told_count (λ w. search_count s m rest c a w) t in
       let fits : 2 + 4 * count ≤ n = room j count n le in
-      by_instr s xs main en base (suc (4 * count)) n (Say i) code p (Opened o ∷ inner) c a cs b left u (told (SayThat i (Text (between s o c))) (λ w. search s m rest c a w) t) (omega (arith, fits)) e
+      by_instr s xs main en base (suc (4 * count)) n (Say i) code p (Opened o ∷ inner) c a cs b left u (told_that (SayThat i (Text (between s o c))) (λ w. search s m rest c a w) t) (omega (arith, fits)) e
       (told_forward s xs main en base m (f en base) code (p + 1) inner rest c a i (Text (between s o c)) t u cs b left fc fn kp r al)
 
   all_forward : (n : ℕ) (en : Ending) (base : List Choice) → Forward s xs main en base n × BasicForward s xs main en base n × AgainForward s xs main en base n
@@ -483,23 +485,23 @@ module _ (s : List ℕ) (xs : ℕ → Option Expr) (main : Code) where
 
   -- ---- over the starts
 
-  abbrev Tells : ℕ → State → Event Expr → Type 0
+  abbrev Tells : ℕ → MatchState → Event Expr → Type 0
   Tells n x Running = Unit {0}
-  Tells n x e = (j : ℕ) × (j ≤ n) × AlikeEvent xs e (event_of (steps s main j x))
+  Tells n x e = (j : ℕ) × (j ≤ n) × AlikeEvent xs e (event_of (pattern_steps s main j x))
 
-  tells_within : (n m : ℕ) (x : State) (e : Event Expr) → n ≤ m → Tells n x e → Tells m x e
+  tells_within : (n m : ℕ) (x : MatchState) (e : Event Expr) → n ≤ m → Tells n x e → Tells m x e
   tells_within n m x Running le h = tt
   tells_within n m x Failed le h = (h.0, omega (arith, h.1), h.2)
   tells_within n m x (Asks v) le h = (h.0, omega (arith, h.1), h.2)
   tells_within n m x (Matched b e a) le h = (h.0, omega (arith, h.1), h.2)
 
-  tells_along : (i m n : ℕ) (x y : State) (e : Event Expr) → i ≤ m → steps s main i x ≡ y → Tells n y e → Tells (m + n) x e
+  tells_along : (i m n : ℕ) (x y : MatchState) (e : Event Expr) → i ≤ m → pattern_steps s main i x ≡ y → Tells n y e → Tells (m + n) x e
   tells_along i m n x y Running le q h = tt
-  tells_along i m n x y Failed le q h = (i + h.0, omega (arith, h.1), subst (λ z. AlikeEvent xs Failed (event_of z)) (sym (steps_add s xs main i h.0 x ∙ ap (steps s main h.0) q)) h.2)
-  tells_along i m n x y (Asks v) le q h = (i + h.0, omega (arith, h.1), subst (λ z. AlikeEvent xs (Asks v) (event_of z)) (sym (steps_add s xs main i h.0 x ∙ ap (steps s main h.0) q)) h.2)
-  tells_along i m n x y (Matched b e a) le q h = (i + h.0, omega (arith, h.1), subst (λ z. AlikeEvent xs (Matched b e a) (event_of z)) (sym (steps_add s xs main i h.0 x ∙ ap (steps s main h.0) q)) h.2)
+  tells_along i m n x y Failed le q h = (i + h.0, omega (arith, h.1), subst (λ z. AlikeEvent xs Failed (event_of z)) (sym (steps_add s xs main i h.0 x ∙ ap (pattern_steps s main h.0) q)) h.2)
+  tells_along i m n x y (Asks v) le q h = (i + h.0, omega (arith, h.1), subst (λ z. AlikeEvent xs (Asks v) (event_of z)) (sym (steps_add s xs main i h.0 x ∙ ap (pattern_steps s main h.0) q)) h.2)
+  tells_along i m n x y (Matched b e a) le q h = (i + h.0, omega (arith, h.1), subst (λ z. AlikeEvent xs (Matched b e a) (event_of z)) (sym (steps_add s xs main i h.0 x ∙ ap (pattern_steps s main h.0) q)) h.2)
 
-  started_tells : (n1 : ℕ) (n2 : Script → ℕ) (x : State) (b left : ℕ) (r : Found') (k : Script → Event Expr) → Costs s xs main Whole [] n1 x [] b left r → ((t : Script) (u : Answers) → Alike xs t u → Tells (n2 t) (back [] b left u) (k t)) → Tells (n1 + if_missed r n2) x (started b r k)
+  started_tells : (n1 : ℕ) (n2 : Script → ℕ) (x : MatchState) (b left : ℕ) (r : Found') (k : Script → Event Expr) → Costs s xs main Whole [] n1 x [] b left r → ((t : Script) (u : Answers) → Alike xs t u → Tells (n2 t) (back [] b left u) (k t)) → Tells (n1 + if_missed r n2) x (started b r k)
   started_tells n1 n2 x b left (Hit e a t) k h g = (h.0, omega (arith, h.1), subst (AlikeEvent xs (Matched b e a)) (sym h.2) St.match)
   started_tells n1 n2 x b left (Miss t) k h g = tells_along h.0 n1 (n2 t) x (back [] b left h.2) (k t) h.1 h.4 (g t h.2 h.3)
   started_tells n1 n2 x b left Stop k h g = (h.0, omega (arith, h.1), subst (AlikeEvent xs Failed) (sym h.2) St.fail)
@@ -527,7 +529,7 @@ module _ (s : List ℕ) (xs : ℕ → Option Expr) (main : Code) where
         (started_tells (suc (4 * one)) (λ w. 4 * two w) (Starting b (suc left) u) b (suc left) (search s n (Part p ∷ []) b [] t) (λ w. scan s n p left (b + 1) w) (start_costs n b (suc left) t u al)
         (λ v w h. scan_costs n left (b + 1) v w h))
 
-    as_told : (n : ℕ) (x : State) (e : Event Expr) → (e ≡ Running → ⊥) → Tells n x e → (j : ℕ) × (j ≤ n) × AlikeEvent xs e (event_of (steps s main j x))
+    as_told : (n : ℕ) (x : MatchState) (e : Event Expr) → (e ≡ Running → ⊥) → Tells n x e → (j : ℕ) × (j ≤ n) × AlikeEvent xs e (event_of (pattern_steps s main j x))
     as_told n x Running o h = absurd (o refl)
     as_told n x Failed o h = h
     as_told n x (Asks v) o h = h
@@ -541,7 +543,7 @@ pub pattern_steps_on_law : PatternStepsOnBounded
 pattern_steps_on_law s xs p code st n left b t u al o i runs =
     go (pattern_steps_law s xs p code st n left b t u al o)
   where
-    X : ℕ → State
+    X : ℕ → MatchState
     X k = match_steps s code left b u k
 
     like_over : (x : Event Expr) (y : Event ℕ) → AlikeEvent xs x y → IsOver s code y
@@ -549,13 +551,13 @@ pattern_steps_on_law s xs p code st n left b t u al o i runs =
     like_over x y St.match = tt
     like_over x y (St.ask h) = tt
 
-    go : (m : ℕ) × (m ≤ 4 * scan_count s n p left b t) × AlikeEvent xs (scan s n p left b t) (event_of (X m)) → (l : ℕ) × (i + l ≤ 4 * scan_count s n p left b t) × AlikeEvent xs (scan s n p left b t) (event_of (steps s code l (X i)))
+    go : (m : ℕ) × (m ≤ 4 * scan_count s n p left b t) × AlikeEvent xs (scan s n p left b t) (event_of (X m)) → (l : ℕ) × (i + l ≤ 4 * scan_count s n p left b t) × AlikeEvent xs (scan s n p left b t) (event_of (pattern_steps s code l (X i)))
     go (m, le, h) = on (below_or i m)
       where
         over : IsOver s code (event_of (X m))
         over = like_over (scan s n p left b t) (event_of (X m)) h
 
-        on : (i < m) ⊎ (m ≤ i) → (l : ℕ) × (i + l ≤ 4 * scan_count s n p left b t) × AlikeEvent xs (scan s n p left b t) (event_of (steps s code l (X i)))
+        on : (i < m) ⊎ (m ≤ i) → (l : ℕ) × (i + l ≤ 4 * scan_count s n p left b t) × AlikeEvent xs (scan s n p left b t) (event_of (pattern_steps s code l (X i)))
         on (inl lt) =
             let e : m ≡ i + (m - i) = omega arith in
             (m - i, omega (arith, le), subst (λ z. AlikeEvent xs (scan s n p left b t) (event_of z)) (ap X e ∙ steps_add s xs code i (m - i) (Starting b left u)) h)

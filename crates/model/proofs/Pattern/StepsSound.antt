@@ -7,8 +7,8 @@ use Rattle.std.proofs.lemmas.Bool.{leb-true}
 use Rattle.std.proofs.lemmas.List.Sums.{prefix_len-le-length}
 use Rattle.std.proofs.lemmas.Option.{slice_get_within}
 use Rattle.model.specs.Pattern.Patterns.{Basic, Lit, Len, Pos, RPos, Tab, RTab, AnyOf, NotAnyOf, Span, Break, Rem, Arb, Bal, Fail, Instr, Do, Split, Jmp, DoSucceed, DoAbort, DoFence, Open, OpenFence, CloseFence, Close, Say, AtCursor, Eval, EvalBasic, Pending, Answer, IsPattern, IsCount, IsBytes, IsFailed, IsSaid, with_answer}
-use Rattle.model.specs.Pattern.BasicEnds.{ends_at, end_if, one_byte, from_up, balanced, is_among}
-use Rattle.model.specs.Pattern.Steps.{Won, Lost, Code, Answers, Thread, Note, Opened, Fenced, Left, Choice, Retry, Again, Quit, at_place, Move, Goes, Forks, Fails, Act, Moves, Aborts, Arrives, Asking, Fences, Drops, Waiting, ForPattern, ForArgument, ForSaid, act, answered, closed, fence_closed, fenced, kept, forked, onward, settled, State, Starting, Going, Returning, Waits, Over, go, back, after_move, after_act, after_return, step, steps, AllWithin, IsSoundChoice, AreSound, IsSound}
+use Rattle.model.specs.Pattern.BasicEnds.{ends_at, end_if, one_byte, from_up, balanced, is_in_set}
+use Rattle.model.specs.Pattern.Steps.{Won, Lost, Code, Answers, Thread, Note, Opened, Fenced, Left, Choice, Retry, Again, Quit, at_place, Move, Goes, Forks, Fails, Act, Moves, Aborts, Arrives, Asking, Fences, Drops, Waiting, ForPattern, ForArgument, ForSaid, pattern_act, answered, closed, fence_closed, fenced, choices_kept, forked, onward, settled, MatchState, Starting, Going, Returning, Waits, Over, go, back, after_move, after_act, after_return, pattern_step, pattern_steps, AllWithin, IsSoundChoice, AreSound, IsSound}
 
 if_within : (n e : ℕ) (b : Bool) → (b ≡ true → e ≤ n) → AllWithin n (end_if b e)
 if_within n e true h = (h refl, tt)
@@ -68,12 +68,12 @@ ends_within s (RPos n) c h = if_within (length s) c (c + n == length s) (λ e. h
 ends_within s (Tab n) c h =
     if_within (length s) n (nat_le c n && nat_le n (length s)) (λ e. leb-true n (length s) (and_right (nat_le c n) (nat_le n (length s)) e))
 ends_within s (RTab n) c h = if_within (length s) (length s - n) (nat_le (c + n) (length s)) (λ e. omega arith)
-ends_within s (AnyOf w) c h = wider (c + length (drop c s)) (length s) (omega (arith, length-drop c s)) (one_byte (is_among w) (drop c s) c) (byte_within (is_among w) (drop c s) c)
-ends_within s (NotAnyOf w) c h = wider (c + length (drop c s)) (length s) (omega (arith, length-drop c s)) (one_byte (λ b. not (is_among w b)) (drop c s) c) (byte_within (λ b. not (is_among w b)) (drop c s) c)
+ends_within s (AnyOf w) c h = wider (c + length (drop c s)) (length s) (omega (arith, length-drop c s)) (one_byte (is_in_set w) (drop c s) c) (byte_within (is_in_set w) (drop c s) c)
+ends_within s (NotAnyOf w) c h = wider (c + length (drop c s)) (length s) (omega (arith, length-drop c s)) (one_byte (λ b. not (is_in_set w b)) (drop c s) c) (byte_within (λ b. not (is_in_set w b)) (drop c s) c)
 ends_within s (Span w) c h =
-    if_within (length s) (c + prefix_len (is_among w) (drop c s)) (nat_lt 0 (prefix_len (is_among w) (drop c s))) (λ e. omega (arith, prefix_len-le-length (is_among w) (drop c s), length-drop c s))
+    if_within (length s) (c + prefix_len (is_in_set w) (drop c s)) (nat_lt 0 (prefix_len (is_in_set w) (drop c s))) (λ e. omega (arith, prefix_len-le-length (is_in_set w) (drop c s), length-drop c s))
 ends_within s (Break w) c h =
-    if_within (length s) (c + prefix_len (λ b. not (is_among w b)) (drop c s)) (nat_lt (c + prefix_len (λ b. not (is_among w b)) (drop c s)) (length s)) (λ e. omega (arith, prefix_len-le-length (λ b. not (is_among w b)) (drop c s), length-drop c s))
+    if_within (length s) (c + prefix_len (λ b. not (is_in_set w b)) (drop c s)) (nat_lt (c + prefix_len (λ b. not (is_in_set w b)) (drop c s)) (length s)) (λ e. omega (arith, prefix_len-le-length (λ b. not (is_in_set w b)) (drop c s), length-drop c s))
 ends_within s Rem c h = (omega arith, tt)
 ends_within s Arb c h = wider (c + (length s - c)) (length s) (omega arith) (from_up c (length s - c)) (up_within c (length s - c))
 ends_within s Bal c h = wider (c + length (drop c s)) (length s) (omega (arith, length-drop c s)) (balanced (drop c s) 0 c) (balanced_within (drop c s) 0 c)
@@ -124,7 +124,7 @@ module _ (s : List ℕ) where
   fence_closed_sound (Fenced k ∷ notes) f h = h k notes
   fence_closed_sound (Left code' p' ∷ notes) f h = tt
 
-  act_sound : (o : Option Instr) (t : Thread) → at_place t ≡ o → t.cursor ≤ length s → IsSoundAct (act s o t)
+  act_sound : (o : Option Instr) (t : Thread) → at_place t ≡ o → t.cursor ≤ length s → IsSoundAct (pattern_act s o t)
   act_sound None t e h = tt
   act_sound (Some (Do k)) t e h = forked_sound t (ends_at s k t.cursor) h (slice_get_within t.code t.place (Do k) e) (ends_within s k t.cursor h)
   act_sound (Some (Split d)) t e h =
@@ -154,7 +154,7 @@ module _ (s : List ℕ) where
   answered_sound (ForSaid x v) t IsSaid h p = h
   answered_sound (ForSaid x v) t _ h p = tt
 
-  go_at_sound : (t : Thread) (cs : List Choice) (b left : ℕ) (u : Answers) (o : Option Instr) → t.cursor ≤ length s → AreSound s cs → b + left ≤ length s → IsSound s (elim o as (λ _. State) [ None ↦ Over (Won b t.cursor t.pending) | Some i ↦ Going t cs b left u ])
+  go_at_sound : (t : Thread) (cs : List Choice) (b left : ℕ) (u : Answers) (o : Option Instr) → t.cursor ≤ length s → AreSound s cs → b + left ≤ length s → IsSound s (elim o as (λ _. MatchState) [ None ↦ Over (Won b t.cursor t.pending) | Some i ↦ Going t cs b left u ])
   go_at_sound t cs b left u None h g l = tt
   go_at_sound t cs b left u (Some i) h g l = (h, g, l)
 
@@ -183,23 +183,23 @@ module _ (s : List ℕ) where
   after_sound (Asking w t) cs b left u h g l = (h.0, h.1, g, l)
   after_sound (Fences t) cs b left u h g l =
       go_sound (fenced (length cs) t) cs b left u (settled_sound (Fenced (length cs) ∷ t.notes) t.code (t.place + 1) t.cursor t.pending h) g l
-  after_sound (Drops k t) cs b left u h g l = go_sound t (kept k cs) b left u h (drop_sound (length cs - k) cs g) l
+  after_sound (Drops k t) cs b left u h g l = go_sound t (choices_kept k cs) b left u h (drop_sound (length cs - k) cs g) l
 
   return_sound : (ch : Choice) (cs : List Choice) (b left : ℕ) (u : Answers) → IsSoundChoice s ch → AreSound s cs → b + left ≤ length s → IsSound s (after_return s ch cs b left u)
   return_sound (Retry p e [] t) cs b left u h g l = go_sound (onward t p e) cs b left u (settled_sound t.notes t.code p e t.pending h.0) g l
   return_sound (Retry p e (f ∷ es) t) cs b left u h g l =
       go_sound (onward t p e) (Retry p f es t ∷ cs) b left u (settled_sound t.notes t.code p e t.pending h.0) ((h.1.0, h.1.1, h.2, h.3), g) l
-  return_sound (Again t) cs b left u h g l = after_sound (act s (at_place t) t) cs b left u (act_sound (at_place t) t refl h) g l
+  return_sound (Again t) cs b left u h g l = after_sound (pattern_act s (at_place t) t) cs b left u (act_sound (at_place t) t refl h) g l
   return_sound Quit cs b left u h g l = tt
 
-  step_sound : (code : Code) (x : State) → IsSound s x → IsSound s (step s code x)
+  step_sound : (code : Code) (x : MatchState) → IsSound s x → IsSound s (pattern_step s code x)
   step_sound code (Starting b left u) h = go_sound (settled [] code 0 b []) [] b left u (omega arith) tt h
-  step_sound code (Going t cs b left u) h = after_sound (act s (at_place t) t) cs b left u (act_sound (at_place t) t refl h.0) h.1 h.2
+  step_sound code (Going t cs b left u) h = after_sound (pattern_act s (at_place t) t) cs b left u (act_sound (at_place t) t refl h.0) h.1 h.2
   step_sound code (Returning ch cs b left u) h = return_sound ch cs b left u h.0 h.1 h.2
   step_sound code (Waits w t cs b left []) h = h
   step_sound code (Waits w t cs b left (y ∷ u)) h = move_sound (answered s w t y) cs b left u (answered_sound w t y h.0 h.1) h.2 h.3
   step_sound code (Over e) h = tt
 
-  pub steps_sound : (code : Code) (m : ℕ) (x : State) → IsSound s x → IsSound s (steps s code m x)
+  pub steps_sound : (code : Code) (m : ℕ) (x : MatchState) → IsSound s x → IsSound s (pattern_steps s code m x)
   steps_sound code zero x h = h
-  steps_sound code (suc m) x h = steps_sound code m (step s code x) (step_sound code x h)
+  steps_sound code (suc m) x h = steps_sound code m (pattern_step s code x) (step_sound code x h)

@@ -10,53 +10,53 @@ use Rattle.model.specs.declared.trees.Binary.TheVariants as b
 use Rattle.model.specs.Deck.Trees.{Stmt, Expr, Name, Literal, Keyword, Call, Apply, Combine, Evaluate, Nothing, Assign, Match, Label, Next, Always}
 use Rattle.model.specs.Language.Names.{prim_named, key_named, named}
 use Rattle.model.specs.Language.Meaning.{meaning}
-use Rattle.model.specs.Laws.Agreement.{mean, mach}
-use Rattle.model.specs.Language.RulesUsed.{count, rules_used}
+use Rattle.model.specs.Laws.Agreement.{meaning_at, machine_at}
+use Rattle.model.specs.Language.RulesUsed.{query_count, rules_used}
 use Rattle.model.proofs.Rows.Decks.{deck, args, num, OUTPUT, does, at, sets, set, out, no_inputs, runs, ends_normally, ends_with, ends_at_limit}
 
 -- ` OUTPUT = 'HI'`: a statement and two nodes; 6 steps
 one_line : rules_used 10 (deck (out (Literal (codes "HI")) ∷ [])) no_inputs ≡ 3
-unfolding meaning count
+unfolding meaning query_count
 one_line = refl
 
 -- ` 'AB' 'B'`: a statement, two nodes, two starts, and three rules of the search: 'B' twice, and the end
 two_starts : rules_used 20 (deck (does (Match (Literal (codes "AB")) (Literal (codes "B"))) Next ∷ [])) no_inputs ≡ 8
-unfolding meaning count
+unfolding meaning query_count
 two_starts = refl
 
 -- ` OUTPUT = SIZE('AB')`: the call and its argument are nodes
 one_call : rules_used 20 (deck (out (Call (codes "SIZE") (args (Literal (codes "AB") ∷ []))) ∷ [])) no_inputs ≡ 4
-unfolding meaning count prim_named named
+unfolding meaning query_count prim_named named
 one_call = refl
 
 -- ` 'AB' FENCE('A') 'B'`: a statement, five nodes, a start, and six rules of the search, the end of 'A' alone among them
 one_fence : rules_used 20 (deck (does (Match (Literal (codes "AB")) (Combine b.Concatenate (Call (codes "FENCE") (args (Literal (codes "A") ∷ []))) (Literal (codes "B")))) Next ∷ [])) no_inputs ≡ 13
-unfolding meaning count prim_named named
+unfolding meaning query_count prim_named named
 one_fence = refl
 
 -- ` DEFINE('F()')`, ` OUTPUT = F() :(END)`, `F F = 1 :(RETURN)`: three statements, 2, 2 and 2 nodes, and nothing for the return
 one_return : rules_used 40 (deck (does (Evaluate (Call (codes "DEFINE") (args (Literal (codes "F()") ∷ [])))) Next ∷ does (sets OUTPUT (Call (codes "F") (args []))) (Always (Label (codes "END"))) ∷ at (codes "F") (sets (Name (codes "F")) (num 1)) (Always (Label (codes "RETURN"))) ∷ [])) no_inputs ≡ 9
-unfolding meaning count prim_named named
+unfolding meaning query_count prim_named named
 one_return = refl
 
 -- ` 'AB' 'A' *'B'`: a statement, 4 nodes and one of the expression, its answer, a start, and five rules of the search under it
 one_answer : rules_used 40 (deck (does (Match (Literal (codes "AB")) (Combine b.Concatenate (Literal (codes "A")) (Apply u.Unevaluated (Literal (codes "B"))))) Next ∷ [])) no_inputs ≡ 13
-unfolding meaning count
+unfolding meaning query_count
 one_answer = refl
 
 -- ` 'AB' LEN(1) $ X 'B'`: a statement, 7 nodes, an answer, a start, and six rules of the search, the end of `$` among them
 one_told : rules_used 40 (deck (does (Match (Literal (codes "AB")) (Combine b.Concatenate (Combine b.Immediate (Call (codes "LEN") (args (num 1 ∷ []))) (Name (codes "X"))) (Literal (codes "B")))) Next ∷ [])) no_inputs ≡ 16
-unfolding meaning count prim_named named
+unfolding meaning query_count prim_named named
 one_told = refl
 
 -- ` 'AAB' POS(0) ARBNO('A') 'B'`: a statement, 8 nodes, a start, and twenty rules of the search: three times four for ARBNO, twice two for 'A' joined to it, and four around
 turns : rules_used 40 (deck (does (Match (Literal (codes "AAB")) (Combine b.Concatenate (Combine b.Concatenate (Call (codes "POS") (args (num 0 ∷ []))) (Call (codes "ARBNO") (args (Literal (codes "A") ∷ [])))) (Literal (codes "B")))) Next ∷ [])) no_inputs ≡ 30
-unfolding meaning count prim_named named
+unfolding meaning query_count prim_named named
 turns = refl
 
 -- ` 'AA' LEN(*'X')`: a statement, five nodes, a start and the row of LEN, under the script at the question whose answer is no count
 no_count : rules_used 20 (deck (does (Match (Literal (codes "AA")) (Call (codes "LEN") (args (Apply u.Unevaluated (Literal (codes "X")) ∷ [])))) Next ∷ [])) no_inputs ≡ 7
-unfolding meaning count prim_named named
+unfolding meaning query_count prim_named named
 no_count = refl
 
 -- `POS(0) (ARB ARB 'B' | *(1 / 0))`
@@ -69,12 +69,12 @@ to_the_end k = deck (set (Name (codes "S")) (Call (codes "DUPL") (args (Literal 
 
 -- two statements, 4, 11 and 3 nodes, and 26 of the search under the script at the question that ends the run
 cut_off : rules_used 40 (to_the_end 2) no_inputs ≡ 46
-unfolding meaning count prim_named named to_its_end to_the_end
+unfolding meaning query_count prim_named named to_its_end to_the_end
 cut_off = refl
 
 -- 62 of the search
 cut_off_later : rules_used 40 (to_the_end 5) no_inputs ≡ 82
-unfolding meaning count prim_named named to_its_end to_the_end
+unfolding meaning query_count prim_named named to_its_end to_the_end
 cut_off_later = refl
 
 -- its image, as the generator writes it
@@ -94,19 +94,19 @@ image_to_the_end k = record {
 }
 
 -- 23 instructions to the match, 20 and 53 pattern steps, and 3 instructions of the expression
-steps_cut_off : mach (image_to_the_end 2) no_inputs 45 ≡ runs []
+steps_cut_off : machine_at (image_to_the_end 2) no_inputs 45 ≡ runs []
 unfolding image_to_the_end
 steps_cut_off = refl
 
-ends_cut_off : mach (image_to_the_end 2) no_inputs 46 ≡ ends_with error.Arithmetic 2 []
+ends_cut_off : machine_at (image_to_the_end 2) no_inputs 46 ≡ ends_with error.Arithmetic 2 []
 unfolding image_to_the_end
 ends_cut_off = refl
 
-steps_cut_off_later : mach (image_to_the_end 5) no_inputs 78 ≡ runs []
+steps_cut_off_later : machine_at (image_to_the_end 5) no_inputs 78 ≡ runs []
 unfolding image_to_the_end
 steps_cut_off_later = refl
 
-ends_cut_off_later : mach (image_to_the_end 5) no_inputs 79 ≡ ends_with error.Arithmetic 2 []
+ends_cut_off_later : machine_at (image_to_the_end 5) no_inputs 79 ≡ ends_with error.Arithmetic 2 []
 unfolding image_to_the_end
 ends_cut_off_later = refl
 
@@ -120,23 +120,23 @@ ends_in_call =
 
 -- three statements, 2, 4 and 1 nodes, and 4 of the search under the script at the question: the END of the call ends the run
 ended_within : rules_used 40 (deck ends_in_call) no_inputs ≡ 14
-unfolding meaning count prim_named named ends_in_call
+unfolding meaning query_count prim_named named ends_in_call
 ended_within = refl
 
-normal_within : mean 40 (deck ends_in_call) no_inputs ≡ ends_normally []
+normal_within : meaning_at 40 (deck ends_in_call) no_inputs ≡ ends_normally []
 unfolding meaning prim_named named ends_in_call
 normal_within = refl
 
 -- the same behind ` &STLIMIT = 3`, which keeps F's statement from being run: three statements and a node more
 limited_within : rules_used 40 (deck (does (Assign (Keyword (codes "STLIMIT")) (Some (num 3))) Next ∷ ends_in_call)) no_inputs ≡ 15
-unfolding meaning count prim_named key_named named ends_in_call
+unfolding meaning query_count prim_named key_named named ends_in_call
 limited_within = refl
 
-limit_within : mean 40 (deck (does (Assign (Keyword (codes "STLIMIT")) (Some (num 3))) Next ∷ ends_in_call)) no_inputs ≡ ends_at_limit 4 []
+limit_within : meaning_at 40 (deck (does (Assign (Keyword (codes "STLIMIT")) (Some (num 3))) Next ∷ ends_in_call)) no_inputs ≡ ends_at_limit 4 []
 unfolding meaning prim_named key_named named ends_in_call
 limit_within = refl
 
 -- ` DEFINE('F()')`, ` 'A' LEN(1) *F()`, `F 'A' *(1 / 0)`: three statements, 2, 6, 2 and 3 nodes, and the searches of both matches, 4 and 2: the question of the outer one was open
 cut_off_within : rules_used 40 (deck (does (Evaluate (Call (codes "DEFINE") (args (Literal (codes "F()") ∷ [])))) Next ∷ does (Match (Literal (codes "A")) (Combine b.Concatenate (Call (codes "LEN") (args (num 1 ∷ []))) (Apply u.Unevaluated (Call (codes "F") (args []))))) Next ∷ at (codes "F") (Match (Literal (codes "A")) (Apply u.Unevaluated (Combine b.Divide (num 1) (num 0)))) Next ∷ [])) no_inputs ≡ 22
-unfolding meaning count prim_named named
+unfolding meaning query_count prim_named named
 cut_off_within = refl

@@ -5,7 +5,7 @@ use Rattle.model.specs.declared.image.Image.{Image}
 use Rattle.model.specs.declared.instr.Instr.{Instr}
 use Rattle.model.specs.declared.instr.Instr.TheVariants as op
 use Rattle.model.specs.Machine.Steps.{OnBegin, OnTry, At}
-use Rattle.model.specs.Module.Images.{bytes, fetch_from}
+use Rattle.model.specs.Module.Images.{instr_size, fetch_from}
 use Rattle.model.specs.Module.Flow.{Shape, shape, V, N, R, InBody, InGoto, InEvaluation, bare, asked, Asks, leads, Begins, Reach, BreaksFlow, IsLeast}
 use Rattle.model.specs.Rows.Flow.{joined, fetched_under_try, joined_under_try, body_under_try, name_for_value, value_in_goto, goto_in_body, operand_left, FlowRows}
 
@@ -21,19 +21,19 @@ module _ (im : Image) (known : ℕ → Option Shape) where
 
   abbrev AllKept : ℕ → List Instr → Type 0
   AllKept at [] = Unit {0}
-  AllKept at (i ∷ is) = Kept at (at + bytes i) i (known at) × AllKept (at + bytes i) is
+  AllKept at (i ∷ is) = Kept at (at + instr_size i) i (known at) × AllKept (at + instr_size i) is
 
-  kept_here : (at next : ℕ) (i : Instr) (o : ℕ) (j : Instr) → o ≡ at → At j (o + bytes j) ≡ At i next → Kept o (o + bytes j) j (known o) → Kept at next i (known at)
+  kept_here : (at next : ℕ) (i : Instr) (o : ℕ) (j : Instr) → o ≡ at → At j (o + instr_size j) ≡ At i next → Kept o (o + instr_size j) j (known o) → Kept at next i (known at)
   kept_here at next i o j same e k =
       let instr : j ≡ i = cc in
-      let after : o + bytes j ≡ next = cc in
-      subst (λ a. Kept a next i (known a)) same (subst (λ n. Kept o n i (known o)) after (subst (λ y. Kept o (o + bytes j) y (known o)) instr k))
+      let after : o + instr_size j ≡ next = cc in
+      subst (λ a. Kept a next i (known a)) same (subst (λ n. Kept o n i (known o)) after (subst (λ y. Kept o (o + instr_size j) y (known o)) instr k))
 
   kept_at : (o : ℕ) (is : List Instr) → AllKept o is → (at : ℕ) (i : Instr) (next : ℕ) → fetch_from o is at ≡ At i next → Kept at next i (known at)
   kept_at o [] k at i next e = absurd (cc)
-  kept_at o (j ∷ is) k at i next e = elim (o == at) as (λ b. (o == at) ≡ b → (if b then At j (o + bytes j) else fetch_from (o + bytes j) is at) ≡ At i next → Kept at next i (known at)) [
+  kept_at o (j ∷ is) k at i next e = elim (o == at) as (λ b. (o == at) ≡ b → (if b then At j (o + instr_size j) else fetch_from (o + instr_size j) is at) ≡ At i next → Kept at next i (known at)) [
     | true ↦ λ h f. kept_here at next i o j (grind (arith, h)) f k.0
-    | false ↦ λ h f. kept_at (o + bytes j) is k.1 at i next f
+    | false ↦ λ h f. kept_at (o + instr_size j) is k.1 at i next f
   ] refl e
 
   led_to : (ls : List (ℕ × Shape)) → Led ls → (at : ℕ) (s : Shape) → Contains ls (at, s) → known at ≡ Some s

@@ -6,7 +6,7 @@ use Rattle.model.specs.Deck.Trees.{Bytes, Expr, Literal, Body, Goto, Stmt, Plain
 use Rattle.model.specs.Language.Programs.{program, end_label}
 use Rattle.model.specs.Module.Images.{module_of}
 use Rattle.model.specs.Module.Placed.{CodeS, Placed}
-use Rattle.model.specs.Laws.Agreement.{mach, Agrees}
+use Rattle.model.specs.Laws.Agreement.{machine_at, Agrees}
 use Rattle.model.proofs.Rows.Decks.{deck, out, no_inputs, runs, ends_normally}
 use Rattle.model.proofs.Machine.Agreement.{agrees_where_placed}
 
@@ -25,16 +25,16 @@ hi_image = record {
 abbrev pub hi : List Stmt
 hi = deck (out (Literal (codes "HI")) ∷ [])
 
-after_three : mach hi_image no_inputs 3 ≡ runs []
+after_three : machine_at hi_image no_inputs 3 ≡ runs []
 after_three = refl
 
-after_four : mach hi_image no_inputs 4 ≡ runs (codes "HI" ∷ [])
+after_four : machine_at hi_image no_inputs 4 ≡ runs (codes "HI" ∷ [])
 after_four = refl
 
-after_five : mach hi_image no_inputs 5 ≡ runs (codes "HI" ∷ [])
+after_five : machine_at hi_image no_inputs 5 ≡ runs (codes "HI" ∷ [])
 after_five = refl
 
-after_six : mach hi_image no_inputs 6 ≡ ends_normally (codes "HI" ∷ [])
+after_six : machine_at hi_image no_inputs 6 ≡ ends_normally (codes "HI" ∷ [])
 after_six = refl
 
 no_trees : ℕ → Option Expr

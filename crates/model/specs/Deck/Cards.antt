@@ -5,6 +5,7 @@ use Rattle.model.specs.declared.cards.Statement.{Statement}
 use Rattle.model.specs.declared.cards.CardFault.{CardFault}
 use Rattle.model.specs.declared.cards.CardRule.{CardRule}
 use Rattle.model.specs.declared.cards.CardRule.TheVariants as rule
+use Rattle.model.specs.Language.Strings.{is_blank}
 
 -- ---- cards
 
@@ -29,9 +30,6 @@ abbrev pub cards : List ℕ → List Card
 cards deck = numbered_from 1 (lines deck)
 
 -- ---- what a card is
-
-abbrev pub is_blank : ℕ → Bool
-is_blank b = b == 32
 
 abbrev pub is_blank_text : List ℕ → Bool
 is_blank_text text = list_all is_blank text
@@ -79,8 +77,8 @@ pub record Column : Type 0 where
 abbrev pub placed : ℕ → List ℕ → List Column
 placed n = map (λ b. record { card = n; byte = b })
 
-abbrev pub bytes : List Column → List ℕ
-bytes = map (λ c. c.byte)
+abbrev pub column_bytes : List Column → List ℕ
+column_bytes = map (λ c. c.byte)
 
 abbrev pub before_continued : CardKind → ℕ → List Column → List Column
 before_continued (Continuation text) n more = placed n text ++ more
@@ -126,7 +124,7 @@ pieces_of cards = pieces_of_texts (texts cards)
 
 -- END, and then a blank or the end of the piece
 abbrev pub is_end : List Column → Bool
-is_end piece = is_word_first (codes "END") (bytes piece)
+is_end piece = is_word_first (codes "END") (column_bytes piece)
 
 abbrev pub has_end : List (List Column) → Bool
 has_end [] = false
@@ -148,7 +146,7 @@ ended cards = first_ended (beginnings cards)
 -- ---- statements
 
 abbrev pub before_kept : List Column → List (List Column) → List (List Column)
-before_kept piece more = if is_blank_text (bytes piece) then more else piece ∷ more
+before_kept piece more = if is_blank_text (column_bytes piece) then more else piece ∷ more
 
 -- the pieces that aren't blank, up to and with the first END
 abbrev pub kept : List (List Column) → List (List Column)
@@ -162,7 +160,7 @@ first_card (c ∷ cs) = c.card
 
 abbrev pub statements_from : ℕ → List (List Column) → List Statement
 statements_from n [] = []
-statements_from n (piece ∷ pieces) = record { number = n; card = first_card piece; text = bytes piece } ∷ statements_from (n + 1) pieces
+statements_from n (piece ∷ pieces) = record { number = n; card = first_card piece; text = column_bytes piece } ∷ statements_from (n + 1) pieces
 
 abbrev pub statements_of : List Card → List Statement
 statements_of cards = statements_from 1 (kept (pieces_of cards))
@@ -232,14 +230,14 @@ least (a ∷ more) = Some (lesser a (least more))
 
 -- ---- the deck
 
-abbrev pub verdict : List Card → Option CardFault → Result (List Statement) CardFault
-verdict cards None = Ok (statements_of cards)
-verdict cards (Some f) = Err f
+abbrev pub cards_verdict : List Card → Option CardFault → Result (List Statement) CardFault
+cards_verdict cards None = Ok (statements_of cards)
+cards_verdict cards (Some f) = Err f
 
 -- C4: no END, at the number of cards plus 1
 abbrev pub deck_of : List Card → Option (List Card) → Result (List Statement) CardFault
-deck_of cards (Some used) = verdict used (least (faults_of used))
-deck_of cards None = verdict cards (least (faults_of cards ++ fault (length cards + 1) rule.NoEnd ∷ []))
+deck_of cards (Some used) = cards_verdict used (least (faults_of used))
+deck_of cards None = cards_verdict cards (least (faults_of cards ++ fault (length cards + 1) rule.NoEnd ∷ []))
 
 -- C5: a deck over 1,048,576 bytes is told at card 0 before all others
 unfoldable pub deck : List ℕ → Result (List Statement) CardFault

@@ -6,7 +6,7 @@ use Rattle.model.specs.declared.tokens.Mark.{Mark}
 use Rattle.model.specs.declared.tokens.Mark.TheVariants as mark
 use Rattle.model.specs.declared.tokens.TokenKind.{TokenKind}
 use Rattle.model.specs.declared.tokens.TokenKind.TheVariants as kind
-use Rattle.model.specs.Deck.Digits.{value}
+use Rattle.model.specs.Deck.Digits.{decimal_value}
 use Rattle.model.specs.Deck.Tokens.{Tok, tok_by}
 
 -- ---- bytes
@@ -172,7 +172,7 @@ is_unclosed (Unclosed text) = true
 is_unclosed _ = false
 
 abbrev pub is_too_large : Piece → Bool
-is_too_large (Token kind.Integer ds) = nat_lt 9223372036854775807 (value ds)
+is_too_large (Token kind.Integer ds) = nat_lt 9223372036854775807 (decimal_value ds)
 is_too_large _ = false
 
 -- how many brackets are open after a mark; each closing one closes the newest of either kind, if any is open

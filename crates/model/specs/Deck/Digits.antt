@@ -5,5 +5,5 @@ abbrev pub value_from : ℕ → List ℕ → ℕ
 value_from n [] = n
 value_from n (d ∷ ds) = value_from (10 * n + (d - 48)) ds
 
-unfoldable pub value : List ℕ → ℕ
-value ds = value_from 0 ds
+unfoldable pub decimal_value : List ℕ → ℕ
+decimal_value ds = value_from 0 ds

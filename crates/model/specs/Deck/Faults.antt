@@ -124,9 +124,9 @@ label_given (Plain None b g) = []
 label_given (Plain (Some l) b g) = l ∷ []
 label_given (End entry) = end_word ∷ []
 
-abbrev pub is_among : Bytes → List Bytes → Bool
-is_among l [] = false
-is_among l (m ∷ ms) = bytes_eq l m || is_among l ms
+abbrev pub is_one_of : Bytes → List Bytes → Bool
+is_one_of l [] = false
+is_one_of l (m ∷ ms) = bytes_eq l m || is_one_of l ms
 
 abbrev pub returns : List Bytes
 returns = codes "RETURN" ∷ codes "FRETURN" ∷ codes "NRETURN" ∷ []
@@ -134,11 +134,11 @@ returns = codes "RETURN" ∷ codes "FRETURN" ∷ codes "NRETURN" ∷ []
 -- the label is one that returns have, or is given by an earlier statement
 abbrev pub is_taken : (earlier labels : List Bytes) → Bool
 is_taken earlier [] = false
-is_taken earlier (l ∷ _) = is_among l returns || is_among l earlier
+is_taken earlier (l ∷ _) = is_one_of l returns || is_one_of l earlier
 
 -- the label where execution begins is given by a statement
 abbrev pub entry_given : List Bytes → Stmt → Bool
-entry_given all (End (Some l)) = is_among l all
+entry_given all (End (Some l)) = is_one_of l all
 entry_given all _ = true
 
 -- the least rule that a tree breaks, where the earlier statements and all statements give these labels
@@ -169,36 +169,36 @@ labels_of_read (Ok s) = label_given s
 labels_of_read (Err c) = []
 
 -- the labels that are given by statements with a tree
-abbrev pub labels : List Statement → List Bytes
-labels [] = []
-labels (s ∷ more) = labels_of_read (read s.text) ++ labels more
+abbrev pub labels_given : List Statement → List Bytes
+labels_given [] = []
+labels_given (s ∷ more) = labels_of_read (read s.text) ++ labels_given more
 
 -- a statement's one cause
 abbrev pub cause_of : (earlier all : List Bytes) → Result Stmt Cause → Option Cause
 cause_of earlier all (Ok s) = rule_broken earlier all s
 cause_of earlier all (Err c) = Some c
 
-abbrev pub told : ℕ → Option Cause → List StmtFault
-told n None = []
-told n (Some c) = record { number = n; cause = c } ∷ []
+abbrev pub fault_of : ℕ → Option Cause → List StmtFault
+fault_of n None = []
+fault_of n (Some c) = record { number = n; cause = c } ∷ []
 
 -- the faulty ones of these statements in order, where earlier ones and all statements of the deck give these labels
 abbrev pub faults_after : (earlier all : List Bytes) → List Statement → List StmtFault
 faults_after earlier all [] = []
 faults_after earlier all (s ∷ more) =
-    told s.number (cause_of earlier all (read s.text)) ++ faults_after (earlier ++ labels_of_read (read s.text)) all more
+    fault_of s.number (cause_of earlier all (read s.text)) ++ faults_after (earlier ++ labels_of_read (read s.text)) all more
 
 unfoldable pub faults : List Statement → List StmtFault
-faults statements = faults_after [] (labels statements) statements
+faults statements = faults_after [] (labels_given statements) statements
 
 abbrev pub tree_of_read : Result Stmt Cause → List Stmt
 tree_of_read (Ok s) = s ∷ []
 tree_of_read (Err c) = []
 
 -- the trees of those that have one
-unfoldable pub trees : List Statement → List Stmt
-trees [] = []
-trees (s ∷ more) = tree_of_read (read s.text) ++ trees more
+unfoldable pub deck_trees : List Statement → List Stmt
+deck_trees [] = []
+deck_trees (s ∷ more) = tree_of_read (read s.text) ++ deck_trees more
 
 -- ---- decks
 
@@ -213,7 +213,7 @@ verdict_of_faults [] ts = Accepted ts
 verdict_of_faults (f ∷ fs) ts = Refused (f ∷ fs)
 
 abbrev pub verdict_of_cards : Result (List Statement) CardFault → Verdict
-verdict_of_cards (Ok statements) = verdict_of_faults (faults statements) (trees statements)
+verdict_of_cards (Ok statements) = verdict_of_faults (faults statements) (deck_trees statements)
 verdict_of_cards (Err f) = CardRefused f
 
 unfoldable pub verdict : List ℕ → Verdict

@@ -51,27 +51,27 @@ role mark.Bar = Infix binary.Alternate
 role mark.Tilde = Prefix unary.Negate
 
 -- how an expression goes on: not at all, or by an operator and the tokens after it
-pub data Next : Type 0 where
-  Ends : Next
-  Sees : Binary → List Tok → Next
+pub data Onward : Type 0 where
+  Ends : Onward
+  Sees : Binary → List Tok → Onward
 
-abbrev pub either : Binary → Mark → List Tok → Next
-either op m (Blank ∷ ts) = Sees op ts
-either op m ts = Sees binary.Concatenate (Sign m ∷ ts)
+abbrev pub binary_or_unary : Binary → Mark → List Tok → Onward
+binary_or_unary op m (Blank ∷ ts) = Sees op ts
+binary_or_unary op m ts = Sees binary.Concatenate (Sign m ∷ ts)
 
-abbrev pub infix_by : Binary → List Tok → Next
+abbrev pub infix_by : Binary → List Tok → Onward
 infix_by op (Blank ∷ ts) = Sees op ts
 infix_by op ts = Ends
 
-abbrev pub by_role : Role → Mark → List Tok → Next
+abbrev pub by_role : Role → Mark → List Tok → Onward
 by_role Opens m ts = Sees binary.Concatenate (Sign m ∷ ts)
 by_role Refers m ts = Sees binary.Concatenate (Sign m ∷ ts)
 by_role (Prefix u) m ts = Sees binary.Concatenate (Sign m ∷ ts)
-by_role (Either u op) m ts = either op m ts
+by_role (Either u op) m ts = binary_or_unary op m ts
 by_role (Infix op) m ts = infix_by op ts
 by_role Neither m ts = Ends
 
-abbrev pub after_blank : List Tok → Next
+abbrev pub after_blank : List Tok → Onward
 after_blank [] = Ends
 after_blank (Blank ∷ ts) = Ends
 after_blank (Word s ∷ ts) = Sees binary.Concatenate (Word s ∷ ts)
@@ -79,7 +79,7 @@ after_blank (Digits n ∷ ts) = Sees binary.Concatenate (Digits n ∷ ts)
 after_blank (Quoted s ∷ ts) = Sees binary.Concatenate (Quoted s ∷ ts)
 after_blank (Sign m ∷ ts) = by_role (role m) m ts
 
-unfoldable pub next : List Tok → Next
+unfoldable pub next : List Tok → Onward
 next (Blank ∷ ts) = after_blank ts
 next ts = Ends
 
@@ -125,20 +125,20 @@ expect m a ts = if sees m ts then Some (a, tail ts) else None
 
 -- ---- elements, over the parser of a whole expression
 module _ (inner : Parser Expr) where
-  unfoldable pub one : Parser Arg
-  one ts = if starts (skip ts) then bind (inner (skip ts)) (λ e rest. Some (Given e, skip rest)) else Some (Absent, skip ts)
+  unfoldable pub one_argument : Parser Arg
+  one_argument ts = if starts (skip ts) then bind (inner (skip ts)) (λ e rest. Some (Given e, skip rest)) else Some (Absent, skip ts)
 
   -- at most this many
   unfoldable pub several : ℕ → Parser Args
   several zero ts = None
-  several (suc n) ts = bind (one ts) (λ arg rest. if sees mark.Comma rest then bind (several n (tail rest)) (λ args end. Some (More arg args, end)) else Some (More arg Nil, rest))
+  several (suc n) ts = bind (one_argument ts) (λ arg rest. if sees mark.Comma rest then bind (several n (tail rest)) (λ args end. Some (More arg args, end)) else Some (More arg Nil, rest))
 
   abbrev pub subscripts : Bytes → Args → Parser Expr
   subscripts a args rest = if given args then expect mark.Greater (Reference a args) rest else None
 
   -- after a name
-  unfoldable pub named : Bytes → Parser Expr
-  named f ts = if sees mark.Open ts then bind (several (length ts) (tail ts)) (λ args rest. expect mark.Close (Call f (shown args)) rest)
+  unfoldable pub after_name : Bytes → Parser Expr
+  after_name f ts = if sees mark.Open ts then bind (several (length ts) (tail ts)) (λ args rest. expect mark.Close (Call f (shown args)) rest)
       else (if sees mark.Less ts then bind (several (length ts) (tail ts)) (subscripts f) else Some (Name f, ts))
 
   unfoldable pub bracketed : Parser Expr
@@ -164,7 +164,7 @@ module _ (inner : Parser Expr) where
   unfoldable pub element_step : Parser Expr → Parser Expr
   element_step again [] = None
   element_step again (Blank ∷ ts) = None
-  element_step again (Word s ∷ ts) = named s ts
+  element_step again (Word s ∷ ts) = after_name s ts
   element_step again (Digits n ∷ ts) = Some (Integer (pos n), ts)
   element_step again (Quoted s ∷ ts) = Some (Literal s, ts)
   element_step again (Sign m ∷ ts) = by_mark (role m) ts (again ts)
@@ -172,7 +172,7 @@ module _ (inner : Parser Expr) where
 -- ---- grades
 
 -- goes on where an operator of the grade comes next, and else stops
-unfoldable pub on : {A : Type 0} → Next → ℕ → A → (Binary → List Tok → A) → A
+unfoldable pub on : {A : Type 0} → Onward → ℕ → A → (Binary → List Tok → A) → A
 on Ends k stop go = stop
 on (Sees op after) k stop go = if grade op == k then go op after else stop
 
@@ -201,10 +201,10 @@ abbrev pub whole : ℕ → Parser Expr
 whole d = graded (element d) 7
 
 -- what is read, where no token is left
-abbrev pub finish : {A : Type 0} → Option (A × List Tok) → Option A
-finish None = None
-finish (Some p) = elim p.1 [ [] ↦ Some p.0 | t ∷ rest ↦ None ]
+abbrev pub at_end : {A : Type 0} → Option (A × List Tok) → Option A
+at_end None = None
+at_end (Some p) = elim p.1 [ [] ↦ Some p.0 | t ∷ rest ↦ None ]
 
 -- the one tree of all the tokens
 unfoldable pub expr : List Tok → Option Expr
-expr ts = finish (whole (length ts) ts)
+expr ts = at_end (whole (length ts) ts)

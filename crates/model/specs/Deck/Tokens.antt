@@ -4,7 +4,7 @@ use Rattle.model.specs.declared.tokens.Mark.{Mark}
 use Rattle.model.specs.declared.tokens.TokenKind.{TokenKind}
 use Rattle.model.specs.declared.tokens.TokenKind.TheVariants as kind
 use Rattle.model.specs.declared.tokens.Token.{Token}
-use Rattle.model.specs.Deck.Digits.{value}
+use Rattle.model.specs.Deck.Digits.{decimal_value}
 
 pub data Tok : Type 0 where
   Blank : Tok
@@ -21,7 +21,7 @@ between_quotes text = take (length text - 2) (drop 1 text)
 abbrev pub tok_by : TokenKind → List ℕ → Tok
 tok_by kind.Blank text = Blank
 tok_by kind.Name text = Word text
-tok_by kind.Integer text = Digits (value text)
+tok_by kind.Integer text = Digits (decimal_value text)
 tok_by kind.Literal text = Quoted (between_quotes text)
 tok_by (kind.Mark mark) text = Sign mark
 

@@ -14,9 +14,9 @@ place_from i (b ∷ bs) (z ∷ zs) = if int_le b.low z && int_lt z (b.low +ℤ p
 place_from i _ _ = None
 
 -- where the item stands among others, counted from i
-abbrev pub place_of : ℕ → Bytes → List Bytes → Option ℕ
-place_of i x [] = None
-place_of i x (y ∷ ys) = if bytes_eq x y then Some i else place_of (i + 1) x ys
+abbrev pub index_of : ℕ → Bytes → List Bytes → Option ℕ
+index_of i x [] = None
+index_of i x (y ∷ ys) = if bytes_eq x y then Some i else index_of (i + 1) x ys
 
 -- key and value of each entry whose value isn't null, where a key is this value
 abbrev pub rows : {V : Type 0} → (V → Bool) → (Key → V) → List (Entry V) → List V
@@ -67,13 +67,13 @@ module _ {P E : Type 0} where
   named_element k None w = Refuses w
   named_element k (Some i) w = Gives (Element k i) w
 
-  abbrev pub key_name : ℕ → Value P E → Conv Name
-  key_name k (Str s) = Got (StringKey k s)
-  key_name k (Int z) = Got (IntegerKey k z)
-  key_name k _ = Bad error.WrongType
+  abbrev pub keyed_name : ℕ → Value P E → Conv Name
+  keyed_name k (Str s) = Got (StringKey k s)
+  keyed_name k (Int z) = Got (IntegerKey k z)
+  keyed_name k _ = Bad error.WrongType
 
   abbrev pub table_element : ℕ → List (Value P E) → World P E → Op (World P E) Name
-  table_element k (v ∷ []) w = conv (key_name k v) w (λ n. Gives n w)
+  table_element k (v ∷ []) w = conv (keyed_name k v) w (λ n. Gives n w)
   table_element k _ w = Faults error.BadArray w
 
   abbrev pub element_in : ℕ → Option (Object (Value P E)) → List (Value P E) → World P E → Op (World P E) Name
@@ -93,7 +93,7 @@ module _ {P E : Type 0} where
   named_field k (Some i) w = Gives (Element k i) w
 
   abbrev pub field_in : Bytes → ℕ → Option (Object (Value P E)) → World P E → Op (World P E) Name
-  field_in f k (Some (RecordOf t fs vs)) w = named_field k (place_of 0 f fs) w
+  field_in f k (Some (RecordOf t fs vs)) w = named_field k (index_of 0 f fs) w
   field_in f k _ w = Faults error.WrongType w
 
   -- the name of a record's field
@@ -119,15 +119,15 @@ module _ {P E : Type 0} where
 
   -- ---- tables as arrays
 
-  abbrev pub key_value : Key → Value P E
-  key_value (IntegerAt z) = Int z
-  key_value (StringAt s) = Str s
+  abbrev pub value_of_key : Key → Value P E
+  value_of_key (IntegerAt z) = Int z
+  value_of_key (StringAt s) = Str s
 
   abbrev pub rows_array : List (Entry (Value P E)) → World P E → Op (World P E) (Value P E)
   rows_array es w =
       if nat_eq (row_count is_null es) 0 then Refuses w
       else if nat_lt 524288 (row_count is_null es) then Faults error.BadArray w
-      else new_object (ArrayOf (pairs (row_count is_null es)) (rows is_null key_value es)) w
+      else new_object (ArrayOf (pairs (row_count is_null es)) (rows is_null value_of_key es)) w
 
   abbrev pub table_array : Option (Object (Value P E)) → World P E → Op (World P E) (Value P E)
   table_array (Some (TableOf es)) w = rows_array es w

@@ -5,7 +5,7 @@ use Rattle.model.specs.declared.instr.ReturnKind.TheVariants as kind
 use Rattle.model.specs.declared.run.ErrorCode.TheVariants as error
 use Rattle.model.specs.Deck.Trees.{Bytes}
 use Rattle.model.specs.Deck.Target.{Name}
-use Rattle.model.specs.Language.Keywords.{counted, return_name}
+use Rattle.model.specs.Language.Keywords.{counted_up, return_name}
 use Rattle.model.specs.Language.Values.{Value, Str, World, RecordOf, set_var, keys_of, set_keys}
 use Rattle.model.specs.Language.Conversions.{Conv, Got, Bad, Op, Gives, Refuses, Faults, conv, then_op, to_name}
 use Rattle.model.specs.Language.Operators.{fetch_op}
@@ -68,19 +68,19 @@ module _ {P E : Type 0} where
   abbrev pub enter_call : Bytes → (arguments locals : List Bytes) → List (Value P E) → World P E → World P E
   enter_call f xs ys vs w =
       let w1 : World P E = bind_arguments ys [] (bind_arguments xs vs (set_var f (Str []) w)) in
-      set_keys (record (keys_of w1) { fnclevel = counted (keys_of w1).fnclevel }) w1
+      set_keys (record (keys_of w1) { fnclevel = counted_up (keys_of w1).fnclevel }) w1
 
   -- the world of the caller
-  abbrev pub back : ReturnKind → Kept P E → World P E → World P E
-  back k c w =
+  abbrev pub back_to_caller : ReturnKind → Kept P E → World P E → World P E
+  back_to_caller k c w =
       let w1 : World P E = restore c.saved w in
       set_keys (record (keys_of w1) { stno = c.stno; fnclevel = c.fnclevel; rtntype = return_name k }) w1
 
   -- the end of a call
   abbrev pub leave_op : ReturnKind → Kept P E → World P E → Op (World P E) (Returned P E)
-  leave_op kind.Return c w = Gives (AValue (w.vars c.name)) (back kind.Return c w)
-  leave_op kind.FReturn c w = Refuses (back kind.FReturn c w)
-  leave_op kind.NReturn c w = conv (or_no_name (to_name (w.vars c.name))) w (λ n. Gives (AName n) (back kind.NReturn c w))
+  leave_op kind.Return c w = Gives (AValue (w.vars c.name)) (back_to_caller kind.Return c w)
+  leave_op kind.FReturn c w = Refuses (back_to_caller kind.FReturn c w)
+  leave_op kind.NReturn c w = conv (or_no_name (to_name (w.vars c.name))) w (λ n. Gives (AName n) (back_to_caller kind.NReturn c w))
 
   -- where a value is wanted, and where a name is
   abbrev pub as_value : Returned P E → World P E → Op (World P E) (Value P E)

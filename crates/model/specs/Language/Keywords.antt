@@ -95,8 +95,8 @@ first_keys = record {
 }
 
 -- one more, but never past the greatest integer
-abbrev pub counted : ℤ → ℤ
-counted z = if int_lt z (pos (2 ^ 63) -ℤ pos 1) then z +ℤ pos 1 else z
+abbrev pub counted_up : ℤ → ℤ
+counted_up z = if int_lt z (pos (2 ^ 63) -ℤ pos 1) then z +ℤ pos 1 else z
 
 -- the words of gotos that leave a function
 abbrev pub return_name : ReturnKind → Bytes

@@ -10,7 +10,7 @@ use Rattle.model.specs.Deck.Trees.{Bytes}
 use Rattle.model.specs.Deck.Target.{Name, Variable, Element, IntegerKey, StringKey}
 use Rattle.model.specs.Language.Strings.{trimmed}
 use Rattle.model.specs.Language.Keywords.{KeyValue, IsInteger, IsText, key_value, is_zero, allows, put_key}
-use Rattle.model.specs.Pattern.Patterns.{Pending, Told, Text, Number, Kind, want_of, with_answer}
+use Rattle.model.specs.Pattern.Patterns.{Pending, Told, Text, Number, Kind, want_of_kind, with_answer}
 use Rattle.model.specs.Language.Values.{Value, Str, Int, Pat, Exp, Makes, Key, IntegerAt, StringAt, Entry, Object, ArrayOf, TableOf, RecordOf, World, set_io, set_objects, set_var, keys_of, set_keys}
 use Rattle.model.specs.Language.Conversions.{Conv, Got, Bad, Op, Gives, Refuses, Faults, conv, then_op, to_text, to_integer, to_pattern, to_name, is_null, fit, answer_of}
 
@@ -41,9 +41,9 @@ sign_of sign.Plus a = Got a
 sign_of sign.Minus a = fit error.Arithmetic (pos 0 -ℤ a)
 
 -- two texts joined, where both values have one
-abbrev pub joined : Conv Bytes → Conv Bytes → Option Bytes
-joined (Got s) (Got t) = Some (s ++ t)
-joined _ _ = None
+abbrev pub text_joined : Conv Bytes → Conv Bytes → Option Bytes
+text_joined (Got s) (Got t) = Some (s ++ t)
+text_joined _ _ = None
 
 module _ {P E : Type 0} where
   abbrev pub arith_op : ArithOp → Value P E → Value P E → World P E → Op (World P E) (Value P E)
@@ -67,7 +67,7 @@ module _ {P E : Type 0} where
 
   -- the null string joined to anything is the other, unconverted
   abbrev pub cat_op : Makes P E → Value P E → Value P E → World P E → Op (World P E) (Value P E)
-  cat_op m a b w = if is_null a then Gives b w else (if is_null b then Gives a w else join_rest m (joined (to_text a) (to_text b)) a b w)
+  cat_op m a b w = if is_null a then Gives b w else (if is_null b then Gives a w else join_rest m (text_joined (to_text a) (to_text b)) a b w)
 
   abbrev pub alt_op : Makes P E → Value P E → Value P E → World P E → Op (World P E) (Value P E)
   alt_op m a b w = two_patterns m m.alt a b w
@@ -212,7 +212,7 @@ module _ {P E : Type 0} where
   -- a pattern of a kind; its argument may be an expression
   abbrev pub kind_op : Makes P E → Kind → Value P E → World P E → Op (World P E) (Value P E)
   kind_op m k (Exp e) w = Gives (Pat (m.defer_kind k e)) w
-  kind_op m k v w = conv (answer_of m (want_of k) v) w (λ y. Gives (Pat (m.basic (with_answer k y))) w)
+  kind_op m k v w = conv (answer_of m (want_of_kind k) v) w (λ y. Gives (Pat (m.basic (with_answer k y))) w)
 
   abbrev pub told_value : Told → Value P E
   told_value (Text s) = Str s

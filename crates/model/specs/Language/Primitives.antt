@@ -144,8 +144,8 @@ module _ {P E : Type 0} where
   data_op (Some t) w = Gives (Str []) (set_fields t.fields (set_function t.name (Constructor t.fields) w))
 
   -- the entry label, if one is given
-  abbrev pub entry_label : Value P E → Conv (Option Bytes)
-  entry_label v = if is_null v then Got None else then_conv (to_label v) (λ l. Got (Some l))
+  abbrev pub to_entry_label : Value P E → Conv (Option Bytes)
+  to_entry_label v = if is_null v then Got None else then_conv (to_label v) (λ l. Got (Some l))
 
   abbrev pub define_op : Option Bytes → Option FunctionPrototype → World P E → Op (World P E) (Value P E)
   define_op entry None w = Faults error.BadPrototype w
@@ -219,7 +219,7 @@ module _ {P E : Type 0} where
   prim_op m p.Copy vs w = returned (copy_op (arg_at vs 0) w)
   prim_op m p.Convert vs w = returned (conv (to_text (arg_at vs 1)) w (λ t. converted m (arg_at vs 0) t w))
   prim_op m p.Data vs w = returned (conv (to_text (arg_at vs 0)) w (λ s. data_op (type_prototype s) w))
-  prim_op m p.Define vs w = returned (conv (to_text (arg_at vs 0)) w (λ s. conv (entry_label (arg_at vs 1)) w (λ l. define_op l (function_prototype s) w)))
+  prim_op m p.Define vs w = returned (conv (to_text (arg_at vs 0)) w (λ s. conv (to_entry_label (arg_at vs 1)) w (λ l. define_op l (function_prototype s) w)))
   prim_op m p.Input vs w = returned (input_op (arg_at vs 0) (arg_at vs 1) w)
   prim_op m p.Output vs w = returned (output_op (arg_at vs 0) (arg_at vs 1) w)
   prim_op m p.Detach vs w = returned (detach_op (arg_at vs 0) w)

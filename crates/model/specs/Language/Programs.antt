@@ -16,9 +16,9 @@ abbrev pub end_label : Bytes
 end_label = codes "END"
 
 -- END labels itself
-abbrev pub label_of : Stmt → Option Bytes
-label_of (Plain l b g) = l
-label_of (End e) = Some end_label
+abbrev pub label_of_stmt : Stmt → Option Bytes
+label_of_stmt (Plain l b g) = l
+label_of_stmt (End e) = Some end_label
 
 abbrev pub is_text : Bytes → Option Bytes → Bool
 is_text l None = false
@@ -27,7 +27,7 @@ is_text l (Some s) = bytes_eq s l
 -- the number of the first statement with this label, where the first of the list has number k
 abbrev pub labelled_from : ℕ → List Stmt → Bytes → Option ℕ
 labelled_from k [] l = None
-labelled_from k (s ∷ ss) l = if is_text l (label_of s) then Some k else labelled_from (suc k) ss l
+labelled_from k (s ∷ ss) l = if is_text l (label_of_stmt s) then Some k else labelled_from (suc k) ss l
 
 abbrev pub entry_label : List Stmt → Option Bytes
 entry_label [] = None

@@ -6,11 +6,11 @@ use Rattle.model.specs.Language.Programs.{Program, program}
 use Rattle.model.specs.Pattern.Patterns.{Basic, Lit, Arb, Bal, Pat, Plain, Succeed, Abort, Fence, Cat, Alt, Arbno, FenceOf, Cond, Imm, At, Defer, DeferBasic, Pending, Want, Answer, IsPattern, IsSaid, AskFor, SayThat, with_answer, Running, Failed, Asks, Matched}
 use Rattle.model.specs.Pattern.BasicEnds.{ends_at}
 use Rattle.model.specs.Pattern.Ends.{between}
-use Rattle.model.specs.Pattern.Search.{Hit, Miss, Goal, Part, Closing, Saying, Found', Script, Next, search, scan}
-use Rattle.model.specs.Language.Values.{Pattern, trees}
+use Rattle.model.specs.Pattern.Search.{Hit, Miss, Goal, Part, Closing, Saying, Found', Script, SearchOn, search, scan}
+use Rattle.model.specs.Language.Values.{Pattern, pattern_trees}
 use Rattle.model.specs.Language.Conversions.{Conv, Got, Bad, Op, Gives, Refuses, Faults, answer_of}
 use Rattle.model.specs.Language.Operators.{assign_op, told_value}
-use Rattle.model.specs.Language.Meaning.{Val, W, over_limit, Res, Done, Fails, Ends, Open, Query, QVal, QName, QArgs, QBody, QExec, QMatch, Ans, Rule, Ret, Fail, Stop as Stops, Ask, Seek, Event, rule, run_rule, meaning}
+use Rattle.model.specs.Language.Meaning.{Val, W, over_limit, Res, Done, Fails, Ends, Open, Query, QVal, QName, QArgs, QBody, QExec, QMatch, Ans, Rule, Ret, Fail, Stop as Stops, Ask, Seek, SearchEvent, rule, run_rule, meaning}
 use Rattle.model.specs.Laws.Agreement.{Inputs, first_w}
 
 -- ---- of a search
@@ -51,7 +51,7 @@ abbrev pub NextCount : Type 0
 NextCount = List Goal → ℕ → Pending → Script → ℕ
 
 -- of what follows one rule of the search, where the parts find f and count n
-abbrev pub rule_count : List ℕ → Next → NextCount → Goal → List Goal → ℕ → Pending → Script → ℕ
+abbrev pub rule_count : List ℕ → SearchOn → NextCount → Goal → List Goal → ℕ → Pending → Script → ℕ
 rule_count s f n (Part (Plain k)) rest c a t = each_count (λ e u. f rest e a u) (λ e u. end_counts k + n rest e a u) (ends_at s k c) t
 rule_count s f n (Part Succeed) rest c a t = n rest c a t + if_missed (f rest c a t) (λ u. n (Part Succeed ∷ rest) c a u)
 rule_count s f n (Part Abort) rest c a t = 0
@@ -68,7 +68,7 @@ rule_count s f n (Part (DeferBasic k x)) rest c a t = argument_count (λ y u. n 
 rule_count s f n (Closing x b) rest c a t = n rest c (a ++ (x, between s b c) ∷ []) t
 rule_count s f n (Saying x b) rest c a t = told_count (λ u. n rest c a u) t
 
-abbrev pub level_count : List ℕ → Next → NextCount → NextCount
+abbrev pub level_count : List ℕ → SearchOn → NextCount → NextCount
 level_count s f n [] c a t = 1
 level_count s f n (g ∷ rest) c a t = suc (rule_count s f n g rest c a t)
 
@@ -93,7 +93,7 @@ answer_count n (Got y) = 1
 answer_count n (Bad e) = n
 
 abbrev pub evaluated_count : ℕ → Want → Res Val → ℕ
-evaluated_count n k (Done v w) = answer_count n (answer_of trees k v)
+evaluated_count n k (Done v w) = answer_count n (answer_of pattern_trees k v)
 evaluated_count n k (Fails w) = 1
 evaluated_count n k (Ends e w) = n
 evaluated_count n k (Open w) = 0
@@ -107,7 +107,7 @@ abbrev pub Meant : Type 0
 Meant = (q : Query) → W → Res (Ans q)
 
 -- where the match ends, the search counts under the script that it ends with
-abbrev pub match_count : Meant → Event → ℕ → W → ℕ
+abbrev pub match_count : Meant → SearchEvent → ℕ → W → ℕ
 match_count m Running n w = 0
 match_count m Failed n w = n
 match_count m (Matched b e a) n w = n
@@ -139,7 +139,7 @@ after_count (Fails w) k f = f w
 after_count (Ends e w) k f = 0
 after_count (Open w) k f = 0
 
-abbrev pub event_count : Option Event → (Event → ℕ) → ℕ
+abbrev pub event_count : Option SearchEvent → (SearchEvent → ℕ) → ℕ
 event_count None k = 0
 event_count (Some e) k = k e
 
@@ -151,10 +151,10 @@ follow_count n m c (Stops e w) = 0
 follow_count n m c (Ask q w k f) = c q w + after_count (m q w) (λ a w1. follow_count n m c (k a w1)) (λ w1. follow_count n m c (f w1))
 follow_count n m c (Seek g w k) = event_count (g n) (λ e. follow_count n m c (k e))
 
-unfoldable pub count : Program → ℕ → Query → W → ℕ
-count prog zero q w = 0
-count prog (suc n) q w = own_count prog (suc n) (λ r v. meaning prog n r v) q w + follow_count (suc n) (λ r v. meaning prog n r v) (λ r v. count prog n r v) (rule prog q w)
+unfoldable pub query_count : Program → ℕ → Query → W → ℕ
+query_count prog zero q w = 0
+query_count prog (suc n) q w = own_count prog (suc n) (λ r v. meaning prog n r v) q w + follow_count (suc n) (λ r v. meaning prog n r v) (λ r v. query_count prog n r v) (rule prog q w)
 
 -- how many rules the meaning of a deck's statements uses, to the depth n
 abbrev pub rules_used : ℕ → List Stmt → Inputs → ℕ
-rules_used n deck inputs = follow_count (suc n) (meaning (program deck) n) (count (program deck) n) (run_rule (program deck) (first_w inputs))
+rules_used n deck inputs = follow_count (suc n) (meaning (program deck) n) (query_count (program deck) n) (run_rule (program deck) (first_w inputs))

@@ -3,7 +3,7 @@ use Rattle.std.specs.Prelude.{ℕ, List, [], ℤ, pos, Option, Some, None, if◌
 use Rattle.model.specs.Deck.Trees.{Bytes, Expr}
 use Rattle.model.specs.Deck.Target.{Name}
 use Rattle.model.specs.Language.Io.{Io}
-use Rattle.model.specs.Language.Keywords.{Keys, first_keys, counted}
+use Rattle.model.specs.Language.Keywords.{Keys, first_keys, counted_up}
 use Rattle.model.specs.Pattern.Patterns as p
 use Rattle.model.specs.Pattern.Patterns.{Basic, Kind}
 
@@ -36,8 +36,8 @@ abbrev pub Pattern : Type 0
 Pattern = p.Pat
 
 -- as trees
-abbrev pub trees : Makes Pattern Expr
-trees = record { basic = p.Plain; succeed = p.Succeed; abort = p.Abort; fence = p.Fence; alt = p.Alt; cat = p.Cat; arbno = p.Arbno; fence_of = p.FenceOf; cond = p.Cond; imm = p.Imm; cursor = p.At; defer = p.Defer; defer_kind = p.DeferBasic }
+abbrev pub pattern_trees : Makes Pattern Expr
+pattern_trees = record { basic = p.Plain; succeed = p.Succeed; abort = p.Abort; fence = p.Fence; alt = p.Alt; cat = p.Cat; arbno = p.Arbno; fence_of = p.FenceOf; cond = p.Cond; imm = p.Imm; cursor = p.At; defer = p.Defer; defer_kind = p.DeferBasic }
 
 -- ---- objects
 
@@ -112,11 +112,11 @@ module _ {P E : Type 0} where
 
   -- a statement begins
   abbrev pub enter_stmt : ℕ → World P E → World P E
-  enter_stmt n w = let ks : Keys = keys_of w in set_keys (record ks { stcount = counted ks.stcount; lastno = ks.stno; stno = pos n }) w
+  enter_stmt n w = let ks : Keys = keys_of w in set_keys (record ks { stcount = counted_up ks.stcount; lastno = ks.stno; stno = pos n }) w
 
   -- a statement has failed
   abbrev pub count_failure : World P E → World P E
-  count_failure w = let ks : Keys = keys_of w in set_keys (record ks { stfcount = counted ks.stfcount }) w
+  count_failure w = let ks : Keys = keys_of w in set_keys (record ks { stfcount = counted_up ks.stfcount }) w
 
   -- the values that variables have at first
   abbrev pub first_value : Makes P E → Bytes → Value P E

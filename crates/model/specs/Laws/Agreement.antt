@@ -4,7 +4,7 @@ use Rattle.model.specs.declared.run.Ending.{Ending}
 use Rattle.model.specs.declared.image.Image.{Image}
 use Rattle.model.specs.Deck.Trees.{Bytes, Expr, Stmt}
 use Rattle.model.specs.Language.Programs.{program}
-use Rattle.model.specs.Language.Values.{trees, first_world, printed_of}
+use Rattle.model.specs.Language.Values.{pattern_trees, first_world, printed_of}
 use Rattle.model.specs.Language.Meaning.{W, Res, Done, Fails, Ends, Open, run}
 use Rattle.model.specs.Machine.Steps.{MW, codes_of, State, Run, InMatch, Over, Stuck, begun, steps}
 use Rattle.model.specs.Module.Images.{module_of}
@@ -39,25 +39,25 @@ abbrev pub Inputs : Type 0
 Inputs = ℕ → List Bytes
 
 abbrev pub first_w : Inputs → W
-first_w inputs = first_world trees inputs
+first_w inputs = first_world pattern_trees inputs
 
 abbrev pub first_m : Inputs → MW
 first_m inputs = first_world codes_of inputs
 
 -- the meaning of a deck's statements, to the depth n
-abbrev pub mean : ℕ → List Stmt → Inputs → Seen
-mean n deck inputs = seen_of (run (program deck) n (first_w inputs))
+abbrev pub meaning_at : ℕ → List Stmt → Inputs → Seen
+meaning_at n deck inputs = seen_of (run (program deck) n (first_w inputs))
 
 -- what a module does in m steps
-abbrev pub mach : Image → Inputs → ℕ → Seen
-mach image inputs m = seen_at (steps (module_of image) m (begun (module_of image) (first_m inputs)))
+abbrev pub machine_at : Image → Inputs → ℕ → Seen
+machine_at image inputs m = seen_at (steps (module_of image) m (begun (module_of image) (first_m inputs)))
 
 -- the run of a module reaches an ending exactly when its program does, that ending and those records; and whatever either has printed the other prints too
 pub record Agrees (deck : List Stmt) (image : Image) : Type 0 where
-  pub ends : (inputs : Inputs) (n : ℕ) (e : Ending) → (mean n deck inputs).ending ≡ Some e → (m : ℕ) × (mach image inputs m ≡ mean n deck inputs)
-  pub ends_only : (inputs : Inputs) (m : ℕ) (e : Ending) → (mach image inputs m).ending ≡ Some e → (n : ℕ) × (mean n deck inputs ≡ mach image inputs m)
-  pub prints : (inputs : Inputs) (n : ℕ) → (m : ℕ) × IsBeginning (mean n deck inputs).printed (mach image inputs m).printed
-  pub prints_only : (inputs : Inputs) (m : ℕ) → (n : ℕ) × IsBeginning (mach image inputs m).printed (mean n deck inputs).printed
+  pub ends : (inputs : Inputs) (n : ℕ) (e : Ending) → (meaning_at n deck inputs).ending ≡ Some e → (m : ℕ) × (machine_at image inputs m ≡ meaning_at n deck inputs)
+  pub ends_only : (inputs : Inputs) (m : ℕ) (e : Ending) → (machine_at image inputs m).ending ≡ Some e → (n : ℕ) × (meaning_at n deck inputs ≡ machine_at image inputs m)
+  pub prints : (inputs : Inputs) (n : ℕ) → (m : ℕ) × IsBeginning (meaning_at n deck inputs).printed (machine_at image inputs m).printed
+  pub prints_only : (inputs : Inputs) (m : ℕ) → (n : ℕ) × IsBeginning (machine_at image inputs m).printed (meaning_at n deck inputs).printed
 
 -- the law: wherever the code of each statement stands
 abbrev pub AgreesWherePlaced : Type 0
@@ -66,7 +66,7 @@ AgreesWherePlaced = (deck : List Stmt) (image : Image) (trees_at : ℕ → Optio
 -- ---- more fuel only adds
 
 abbrev pub EndingStays : Type 0
-EndingStays = (deck : List Stmt) (inputs : Inputs) (n : ℕ) (e : Ending) → (mean n deck inputs).ending ≡ Some e → (d : ℕ) → mean (d + n) deck inputs ≡ mean n deck inputs
+EndingStays = (deck : List Stmt) (inputs : Inputs) (n : ℕ) (e : Ending) → (meaning_at n deck inputs).ending ≡ Some e → (d : ℕ) → meaning_at (d + n) deck inputs ≡ meaning_at n deck inputs
 
 abbrev pub PrintedGrows : Type 0
-PrintedGrows = (deck : List Stmt) (inputs : Inputs) (n d : ℕ) → IsBeginning (mean n deck inputs).printed (mean (d + n) deck inputs).printed
+PrintedGrows = (deck : List Stmt) (inputs : Inputs) (n d : ℕ) → IsBeginning (meaning_at n deck inputs).printed (meaning_at (d + n) deck inputs).printed

@@ -7,9 +7,9 @@ use Rattle.model.specs.declared.format.ModuleRule.TheVariants.{BadIndex, BadTarg
 use Rattle.model.specs.declared.image.Image.{Image}
 use Rattle.model.specs.declared.image.PatInstr.{PatInstr}
 use Rattle.model.specs.declared.instr.Instr.{Instr}
-use Rattle.model.specs.Module.Images.{bytes, total}
+use Rattle.model.specs.Module.Images.{instr_size, code_size}
 use Rattle.model.specs.Module.Flow.{BreaksFlow}
-use Rattle.model.specs.Module.WellFormed.{rule, entry_at, labels_at, statements_at, expressions_at, patterns_at, code_at, entry_rule, label_rule, statement_rule, expression_rule, pat_rule, pat_bytes, pattern_bytes, indices_fit, place_fits, is_last_instr, is_end, begins_last, number_of, IsWellFormed, IsTold}
+use Rattle.model.specs.Module.WellFormed.{unless, entry_offset, labels_offset, statements_offset, expressions_offset, patterns_offset, code_offset, entry_rule, label_rule, statement_rule, expression_rule, pat_rule, pat_bytes, pattern_bytes, indices_fit, place_fits, is_last_instr, is_end_instr, begins_last, number_of, IsWellFormed, IsTold}
 
 -- a broken rule, told at an offset
 abbrev pub IsAt : ℕ → Option ModuleRule → ModuleFault → Type 0
@@ -21,30 +21,30 @@ Among {A} fault width at xs f = (front : List A) × (x : A) × (back : List A) �
 
 -- an instruction may break several rules
 abbrev pub index_rule : Image → Instr → Option ModuleRule
-index_rule im i = rule BadIndex (indices_fit im i)
+index_rule im i = unless BadIndex (indices_fit im i)
 
 abbrev pub target_rule : Image → ℕ → ℕ → Instr → Option ModuleRule
-target_rule im at next i = rule BadTarget (place_fits im at i && (is_last_instr i || not (next == total im.code)))
+target_rule im at next i = unless BadTarget (place_fits im at i && (is_last_instr i || not (next == code_size im.code)))
 
 abbrev pub end_rule : Image → ℕ → Instr → Option ModuleRule
-end_rule im at i = rule NoEnd (is_end i || not (begins_last im at))
+end_rule im at i = unless NoEnd (is_end_instr i || not (begins_last im at))
 
 abbrev pub InInstr : Image → List Instr → ℕ → Instr → ModuleFault → Type 0
 InInstr im front at i f =
-    IsAt at (index_rule im i) f ⊎ (IsAt at (target_rule im (total front) (total front + bytes i) i) f ⊎ IsAt at (end_rule im (total front) i) f)
+    IsAt at (index_rule im i) f ⊎ (IsAt at (target_rule im (code_size front) (code_size front + instr_size i) i) f ⊎ IsAt at (end_rule im (code_size front) i) f)
 
 abbrev pub InPattern : Image → List (List PatInstr) → ℕ → List PatInstr → ModuleFault → Type 0
 InPattern im front at is = Among (λ before place i. IsAt place (pat_rule im (length is) before i)) pat_bytes (at + 4) is
 
 -- a fault that the image has
 pub data Has (im : Image) (f : ModuleFault) : Type 0 where
-  InEntry : IsAt entry_at (entry_rule im) f → Has im f
-  InLabels : Among (λ front at l. IsAt at (label_rule im front l)) (λ l. 8) (labels_at im) im.labels f → Has im f
-  InStatements : Among (λ front at o. IsAt at (statement_rule im front o)) (λ o. 4) (statements_at im) im.statements f → Has im f
-  InExpressions : Among (λ front at o. IsAt at (expression_rule im front o)) (λ o. 4) (expressions_at im) im.expressions f → Has im f
-  InPatterns : Among (InPattern im) pattern_bytes (patterns_at im) im.patterns f → Has im f
-  InCode : Among (InInstr im) bytes (code_at im) im.code f → Has im f
-  InFlow : (at : ℕ) → BreaksFlow im at → f ≡ record { offset = code_at im + at; rule = BadFlow } → Has im f
+  InEntry : IsAt entry_offset (entry_rule im) f → Has im f
+  InLabels : Among (λ front at l. IsAt at (label_rule im front l)) (λ l. 8) (labels_offset im) im.labels f → Has im f
+  InStatements : Among (λ front at o. IsAt at (statement_rule im front o)) (λ o. 4) (statements_offset im) im.statements f → Has im f
+  InExpressions : Among (λ front at o. IsAt at (expression_rule im front o)) (λ o. 4) (expressions_offset im) im.expressions f → Has im f
+  InPatterns : Among (InPattern im) pattern_bytes (patterns_offset im) im.patterns f → Has im f
+  InCode : Among (InInstr im) instr_size (code_offset im) im.code f → Has im f
+  InFlow : (at : ℕ) → BreaksFlow im at → f ≡ record { offset = code_offset im + at; rule = BadFlow } → Has im f
 
 -- by offset, and by number at the same offset
 abbrev pub NotAfter : ModuleFault → ModuleFault → Type 0

@@ -19,15 +19,15 @@ use Rattle.model.specs.Machine.Standing.{kinds, IsComplete, RunsUpon, RunStands,
 
 -- so many steps
 abbrev pub SearchesStayIn : Type 0
-SearchesStayIn = (n : ℕ) (subject : List ℕ) (code : PCode) (m : ℕ) (st : s.State) → CodeIn n code → SearchIn n st → SearchIn n (s.steps subject code m st)
+SearchesStayIn = (n : ℕ) (subject : List ℕ) (code : PCode) (m : ℕ) (st : s.MatchState) → CodeIn n code → SearchIn n st → SearchIn n (s.pattern_steps subject code m st)
 
 -- a further answer
 abbrev pub SuppliedStayIn : Type 0
-SuppliedStayIn = (n : ℕ) (y : Answer PCode) (st : s.State) → AnswerIn n y → SearchIn n st → SearchIn n (s.with_more (y ∷ []) st)
+SuppliedStayIn = (n : ℕ) (y : Answer PCode) (st : s.MatchState) → AnswerIn n y → SearchIn n st → SearchIn n (s.with_more (y ∷ []) st)
 
 -- the expression whose value is asked for
 abbrev pub AskedAreIn : Type 0
-AskedAreIn = (n : ℕ) (st : s.State) → SearchIn n st → (k : ℕ) (want : Want) → s.event_of st ≡ Asks (AskFor k want) → k < n
+AskedAreIn = (n : ℕ) (st : s.MatchState) → SearchIn n st → (k : ℕ) (want : Want) → s.event_of st ≡ Asks (AskFor k want) → k < n
 
 -- ---- the machine
 
@@ -45,11 +45,11 @@ StepsStayIn = (n : ℕ) (im : Module) → ModuleIn n im → (m : ℕ) (st : Stat
 
 -- the expression whose value the match asks for in its next step
 abbrev pub NextAskedAreIn : Type 0
-NextAskedAreIn = (n : ℕ) (g : Matching) (st : s.State) (fs : List Frame) (w : MW) → StateIn n (InMatch g st fs w) → (k : ℕ) (want : Want) → s.event_of (s.step g.subject g.code st) ≡ Asks (AskFor k want) → k < n
+NextAskedAreIn = (n : ℕ) (g : Matching) (st : s.MatchState) (fs : List Frame) (w : MW) → StateIn n (InMatch g st fs w) → (k : ℕ) (want : Want) → s.event_of (s.pattern_step g.subject g.code st) ≡ Asks (AskFor k want) → k < n
 
 -- where no expression has a number, a match asks for none
 abbrev pub NoneAsked : Type 0
-NoneAsked = (g : Matching) (st : s.State) (fs : List Frame) (w : MW) → StateIn 0 (InMatch g st fs w) → (k : ℕ) (want : Want) → s.event_of (s.step g.subject g.code st) ≢ Asks (AskFor k want)
+NoneAsked = (g : Matching) (st : s.MatchState) (fs : List Frame) (w : MW) → StateIn 0 (InMatch g st fs w) → (k : ℕ) (want : Want) → s.event_of (s.pattern_step g.subject g.code st) ≢ Asks (AskFor k want)
 
 -- ---- images
 
@@ -64,15 +64,15 @@ WellFormedAreIn = (im : Image) → IsWellFormed im → ModuleIn (length im.expre
 -- what a match asks for is there
 abbrev pub AskedAreThere : Type 0
 AskedAreThere =
-    (im : Image) (g : Matching) (st : s.State) (fs : List Frame) (w : MW) → StateIn (length im.expressions) (InMatch g st fs w) → (k : ℕ) (want : Want)
-    → s.event_of (s.step g.subject g.code st) ≡ Asks (AskFor k want) → (at : ℕ) × ((module_of im).expr k ≡ Some at)
+    (im : Image) (g : Matching) (st : s.MatchState) (fs : List Frame) (w : MW) → StateIn (length im.expressions) (InMatch g st fs w) → (k : ℕ) (want : Want)
+    → s.event_of (s.pattern_step g.subject g.code st) ≡ Asks (AskFor k want) → (at : ℕ) × ((module_of im).expr k ≡ Some at)
 
 -- and so it is in each state of a run that is in a match
 abbrev pub RunsAskForWhatIsThere : Type 0
 RunsAskForWhatIsThere =
-    (im : Image) → IsWellFormed im → (records : ℕ → List Bytes) (m : ℕ) (g : Matching) (st : s.State) (fs : List Frame) (w : MW)
+    (im : Image) → IsWellFormed im → (records : ℕ → List Bytes) (m : ℕ) (g : Matching) (st : s.MatchState) (fs : List Frame) (w : MW)
     → steps (module_of im) m (begun (module_of im) (first_world codes_of records)) ≡ InMatch g st fs w → (k : ℕ) (want : Want)
-    → s.event_of (s.step g.subject g.code st) ≡ Asks (AskFor k want) → (at : ℕ) × ((module_of im).expr k ≡ Some at)
+    → s.event_of (s.pattern_step g.subject g.code st) ≡ Asks (AskFor k want) → (at : ℕ) × ((module_of im).expr k ≡ Some at)
 
 -- ---- no run lacks what it needs
 

@@ -6,8 +6,8 @@ use Rattle.model.specs.Language.Programs.{Program}
 use Rattle.model.specs.Language.Values.{Pattern}
 use Rattle.model.specs.Pattern.Search.{Script}
 use Rattle.model.specs.Language.Meaning.{W, Settled, Query, QMatch, meaning}
-use Rattle.model.specs.Laws.Agreement.{Inputs, mean}
-use Rattle.model.specs.Language.RulesUsed.{count, rules_used}
+use Rattle.model.specs.Laws.Agreement.{Inputs, meaning_at}
+use Rattle.model.specs.Language.RulesUsed.{query_count, rules_used}
 
 -- what anything that can be asked for comes to, with the world then
 abbrev pub AnswersStay : Type 0
@@ -19,8 +19,8 @@ MatchesStay = (prog : Program) (n m : ℕ) → n ≤ m → (subject : Bytes) (p 
 
 -- the rules used for it
 abbrev pub CountsStay : Type 0
-CountsStay = (prog : Program) (n m : ℕ) → n ≤ m → (q : Query) (w : W) → Settled (meaning prog n q w) → count prog m q w ≡ count prog n q w
+CountsStay = (prog : Program) (n m : ℕ) → n ≤ m → (q : Query) (w : W) → Settled (meaning prog n q w) → query_count prog m q w ≡ query_count prog n q w
 
 -- and those of a deck whose meaning has ended
 abbrev pub RulesStay : Type 0
-RulesStay = (deck : List Stmt) (inputs : Inputs) (n m : ℕ) → n ≤ m → (e : Ending) → (mean n deck inputs).ending ≡ Some e → rules_used m deck inputs ≡ rules_used n deck inputs
+RulesStay = (deck : List Stmt) (inputs : Inputs) (n m : ℕ) → n ≤ m → (e : Ending) → (meaning_at n deck inputs).ending ≡ Some e → rules_used m deck inputs ≡ rules_used n deck inputs

@@ -1,11 +1,12 @@
 -- The laws of the definitions, as statements.
 use Rattle.std.specs.Prelude.{◌≡◌, ◌≢◌, ℕ, ◌≤◌, ◌<◌, ◌+◌, List, [], ◌∷◌, ◌⊎◌, ◌++◌, Option}
-use Rattle.model.specs.Pattern.Patterns.{Pat, Expr, Event, Running, Failed, Asks, Matched, Pending}
+use Rattle.model.specs.Pattern.Patterns.{Pat, Event, Running, Failed, Asks, Matched, Pending}
 use Rattle.model.specs.Pattern.Ends.{Item, End, Deep, ends, Permits, first, IsPlain, IsOfLiterals}
 use Rattle.model.specs.Pattern.Search as S
 use Rattle.model.specs.Pattern.Search.{Goal, Script, search, scan}
-use Rattle.model.specs.Pattern.Steps.{Code, Answers, match_steps, event_of, with_more, IsSupplied, State, steps, IsSound}
+use Rattle.model.specs.Pattern.Steps.{Code, Answers, match_steps, event_of, with_more, IsSupplied, MatchState, pattern_steps, IsSound}
 use Rattle.model.specs.Pattern.Stands.{Stands, Alike, AlikeEvent}
+use Rattle.model.specs.Deck.Trees.{Expr}
 
 -- xs without its Deep is a beginning of ys, and xs without a Deep is ys
 abbrev pub Begins : List Item → List Item → Type 0
@@ -54,7 +55,7 @@ AnswersComeLater = (s : List ℕ) (code : Code) (left b : ℕ) (u v : Answers) (
 
 -- each step keeps cursors and starts within the subject
 abbrev pub StepsAreSound : Type 0
-StepsAreSound = (s : List ℕ) (code : Code) (m : ℕ) (st : State) → IsSound s st → IsSound s (steps s code m st)
+StepsAreSound = (s : List ℕ) (code : Code) (m : ℕ) (st : MatchState) → IsSound s st → IsSound s (pattern_steps s code m st)
 
 -- ---- patterns of literals, `|` and blank
 

@@ -2,14 +2,14 @@
 use Rattle.std.specs.Prelude.{◌≡◌, ◌≢◌, ℕ, ◌≤◌, ◌+◌, ◌*◌, List, Option, Some}
 use Rattle.model.specs.declared.run.Ending.{Ending}
 use Rattle.model.specs.declared.image.Image.{Image}
-use Rattle.model.specs.Deck.Trees.{Stmt}
+use Rattle.model.specs.Deck.Trees.{Stmt, Expr}
 use Rattle.model.specs.Language.Programs.{program}
 use Rattle.model.specs.Module.Images.{module_of}
 use Rattle.model.specs.Module.Placed.{Placed}
-use Rattle.model.specs.Laws.Agreement.{Inputs, mean, mach}
-use Rattle.model.specs.Pattern.Patterns.{Pat, Expr, Running}
+use Rattle.model.specs.Laws.Agreement.{Inputs, meaning_at, machine_at}
+use Rattle.model.specs.Pattern.Patterns.{Pat, Running}
 use Rattle.model.specs.Pattern.Search.{Script, scan}
-use Rattle.model.specs.Pattern.Steps.{Code, Answers, match_steps, steps, event_of}
+use Rattle.model.specs.Pattern.Steps.{Code, Answers, match_steps, pattern_steps, event_of}
 use Rattle.model.specs.Pattern.Stands.{Stands, Alike, AlikeEvent}
 use Rattle.model.specs.Language.RulesUsed.{scan_count, rules_used}
 
@@ -22,13 +22,13 @@ PatternStepsBounded = (s : List ℕ) (xs : ℕ → Option Expr) (p : Pat) (code 
 
 -- the same where i steps are done and it still runs, as after an answer: the steps since the match's start are no more
 abbrev pub PatternStepsOnBounded : Type 0
-PatternStepsOnBounded = (s : List ℕ) (xs : ℕ → Option Expr) (p : Pat) (code : Code) → Stands xs p code → (n left b : ℕ) (t : Script) (u : Answers) → Alike xs t u → scan s n p left b t ≢ Running → (i : ℕ) → event_of (match_steps s code left b u i) ≡ Running → (l : ℕ) × (i + l ≤ 4 * scan_count s n p left b t) × AlikeEvent xs (scan s n p left b t) (event_of (steps s code l (match_steps s code left b u i)))
+PatternStepsOnBounded = (s : List ℕ) (xs : ℕ → Option Expr) (p : Pat) (code : Code) → Stands xs p code → (n left b : ℕ) (t : Script) (u : Answers) → Alike xs t u → scan s n p left b t ≢ Running → (i : ℕ) → event_of (match_steps s code left b u i) ≡ Running → (l : ℕ) × (i + l ≤ 4 * scan_count s n p left b t) × AlikeEvent xs (scan s n p left b t) (event_of (pattern_steps s code l (match_steps s code left b u i)))
 
 -- ---- of a run
 
 -- where the meaning of a deck ends having used r rules, the module has ended so too after any 7 * (r + 1) steps or more
 abbrev pub EndsInTime : List Stmt → Image → Type 0
-EndsInTime deck image = (inputs : Inputs) (n : ℕ) (e : Ending) → (mean n deck inputs).ending ≡ Some e → (b : ℕ) → 7 * (rules_used n deck inputs + 1) ≤ b → mach image inputs b ≡ mean n deck inputs
+EndsInTime deck image = (inputs : Inputs) (n : ℕ) (e : Ending) → (meaning_at n deck inputs).ending ≡ Some e → (b : ℕ) → 7 * (rules_used n deck inputs + 1) ≤ b → machine_at image inputs b ≡ meaning_at n deck inputs
 
 -- the law: wherever the code of each statement stands
 abbrev pub RunStepsBounded : Type 0

@@ -100,7 +100,7 @@ module _ (n : ℕ) where
   WaitingIn (ForArgument kind k) = k < n
   WaitingIn (ForSaid x v) = Unit {0}
 
-  abbrev pub SearchIn : s.State → Type 0
+  abbrev pub SearchIn : s.MatchState → Type 0
   SearchIn (Starting start left u) = AnswersIn u
   SearchIn (Going t cs start left u) = ThreadIn t × ChoicesIn cs × AnswersIn u
   SearchIn (Returning ch cs start left u) = ChoiceIn ch × ChoicesIn cs × AnswersIn u

@@ -5,7 +5,7 @@ use Rattle.model.specs.declared.format.LoadFault.{LoadFault}
 use Rattle.model.specs.declared.format.LoadFault.TheVariants.{Format, Module}
 use Rattle.model.specs.declared.format.Miss.{Miss}
 use Rattle.model.specs.declared.image.Image.{Image}
-use Rattle.model.specs.Module.Reading.{image_of}
+use Rattle.model.specs.Module.Reading.{read_image}
 use Rattle.model.specs.Module.WellFormed.{IsWellFormed, IsTold}
 
 -- the offset of a fault at which so many bytes are left
@@ -13,6 +13,6 @@ abbrev pub offset_of : List ℕ → Miss → FormatFault
 offset_of bytes miss = record { offset = length bytes - miss.left; rule = miss.rule }
 
 abbrev pub Loads : List ℕ → Result Image LoadFault → Type 0
-Loads bytes (Ok im) = (image_of bytes ≡ Ok im) × IsWellFormed im
-Loads bytes (Err (Format f)) = (miss : Miss) × (image_of bytes ≡ Err miss) × (f ≡ offset_of bytes miss)
-Loads bytes (Err (Module f)) = (im : Image) × (image_of bytes ≡ Ok im) × IsTold im (Some f)
+Loads bytes (Ok im) = (read_image bytes ≡ Ok im) × IsWellFormed im
+Loads bytes (Err (Format f)) = (miss : Miss) × (read_image bytes ≡ Err miss) × (f ≡ offset_of bytes miss)
+Loads bytes (Err (Module f)) = (im : Image) × (read_image bytes ≡ Ok im) × IsTold im (Some f)

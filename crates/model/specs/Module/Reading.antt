@@ -44,14 +44,14 @@ short f bytes = number w16 bytes >>> λ n. Some (f n.0, n.1)
 unfoldable pub long : {I : Type 0} → (ℕ → I) → List ℕ → Option (I × List ℕ)
 long f bytes = number w64 bytes >>> λ n. Some (f n.0, n.1)
 
-unfoldable pub whole : {I : Type 0} → (ℤ → I) → List ℕ → Option (I × List ℕ)
-whole f bytes = number w64 bytes >>> λ n. Some (f (cast_signed w64 n.0), n.1)
+unfoldable pub whole_number : {I : Type 0} → (ℤ → I) → List ℕ → Option (I × List ℕ)
+whole_number f bytes = number w64 bytes >>> λ n. Some (f (cast_signed w64 n.0), n.1)
 
 unfoldable pub distance : {I : Type 0} → (ℤ → I) → List ℕ → Option (I × List ℕ)
 distance f bytes = number w32 bytes >>> λ n. Some (f (cast_signed w32 n.0), n.1)
 
-unfoldable pub call : {I : Type 0} → (ℕ → ℕ → I) → List ℕ → Option (I × List ℕ)
-call f bytes = number w32 bytes >>> λ s. number w16 s.1 >>> λ n. Some (f s.0 n.0, n.1)
+unfoldable pub call_operands : {I : Type 0} → (ℕ → ℕ → I) → List ℕ → Option (I × List ℕ)
+call_operands f bytes = number w32 bytes >>> λ s. number w16 s.1 >>> λ n. Some (f s.0 n.0, n.1)
 
 unfoldable pub choice : {I A : Type 0} → List A → (A → I) → List ℕ → Option (I × List ℕ)
 choice xs f bytes = byte bytes >>> λ b. slice_get xs b.0 >>> λ x. Some (f x, b.1)
@@ -70,7 +70,7 @@ readers =
     alone instrs.GotoV ∷
     alone instrs.NoLabel ∷
     wide instrs.Str ∷
-    whole instrs.Int ∷
+    whole_number instrs.Int ∷
     alone instrs.Null ∷
     wide instrs.Var ∷
     alone instrs.Fetch ∷
@@ -81,8 +81,8 @@ readers =
     alone instrs.Assign ∷
     alone instrs.NameV ∷
     wide instrs.Expr ∷
-    call instrs.CallV ∷
-    call instrs.CallN ∷
+    call_operands instrs.CallV ∷
+    call_operands instrs.CallN ∷
     prim instrs.PrimV ∷
     prim instrs.PrimN ∷
     alone instrs.Drop ∷
@@ -249,8 +249,8 @@ image_at bytes = do
   Ok (record { entry = entry.0; strings = strings.0; labels = labels.0; statements = statements.0; expressions = expressions.0; patterns = patterns.0; code = code.0 }, code.1)
 
 -- all of the bytes
-unfoldable pub image_of : List ℕ → Result Image Miss
-image_of bytes = do
+unfoldable pub read_image : List ℕ → Result Image Miss
+read_image bytes = do
   m ← image_at bytes
   checked (length m.1 == 0) TrailingBytes m.1 m.0
 

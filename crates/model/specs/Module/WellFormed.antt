@@ -13,11 +13,11 @@ use Rattle.model.specs.declared.instr.Instr.{Instr}
 use Rattle.model.specs.declared.instr.Instr.TheVariants as op
 use Rattle.model.specs.Machine.Steps.{Fetched, At}
 use Rattle.model.specs.Language.Calls.{return_of}
-use Rattle.model.specs.Module.Images.{bytes, total, fetch_from}
+use Rattle.model.specs.Module.Images.{instr_size, code_size, fetch_from}
 use Rattle.model.specs.Language.Programs.{end_label}
 use Rattle.model.specs.Module.Spelling.{newest}
 use Rattle.model.specs.Language.Names.{is_protected, most_args}
-use Rattle.model.specs.Module.Flow.{begins_at, is_target, BreaksFlow, IsLeast}
+use Rattle.model.specs.Module.Flow.{begins_at, is_jump_target, BreaksFlow, IsLeast}
 
 -- ---- places of a module
 
@@ -37,23 +37,23 @@ abbrev pub pattern_bytes : List PatInstr → ℕ
 pattern_bytes is = 4 + sum (map pat_bytes is)
 
 -- where the entry stands, and the first entry of each table
-abbrev pub entry_at : ℕ
-entry_at = 6
+abbrev pub entry_offset : ℕ
+entry_offset = 6
 
-abbrev pub labels_at : Image → ℕ
-labels_at im = 10 + 4 + sum (map string_bytes im.strings) + 4
+abbrev pub labels_offset : Image → ℕ
+labels_offset im = 10 + 4 + sum (map string_bytes im.strings) + 4
 
-abbrev pub statements_at : Image → ℕ
-statements_at im = labels_at im + 8 * length im.labels + 4
+abbrev pub statements_offset : Image → ℕ
+statements_offset im = labels_offset im + 8 * length im.labels + 4
 
-abbrev pub expressions_at : Image → ℕ
-expressions_at im = statements_at im + 4 * length im.statements + 4
+abbrev pub expressions_offset : Image → ℕ
+expressions_offset im = statements_offset im + 4 * length im.statements + 4
 
-abbrev pub patterns_at : Image → ℕ
-patterns_at im = expressions_at im + 4 * length im.expressions + 4
+abbrev pub patterns_offset : Image → ℕ
+patterns_offset im = expressions_offset im + 4 * length im.expressions + 4
 
-abbrev pub code_at : Image → ℕ
-code_at im = patterns_at im + sum (map pattern_bytes im.patterns) + 4
+abbrev pub code_offset : Image → ℕ
+code_offset im = patterns_offset im + sum (map pattern_bytes im.patterns) + 4
 
 -- ---- what an index, a name and an offset may be
 
@@ -68,8 +68,8 @@ is_nonnull None = false
 is_nonnull (Some []) = false
 is_nonnull (Some (b ∷ bs)) = true
 
-abbrev pub is_name : Image → ℕ → Bool
-is_name im k = is_nonnull (slice_get im.strings k)
+abbrev pub is_nonnull_string : Image → ℕ → Bool
+is_nonnull_string im k = is_nonnull (slice_get im.strings k)
 
 abbrev pub is_begin : Fetched → Bool
 is_begin (At (op.Begin f) next) = true
@@ -96,9 +96,9 @@ is_last_instr op.Fail = true
 is_last_instr op.Ret = true
 is_last_instr _ = false
 
-abbrev pub is_end : Instr → Bool
-is_end op.End = true
-is_end _ = false
+abbrev pub is_end_instr : Instr → Bool
+is_end_instr op.End = true
+is_end_instr _ = false
 
 -- the last statement begins here
 abbrev pub begins_last : Image → ℕ → Bool
@@ -113,52 +113,52 @@ most_integer = 9223372036854775807
 
 -- ---- the rules of each part; where a part breaks several, the least is told
 
-abbrev pub first : {A : Type 0} → Option A → Option A → Option A
-first None y = y
-first (Some x) y = Some x
+abbrev pub or_else : {A : Type 0} → Option A → Option A → Option A
+or_else None y = y
+or_else (Some x) y = Some x
 
-abbrev pub rule : ModuleRule → Bool → Option ModuleRule
-rule r true = None
-rule r false = Some r
+abbrev pub unless : ModuleRule → Bool → Option ModuleRule
+unless r true = None
+unless r false = Some r
 
 abbrev pub entry_rule : Image → Option ModuleRule
-entry_rule im = rule BadIndex (is_statement im im.entry)
+entry_rule im = unless BadIndex (is_statement im im.entry)
 
 -- behind the labels before it
 abbrev pub label_rule : Image → List Label → Label → Option ModuleRule
-label_rule im front l = rule BadIndex (is_label_name (slice_get im.strings l.string) && is_statement im l.statement && not (list_any (λ e. e.string == l.string) front))
+label_rule im front l = unless BadIndex (is_label_name (slice_get im.strings l.string) && is_statement im l.statement && not (list_any (λ e. e.string == l.string) front))
 
 -- each statement begins with BEGIN, but the last
 abbrev pub statement_rule : Image → List ℕ → ℕ → Option ModuleRule
-statement_rule im front at = if suc (length front) == length im.statements then rule NoEnd (begins_at im at) else rule BadTarget (is_begin (fetch_from 0 im.code at))
+statement_rule im front at = if suc (length front) == length im.statements then unless NoEnd (begins_at im at) else unless BadTarget (is_begin (fetch_from 0 im.code at))
 
 abbrev pub expression_rule : Image → List ℕ → ℕ → Option ModuleRule
-expression_rule im front at = rule BadTarget (begins_at im at)
+expression_rule im front at = unless BadTarget (begins_at im at)
 
 -- of so many instructions, behind those before it
 abbrev pub pat_rule : Image → ℕ → List PatInstr → PatInstr → Option ModuleRule
-pat_rule im len front (pats.Lit k) = rule BadIndex (is_string im k)
-pat_rule im len front (pats.Split d) = rule BadJump (is_jump len (length front) d)
-pat_rule im len front (pats.Jmp d) = rule BadJump (is_jump len (length front) d)
-pat_rule im len front (pats.Len n) = rule BadIndex (not (nat_lt most_integer n))
-pat_rule im len front (pats.Pos n) = rule BadIndex (not (nat_lt most_integer n))
-pat_rule im len front (pats.RPos n) = rule BadIndex (not (nat_lt most_integer n))
-pat_rule im len front (pats.Tab n) = rule BadIndex (not (nat_lt most_integer n))
-pat_rule im len front (pats.RTab n) = rule BadIndex (not (nat_lt most_integer n))
-pat_rule im len front (pats.Any k) = rule BadIndex (is_name im k)
-pat_rule im len front (pats.NotAny k) = rule BadIndex (is_name im k)
-pat_rule im len front (pats.Span k) = rule BadIndex (is_name im k)
-pat_rule im len front (pats.Break k) = rule BadIndex (is_name im k)
+pat_rule im len front (pats.Lit k) = unless BadIndex (is_string im k)
+pat_rule im len front (pats.Split d) = unless BadJump (is_jump len (length front) d)
+pat_rule im len front (pats.Jmp d) = unless BadJump (is_jump len (length front) d)
+pat_rule im len front (pats.Len n) = unless BadIndex (not (nat_lt most_integer n))
+pat_rule im len front (pats.Pos n) = unless BadIndex (not (nat_lt most_integer n))
+pat_rule im len front (pats.RPos n) = unless BadIndex (not (nat_lt most_integer n))
+pat_rule im len front (pats.Tab n) = unless BadIndex (not (nat_lt most_integer n))
+pat_rule im len front (pats.RTab n) = unless BadIndex (not (nat_lt most_integer n))
+pat_rule im len front (pats.Any k) = unless BadIndex (is_nonnull_string im k)
+pat_rule im len front (pats.NotAny k) = unless BadIndex (is_nonnull_string im k)
+pat_rule im len front (pats.Span k) = unless BadIndex (is_nonnull_string im k)
+pat_rule im len front (pats.Break k) = unless BadIndex (is_nonnull_string im k)
 
 -- an instruction's numbers
 abbrev pub indices_fit : Image → Instr → Bool
 indices_fit im (op.Goto k) = is_statement im k
 indices_fit im (op.Str k) = is_string im k
-indices_fit im (op.Var k) = is_name im k
+indices_fit im (op.Var k) = is_nonnull_string im k
 indices_fit im (op.KeySet k) = not (is_protected k)
 indices_fit im (op.Expr k) = nat_lt k (length im.expressions)
-indices_fit im (op.CallV k n) = is_name im k
-indices_fit im (op.CallN k n) = is_name im k
+indices_fit im (op.CallV k n) = is_nonnull_string im k
+indices_fit im (op.CallN k n) = is_nonnull_string im k
 indices_fit im (op.PrimV p n) = not (nat_lt (most_args p) n)
 indices_fit im (op.PrimN p n) = not (nat_lt (most_args p) n)
 indices_fit im (op.Pat k) = nat_lt k (length im.patterns)
@@ -166,49 +166,49 @@ indices_fit im _ = true
 
 -- its targets, and its own place
 abbrev pub place_fits : Image → ℕ → Instr → Bool
-place_fits im at (op.Begin f) = is_target im at f && list_any (λ o. o == at) im.statements
-place_fits im at (op.Try t) = is_target im at t
+place_fits im at (op.Begin f) = is_jump_target im at f && list_any (λ o. o == at) im.statements
+place_fits im at (op.Try t) = is_jump_target im at t
 place_fits im at _ = true
 
 -- of the instruction at an offset, with the offset after it
 abbrev pub instr_rule : Image → ℕ → ℕ → Instr → Option ModuleRule
 instr_rule im at next i =
-    first (rule BadIndex (indices_fit im i))
-    (first (rule BadTarget (place_fits im at i && (is_last_instr i || not (next == total im.code))))
-    (rule NoEnd (is_end i || not (begins_last im at))))
+    or_else (unless BadIndex (indices_fit im i))
+    (or_else (unless BadTarget (place_fits im at i && (is_last_instr i || not (next == code_size im.code))))
+    (unless NoEnd (is_end_instr i || not (begins_last im at))))
 
 -- ---- the first fault of the parts, in the order in which their bytes stand
 
-abbrev pub told : ℕ → Option ModuleRule → Option ModuleFault
-told at None = None
-told at (Some r) = Some (record { offset = at; rule = r })
+abbrev pub fault_if : ℕ → Option ModuleRule → Option ModuleFault
+fault_if at None = None
+fault_if at (Some r) = Some (record { offset = at; rule = r })
 
 -- parts one behind the other from a place on, each behind those before it
-abbrev pub scan : {A : Type 0} → (List A → ℕ → A → Option ModuleFault) → (A → ℕ) → List A → ℕ → List A → Option ModuleFault
-scan fault width front at [] = None
-scan fault width front at (x ∷ xs) = first (fault front at x) (scan fault width (front ++ x ∷ []) (at + width x) xs)
+abbrev pub fault_among : {A : Type 0} → (List A → ℕ → A → Option ModuleFault) → (A → ℕ) → List A → ℕ → List A → Option ModuleFault
+fault_among fault width front at [] = None
+fault_among fault width front at (x ∷ xs) = or_else (fault front at x) (fault_among fault width (front ++ x ∷ []) (at + width x) xs)
 
 abbrev pub pattern_fault : Image → List (List PatInstr) → ℕ → List PatInstr → Option ModuleFault
-pattern_fault im front at is = scan (λ before place i. told place (pat_rule im (length is) before i)) pat_bytes [] (at + 4) is
+pattern_fault im front at is = fault_among (λ before place i. fault_if place (pat_rule im (length is) before i)) pat_bytes [] (at + 4) is
 
 -- the code's offset counts from its own beginning
 abbrev pub instr_fault : Image → List Instr → ℕ → Instr → Option ModuleFault
-instr_fault im front at i = told at (instr_rule im (total front) (total front + bytes i) i)
+instr_fault im front at i = fault_if at (instr_rule im (code_size front) (code_size front + instr_size i) i)
 
 abbrev pub part_fault : Image → Option ModuleFault
 part_fault im =
-    first (told entry_at (entry_rule im))
-    (first (scan (λ front at l. told at (label_rule im front l)) (λ l. 8) [] (labels_at im) im.labels)
-    (first (scan (λ front at o. told at (statement_rule im front o)) (λ o. 4) [] (statements_at im) im.statements)
-    (first (scan (λ front at o. told at (expression_rule im front o)) (λ o. 4) [] (expressions_at im) im.expressions)
-    (first (scan (pattern_fault im) pattern_bytes [] (patterns_at im) im.patterns)
-    (scan (instr_fault im) bytes [] (code_at im) im.code)))))
+    or_else (fault_if entry_offset (entry_rule im))
+    (or_else (fault_among (λ front at l. fault_if at (label_rule im front l)) (λ l. 8) [] (labels_offset im) im.labels)
+    (or_else (fault_among (λ front at o. fault_if at (statement_rule im front o)) (λ o. 4) [] (statements_offset im) im.statements)
+    (or_else (fault_among (λ front at o. fault_if at (expression_rule im front o)) (λ o. 4) [] (expressions_offset im) im.expressions)
+    (or_else (fault_among (pattern_fault im) pattern_bytes [] (patterns_offset im) im.patterns)
+    (fault_among (instr_fault im) instr_size [] (code_offset im) im.code)))))
 
 -- ---- all conditions
 
 abbrev pub flow_fault : Image → Option ℕ → Option ModuleFault
 flow_fault im None = None
-flow_fault im (Some at) = Some (record { offset = code_at im + at; rule = BadFlow })
+flow_fault im (Some at) = Some (record { offset = code_offset im + at; rule = BadFlow })
 
 abbrev pub number_of : ModuleRule → ℕ
 number_of BadIndex = 1
@@ -221,10 +221,10 @@ number_of NoEnd = 5
 abbrev pub comes_first : ModuleFault → ModuleFault → Bool
 comes_first f g = nat_lt f.offset g.offset || (f.offset == g.offset && nat_lt (number_of f.rule) (number_of g.rule))
 
-abbrev pub lesser : Option ModuleFault → Option ModuleFault → Option ModuleFault
-lesser None g = g
-lesser (Some f) None = Some f
-lesser (Some f) (Some g) = if comes_first g f then Some g else Some f
+abbrev pub lesser_fault : Option ModuleFault → Option ModuleFault → Option ModuleFault
+lesser_fault None g = g
+lesser_fault (Some f) None = Some f
+lesser_fault (Some f) (Some g) = if comes_first g f then Some g else Some f
 
 pub record IsWellFormed (im : Image) : Type 0 where
   pub parts : part_fault im ≡ None
@@ -232,4 +232,4 @@ pub record IsWellFormed (im : Image) : Type 0 where
 
 -- what is told of an image: its least fault, or none
 abbrev pub IsTold : Image → Option ModuleFault → Type 0
-IsTold im fault = (flow : Option ℕ) × IsLeast (BreaksFlow im) flow × (fault ≡ lesser (part_fault im) (flow_fault im flow))
+IsTold im fault = (flow : Option ℕ) × IsLeast (BreaksFlow im) flow × (fault ≡ lesser_fault (part_fault im) (flow_fault im flow))

@@ -3,8 +3,8 @@ use Rattle.std.specs.Prelude.{ℕ, zero, suc, ◌+◌, ◌-◌, List, [], ◌∷
 use Rattle.std.specs.List.{starts_with, list_any, prefix_len}
 use Rattle.model.specs.Pattern.Patterns.{Basic, Lit, Len, Pos, RPos, Tab, RTab, AnyOf, NotAnyOf, Span, Break, Rem, Arb, Bal, Fail}
 
-abbrev pub is_among : List ℕ → ℕ → Bool
-is_among w b = list_any (λ y. y == b) w
+abbrev pub is_in_set : List ℕ → ℕ → Bool
+is_in_set w b = list_any (λ y. y == b) w
 
 -- the end e where the test holds, and else none
 abbrev pub end_if : Bool → ℕ → List ℕ
@@ -38,11 +38,11 @@ ends_at s (Pos n) c = end_if (c == n) c
 ends_at s (RPos n) c = end_if (c + n == length s) c
 ends_at s (Tab n) c = end_if (nat_le c n && nat_le n (length s)) n
 ends_at s (RTab n) c = end_if (nat_le (c + n) (length s)) (length s - n)
-ends_at s (AnyOf w) c = one_byte (is_among w) (drop c s) c
-ends_at s (NotAnyOf w) c = one_byte (λ b. not (is_among w b)) (drop c s) c
-ends_at s (Span w) c = let n : ℕ = prefix_len (is_among w) (drop c s) in end_if (nat_lt 0 n) (c + n)
+ends_at s (AnyOf w) c = one_byte (is_in_set w) (drop c s) c
+ends_at s (NotAnyOf w) c = one_byte (λ b. not (is_in_set w b)) (drop c s) c
+ends_at s (Span w) c = let n : ℕ = prefix_len (is_in_set w) (drop c s) in end_if (nat_lt 0 n) (c + n)
 ends_at s (Break w) c =
-    let n : ℕ = prefix_len (λ b. not (is_among w b)) (drop c s) in end_if (nat_lt (c + n) (length s)) (c + n)
+    let n : ℕ = prefix_len (λ b. not (is_in_set w b)) (drop c s) in end_if (nat_lt (c + n) (length s)) (c + n)
 ends_at s Rem c = length s ∷ []
 ends_at s Arb c = from_up c (length s - c)
 ends_at s Bal c = balanced (drop c s) 0 c

@@ -1,7 +1,8 @@
 -- The code of each kind of pattern, made of the codes of its parts.
 use Rattle.std.specs.Prelude.{ℕ, ◌+◌, pos, negsuc, [], ◌∷◌, ◌++◌, length, ◌==◌, if◌then◌else◌}
-use Rattle.model.specs.Pattern.Patterns.{Name, Kind, Basic, Lit, Instr, Do, Split, Jmp, Open, OpenFence, CloseFence, Close, Say, AtCursor, Eval, EvalBasic}
+use Rattle.model.specs.Pattern.Patterns.{Kind, Basic, Lit, Instr, Do, Split, Jmp, Open, OpenFence, CloseFence, Close, Say, AtCursor, Eval, EvalBasic}
 use Rattle.model.specs.Pattern.Steps.{Code}
+use Rattle.model.specs.Deck.Target.{Name}
 
 -- the null literal has no instruction
 abbrev pub basic_code : Basic → Code

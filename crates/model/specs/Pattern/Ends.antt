@@ -1,7 +1,8 @@
 -- The ends of a plain pattern in pattern order, and the ends that it permits.
 use Rattle.std.specs.Prelude.{◌≡◌, ℕ, zero, suc, ◌+◌, ◌-◌, List, [], ◌∷◌, ◌++◌, take, drop, ◌⊎◌}
-use Rattle.model.specs.Pattern.Patterns.{Lit, Pat, Plain, Succeed, Abort, Fence, Cat, Alt, Arbno, FenceOf, Cond, Imm, At, Defer, DeferBasic, Pending, Event, Running, Failed, Matched, Expr}
+use Rattle.model.specs.Pattern.Patterns.{Lit, Pat, Plain, Succeed, Abort, Fence, Cat, Alt, Arbno, FenceOf, Cond, Imm, At, Defer, DeferBasic, Pending, Event, Running, Failed, Matched}
 use Rattle.model.specs.Pattern.BasicEnds.{ends_at}
+use Rattle.model.specs.Deck.Trees.{Expr}
 
 pub data Item : Type 0 where
   End : ℕ → Pending → Item

@@ -2,12 +2,8 @@
 use Rattle.std.specs.Prelude.{ℕ, ℤ, List}
 use Rattle.model.specs.Deck.Trees as trees
 use Rattle.model.specs.Deck.Target as target
-
-abbrev pub Name : Type 0
-Name = target.Name
-
-abbrev pub Expr : Type 0
-Expr = trees.Expr
+use Rattle.model.specs.Deck.Target.{Name}
+use Rattle.model.specs.Deck.Trees.{Expr}
 
 -- what has no pattern in it, no effect, and a list of ends that its subject and place determine
 pub data Basic : Type 0 where
@@ -69,16 +65,16 @@ pub data Event (E : Type 0) : Type 0 where
   Matched : (start end : ℕ) → Pending → Event E
 
 -- the pattern of a kind with a given argument, or none where the answer isn't of its kind
-abbrev pub want_of : Kind → Want
-want_of KLen = WantCount
-want_of KPos = WantCount
-want_of KRPos = WantCount
-want_of KTab = WantCount
-want_of KRTab = WantCount
-want_of KAny = WantBytes
-want_of KNotAny = WantBytes
-want_of KSpan = WantBytes
-want_of KBreak = WantBytes
+abbrev pub want_of_kind : Kind → Want
+want_of_kind KLen = WantCount
+want_of_kind KPos = WantCount
+want_of_kind KRPos = WantCount
+want_of_kind KTab = WantCount
+want_of_kind KRTab = WantCount
+want_of_kind KAny = WantBytes
+want_of_kind KNotAny = WantBytes
+want_of_kind KSpan = WantBytes
+want_of_kind KBreak = WantBytes
 
 -- a kind with a count, and with a set (a kind of the other sort fails)
 abbrev pub with_count : Kind → ℕ → Basic

@@ -1,8 +1,10 @@
 -- The ordered search of a pattern, under the answers given so far.
 use Rattle.std.specs.Prelude.{ℕ, zero, suc, ◌+◌, List, [], ◌∷◌, ◌++◌}
-use Rattle.model.specs.Pattern.Patterns.{Basic, Lit, Pat, Plain, Succeed, Abort, Fence, Cat, Alt, Arbno, FenceOf, Cond, Imm, At, Defer, DeferBasic, Name, Expr, Kind, Pending, Answer, IsPattern, IsSaid, Ask, AskFor, SayThat, Text, Number, WantPattern, Event, Running, Failed, Asks, Matched, want_of, with_answer}
+use Rattle.model.specs.Pattern.Patterns.{Basic, Lit, Pat, Plain, Succeed, Abort, Fence, Cat, Alt, Arbno, FenceOf, Cond, Imm, At, Defer, DeferBasic, Kind, Pending, Answer, IsPattern, IsSaid, Ask, AskFor, SayThat, Text, Number, WantPattern, Event, Running, Failed, Asks, Matched, want_of_kind, with_answer}
 use Rattle.model.specs.Pattern.BasicEnds.{ends_at}
 use Rattle.model.specs.Pattern.Ends.{between}
+use Rattle.model.specs.Deck.Target.{Name}
+use Rattle.model.specs.Deck.Trees.{Expr}
 
 -- what a search finds: an end, or nothing (both with the answers that are left), a stop, what it waits for
 -- (a V), or that it is deeper than its bound
@@ -44,50 +46,50 @@ Found' = Found (Ask Expr) Pat
 abbrev pub Script : Type 0
 Script = List (Answer Pat)
 
-abbrev pub Next : Type 0
-Next = List Goal → ℕ → Pending → Script → Found'
+abbrev pub SearchOn : Type 0
+SearchOn = List Goal → ℕ → Pending → Script → Found'
 
 -- a value is told: the next answer says so
-abbrev pub told : Ask Expr → (Script → Found') → Script → Found'
-told v k [] = Wait v
-told v k (IsSaid ∷ t) = k t
-told v k (_ ∷ t) = Miss t
+abbrev pub told_that : Ask Expr → (Script → Found') → Script → Found'
+told_that v k [] = Wait v
+told_that v k (IsSaid ∷ t) = k t
+told_that v k (_ ∷ t) = Miss t
 
 -- an expression gives a pattern
-abbrev pub given : Expr → (Pat → Script → Found') → Script → Found'
-given x k [] = Wait (AskFor x WantPattern)
-given x k (IsPattern p ∷ t) = k p t
-given x k (_ ∷ t) = Miss t
+abbrev pub given_pattern : Expr → (Pat → Script → Found') → Script → Found'
+given_pattern x k [] = Wait (AskFor x WantPattern)
+given_pattern x k (IsPattern p ∷ t) = k p t
+given_pattern x k (_ ∷ t) = Miss t
 
 -- an expression gives the argument of a kind
 abbrev pub given_argument : Kind → Expr → (Basic → Script → Found') → Script → Found'
-given_argument j x k [] = Wait (AskFor x (want_of j))
+given_argument j x k [] = Wait (AskFor x (want_of_kind j))
 given_argument j x k (y ∷ t) = k (with_answer j y) t
 
 -- one rule: on the subject s, with f for the parts
-abbrev pub rule : List ℕ → Next → Goal → List Goal → ℕ → Pending → Script → Found'
-rule s f (Part (Plain k)) rest c a t = try_each (λ e u. f rest e a u) (ends_at s k c) t
-rule s f (Part Succeed) rest c a t = on_miss (f rest c a t) (λ u. f (Part Succeed ∷ rest) c a u)
-rule s f (Part Abort) rest c a t = Stop
-rule s f (Part Fence) rest c a t = on_miss (f rest c a t) (λ u. Stop)
-rule s f (Part (Cat p q)) rest c a t = f (Part p ∷ Part q ∷ rest) c a t
-rule s f (Part (Alt p q)) rest c a t = on_miss (f (Part p ∷ rest) c a t) (λ u. f (Part q ∷ rest) c a u)
-rule s f (Part (Arbno p)) rest c a t = f (Part (Alt (Plain (Lit [])) (Cat p (Arbno p))) ∷ rest) c a t
-rule s f (Part (FenceOf p)) rest c a t = on_hit (f (Part p ∷ []) c a t) (λ e b u. f rest e b u)
-rule s f (Part (Cond p x)) rest c a t = f (Part p ∷ Closing x c ∷ rest) c a t
-rule s f (Part (Imm p x)) rest c a t = f (Part p ∷ Saying x c ∷ rest) c a t
-rule s f (Part (At x)) rest c a t = told (SayThat x (Number c)) (λ u. f rest c a u) t
-rule s f (Part (Defer x)) rest c a t = given x (λ p u. f (Part p ∷ rest) c a u) t
-rule s f (Part (DeferBasic k x)) rest c a t = given_argument k x (λ b u. f (Part (Plain b) ∷ rest) c a u) t
-rule s f (Closing x b) rest c a t = f rest c (a ++ (x, between s b c) ∷ []) t
-rule s f (Saying x b) rest c a t = told (SayThat x (Text (between s b c))) (λ u. f rest c a u) t
+abbrev pub search_rule : List ℕ → SearchOn → Goal → List Goal → ℕ → Pending → Script → Found'
+search_rule s f (Part (Plain k)) rest c a t = try_each (λ e u. f rest e a u) (ends_at s k c) t
+search_rule s f (Part Succeed) rest c a t = on_miss (f rest c a t) (λ u. f (Part Succeed ∷ rest) c a u)
+search_rule s f (Part Abort) rest c a t = Stop
+search_rule s f (Part Fence) rest c a t = on_miss (f rest c a t) (λ u. Stop)
+search_rule s f (Part (Cat p q)) rest c a t = f (Part p ∷ Part q ∷ rest) c a t
+search_rule s f (Part (Alt p q)) rest c a t = on_miss (f (Part p ∷ rest) c a t) (λ u. f (Part q ∷ rest) c a u)
+search_rule s f (Part (Arbno p)) rest c a t = f (Part (Alt (Plain (Lit [])) (Cat p (Arbno p))) ∷ rest) c a t
+search_rule s f (Part (FenceOf p)) rest c a t = on_hit (f (Part p ∷ []) c a t) (λ e b u. f rest e b u)
+search_rule s f (Part (Cond p x)) rest c a t = f (Part p ∷ Closing x c ∷ rest) c a t
+search_rule s f (Part (Imm p x)) rest c a t = f (Part p ∷ Saying x c ∷ rest) c a t
+search_rule s f (Part (At x)) rest c a t = told_that (SayThat x (Number c)) (λ u. f rest c a u) t
+search_rule s f (Part (Defer x)) rest c a t = given_pattern x (λ p u. f (Part p ∷ rest) c a u) t
+search_rule s f (Part (DeferBasic k x)) rest c a t = given_argument k x (λ b u. f (Part (Plain b) ∷ rest) c a u) t
+search_rule s f (Closing x b) rest c a t = f rest c (a ++ (x, between s b c) ∷ []) t
+search_rule s f (Saying x b) rest c a t = told_that (SayThat x (Text (between s b c))) (λ u. f rest c a u) t
 
 -- one level of a search: its end, or a rule
-abbrev pub level : List ℕ → Next → Next
+abbrev pub level : List ℕ → SearchOn → SearchOn
 level s f [] c a t = Hit c a t
-level s f (g ∷ rest) c a t = rule s f g rest c a t
+level s f (g ∷ rest) c a t = search_rule s f g rest c a t
 
-abbrev pub search : List ℕ → ℕ → Next
+abbrev pub search : List ℕ → ℕ → SearchOn
 search s zero rest c a t = Deep
 search s (suc n) rest c a t = level s (search s n) rest c a t
 

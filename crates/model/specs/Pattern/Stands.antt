@@ -1,8 +1,10 @@
 -- Which code stands for which pattern, with expressions by their numbers.
 use Rattle.std.specs.Prelude.{◌≡◌, ℕ, List, [], ◌∷◌, Option, Some}
-use Rattle.model.specs.Pattern.Patterns.{Name, Want, Told, Pending, Pat, Plain, Succeed, Abort, Fence, Cat, Alt, Arbno, FenceOf, Cond, Imm, At, Defer, DeferBasic, Expr, DoSucceed, DoAbort, DoFence, Answer, IsPattern, IsCount, IsBytes, IsFailed, IsSaid, Ask, AskFor, SayThat, Event, Failed, Asks, Matched}
+use Rattle.model.specs.Pattern.Patterns.{Want, Told, Pending, Pat, Plain, Succeed, Abort, Fence, Cat, Alt, Arbno, FenceOf, Cond, Imm, At, Defer, DeferBasic, DoSucceed, DoAbort, DoFence, Answer, IsPattern, IsCount, IsBytes, IsFailed, IsSaid, Ask, AskFor, SayThat, Event, Failed, Asks, Matched}
 use Rattle.model.specs.Pattern.Steps.{Code}
 use Rattle.model.specs.Pattern.Code.{basic_code, cat_code, alt_code, arbno_code, fence_code, cond_code, imm_code, cursor_code, defer_code, defer_basic_code}
+use Rattle.model.specs.Deck.Target.{Name}
+use Rattle.model.specs.Deck.Trees.{Expr}
 
 -- code stands for a pattern; the expressions xs by their numbers
 abbrev pub Stands : (xs : ℕ → Option Expr) → Pat → Code → Type 0

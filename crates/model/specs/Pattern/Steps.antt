@@ -1,8 +1,9 @@
 -- The steps of pattern code on a subject, under the answers given so far.
 use Rattle.std.specs.Prelude.{◌<◌, ◌≤◌, ℕ, ℤ, pos, negsuc, zero, suc, ◌+◌, ◌-◌, List, [], ◌∷◌, ◌++◌, Option, Some, None, slice_get, length, min, drop}
-use Rattle.model.specs.Pattern.Patterns.{Instr, Do, Split, Jmp, DoSucceed, DoAbort, DoFence, Open, OpenFence, CloseFence, Close, Say, AtCursor, Eval, EvalBasic, Name, Kind, Pending, Answer, IsPattern, IsSaid, Ask, AskFor, SayThat, Told, Text, Number, WantPattern, Event, Running, Failed, Asks, Matched, want_of, with_answer}
+use Rattle.model.specs.Pattern.Patterns.{Instr, Do, Split, Jmp, DoSucceed, DoAbort, DoFence, Open, OpenFence, CloseFence, Close, Say, AtCursor, Eval, EvalBasic, Kind, Pending, Answer, IsPattern, IsSaid, Ask, AskFor, SayThat, Told, Text, Number, WantPattern, Event, Running, Failed, Asks, Matched, want_of_kind, with_answer}
 use Rattle.model.specs.Pattern.BasicEnds.{ends_at}
 use Rattle.model.specs.Pattern.Ends.{between}
+use Rattle.model.specs.Deck.Target.{Name}
 
 abbrev pub Code : Type 0
 Code = List Instr
@@ -81,7 +82,7 @@ pub data Act : Type 0 where
 
 abbrev pub ask_of : Waiting → Ask ℕ
 ask_of (ForPattern x) = AskFor x WantPattern
-ask_of (ForArgument k x) = AskFor x (want_of k)
+ask_of (ForArgument k x) = AskFor x (want_of_kind k)
 ask_of (ForSaid x v) = SayThat x v
 
 -- on after the instruction, at the first of its ends
@@ -105,26 +106,26 @@ abbrev pub fenced : ℕ → Thread → Thread
 fenced k t = settled (Fenced k ∷ t.notes) t.code (t.place + 1) t.cursor t.pending
 
 -- one instruction, or the end of the code
-abbrev pub act : List ℕ → Option Instr → Thread → Act
-act s None t = Arrives t.cursor t.pending
-act s (Some (Do k)) t = Moves (forked t (ends_at s k t.cursor))
-act s (Some (Split d)) t =
+abbrev pub pattern_act : List ℕ → Option Instr → Thread → Act
+pattern_act s None t = Arrives t.cursor t.pending
+pattern_act s (Some (Do k)) t = Moves (forked t (ends_at s k t.cursor))
+pattern_act s (Some (Split d)) t =
     Moves (Forks (onward t (t.place + 1) t.cursor) (Retry (at_distance t.code t.place d) t.cursor [] t))
-act s (Some (Jmp d)) t = Moves (Goes (onward t (at_distance t.code t.place d) t.cursor))
-act s (Some DoSucceed) t = Moves (Forks (onward t (t.place + 1) t.cursor) (Again t))
-act s (Some DoAbort) t = Aborts
-act s (Some DoFence) t = Moves (Forks (onward t (t.place + 1) t.cursor) Quit)
-act s (Some Open) t = Moves (Goes (settled (Opened t.cursor ∷ t.notes) t.code (t.place + 1) t.cursor t.pending))
-act s (Some (Close x)) t =
+pattern_act s (Some (Jmp d)) t = Moves (Goes (onward t (at_distance t.code t.place d) t.cursor))
+pattern_act s (Some DoSucceed) t = Moves (Forks (onward t (t.place + 1) t.cursor) (Again t))
+pattern_act s (Some DoAbort) t = Aborts
+pattern_act s (Some DoFence) t = Moves (Forks (onward t (t.place + 1) t.cursor) Quit)
+pattern_act s (Some Open) t = Moves (Goes (settled (Opened t.cursor ∷ t.notes) t.code (t.place + 1) t.cursor t.pending))
+pattern_act s (Some (Close x)) t =
     closed t.notes (λ b notes. Moves (Goes (settled notes t.code (t.place + 1) t.cursor (t.pending ++ (x, between s b t.cursor) ∷ []))))
-act s (Some (Say x)) t =
+pattern_act s (Some (Say x)) t =
     closed t.notes (λ b notes. Asking (ForSaid x (Text (between s b t.cursor))) (settled notes t.code (t.place + 1) t.cursor t.pending))
-act s (Some OpenFence) t = Fences t
-act s (Some CloseFence) t =
+pattern_act s (Some OpenFence) t = Fences t
+pattern_act s (Some CloseFence) t =
     fence_closed t.notes (λ k notes. Drops k (settled notes t.code (t.place + 1) t.cursor t.pending))
-act s (Some (AtCursor x)) t = Asking (ForSaid x (Number t.cursor)) (onward t (t.place + 1) t.cursor)
-act s (Some (Eval x)) t = Asking (ForPattern x) t
-act s (Some (EvalBasic k x)) t = Asking (ForArgument k x) t
+pattern_act s (Some (AtCursor x)) t = Asking (ForSaid x (Number t.cursor)) (onward t (t.place + 1) t.cursor)
+pattern_act s (Some (Eval x)) t = Asking (ForPattern x) t
+pattern_act s (Some (EvalBasic k x)) t = Asking (ForArgument k x) t
 
 -- the place to go on at after an entered pattern: where the JMP at p leads, if one stands there, else p
 abbrev pub past_jump : Code → ℕ → Option Instr → ℕ
@@ -149,61 +150,61 @@ pub data Ended : Type 0 where
   Lost : Ended
 
 -- a match between two steps, with its choices, its start, how many starts are left, and the answers left
-pub data State : Type 0 where
-  Starting : (start left : ℕ) → Answers → State
-  Going : Thread → List Choice → (start left : ℕ) → Answers → State
-  Returning : Choice → List Choice → (start left : ℕ) → Answers → State
-  Waits : Waiting → Thread → List Choice → (start left : ℕ) → Answers → State
-  Over : Ended → State
+pub data MatchState : Type 0 where
+  Starting : (start left : ℕ) → Answers → MatchState
+  Going : Thread → List Choice → (start left : ℕ) → Answers → MatchState
+  Returning : Choice → List Choice → (start left : ℕ) → Answers → MatchState
+  Waits : Waiting → Thread → List Choice → (start left : ℕ) → Answers → MatchState
+  Over : Ended → MatchState
 
 -- on with an attempt, or the end of the match
-abbrev pub go : Thread → List Choice → ℕ → ℕ → Answers → State
+abbrev pub go : Thread → List Choice → ℕ → ℕ → Answers → MatchState
 go t cs b left u = elim (at_place t) [ None ↦ Over (Won b t.cursor t.pending) | Some i ↦ Going t cs b left u ]
 
 -- after a failure
-abbrev pub back : List Choice → ℕ → ℕ → Answers → State
+abbrev pub back : List Choice → ℕ → ℕ → Answers → MatchState
 back (ch ∷ cs) b left u = Returning ch cs b left u
 back [] b (suc left) u = Starting (b + 1) left u
 back [] b zero u = Over Lost
 
-abbrev pub after_move : Move → List Choice → ℕ → ℕ → Answers → State
+abbrev pub after_move : Move → List Choice → ℕ → ℕ → Answers → MatchState
 after_move (Goes t) cs b left u = go t cs b left u
 after_move (Forks t ch) cs b left u = go t (ch ∷ cs) b left u
 after_move Fails cs b left u = back cs b left u
 
 -- the choices without those made since there were k
-abbrev pub kept : ℕ → List Choice → List Choice
-kept k cs = drop (length cs - k) cs
+abbrev pub choices_kept : ℕ → List Choice → List Choice
+choices_kept k cs = drop (length cs - k) cs
 
-abbrev pub after_act : Act → List Choice → ℕ → ℕ → Answers → State
+abbrev pub after_act : Act → List Choice → ℕ → ℕ → Answers → MatchState
 after_act (Moves m) cs b left u = after_move m cs b left u
 after_act Aborts cs b left u = Over Lost
 after_act (Arrives c a) cs b left u = Over (Won b c a)
 after_act (Asking w t) cs b left u = Waits w t cs b left u
 after_act (Fences t) cs b left u = go (fenced (length cs) t) cs b left u
-after_act (Drops k t) cs b left u = go t (kept k cs) b left u
+after_act (Drops k t) cs b left u = go t (choices_kept k cs) b left u
 
 -- back to a choice
-abbrev pub after_return : List ℕ → Choice → List Choice → ℕ → ℕ → Answers → State
+abbrev pub after_return : List ℕ → Choice → List Choice → ℕ → ℕ → Answers → MatchState
 after_return s (Retry p e [] t) cs b left u = go (onward t p e) cs b left u
 after_return s (Retry p e (f ∷ es) t) cs b left u = go (onward t p e) (Retry p f es t ∷ cs) b left u
-after_return s (Again t) cs b left u = after_act (act s (at_place t) t) cs b left u
+after_return s (Again t) cs b left u = after_act (pattern_act s (at_place t) t) cs b left u
 after_return s Quit cs b left u = Over Lost
 
 -- one step
-abbrev pub step : List ℕ → Code → State → State
-step s code (Starting b left u) = go (settled [] code 0 b []) [] b left u
-step s code (Going t cs b left u) = after_act (act s (at_place t) t) cs b left u
-step s code (Returning ch cs b left u) = after_return s ch cs b left u
-step s code (Waits w t cs b left []) = Waits w t cs b left []
-step s code (Waits w t cs b left (y ∷ u)) = after_move (answered s w t y) cs b left u
-step s code (Over e) = Over e
+abbrev pub pattern_step : List ℕ → Code → MatchState → MatchState
+pattern_step s code (Starting b left u) = go (settled [] code 0 b []) [] b left u
+pattern_step s code (Going t cs b left u) = after_act (pattern_act s (at_place t) t) cs b left u
+pattern_step s code (Returning ch cs b left u) = after_return s ch cs b left u
+pattern_step s code (Waits w t cs b left []) = Waits w t cs b left []
+pattern_step s code (Waits w t cs b left (y ∷ u)) = after_move (answered s w t y) cs b left u
+pattern_step s code (Over e) = Over e
 
-abbrev pub steps : List ℕ → Code → ℕ → State → State
-steps s code zero st = st
-steps s code (suc m) st = steps s code m (step s code st)
+abbrev pub pattern_steps : List ℕ → Code → ℕ → MatchState → MatchState
+pattern_steps s code zero st = st
+pattern_steps s code (suc m) st = pattern_steps s code m (pattern_step s code st)
 
-abbrev pub event_of : State → Event ℕ
+abbrev pub event_of : MatchState → Event ℕ
 event_of (Starting b left u) = Running
 event_of (Going t cs b left u) = Running
 event_of (Returning ch cs b left u) = Running
@@ -213,11 +214,11 @@ event_of (Over Lost) = Failed
 event_of (Over (Won b e a)) = Matched b e a
 
 -- the match after m steps, from the starts b, b + 1, .. of which left more are to come
-abbrev pub match_steps : List ℕ → Code → ℕ → ℕ → Answers → ℕ → State
-match_steps s code left b u m = steps s code m (Starting b left u)
+abbrev pub match_steps : List ℕ → Code → ℕ → ℕ → Answers → ℕ → MatchState
+match_steps s code left b u m = pattern_steps s code m (Starting b left u)
 
 -- the state with further answers to come
-abbrev pub with_more : Answers → State → State
+abbrev pub with_more : Answers → MatchState → MatchState
 with_more v (Starting b left u) = Starting b left (u ++ v)
 with_more v (Going t cs b left u) = Going t cs b left (u ++ v)
 with_more v (Returning ch cs b left u) = Returning ch cs b left (u ++ v)
@@ -225,7 +226,7 @@ with_more v (Waits w t cs b left u) = Waits w t cs b left (u ++ v)
 with_more v (Over e) = Over e
 
 -- it doesn't stand at a question without an answer
-abbrev pub IsSupplied : State → Type 0
+abbrev pub IsSupplied : MatchState → Type 0
 IsSupplied (Starting b left u) = Unit {0}
 IsSupplied (Going t cs b left u) = Unit {0}
 IsSupplied (Returning ch cs b left u) = Unit {0}
@@ -253,7 +254,7 @@ IsPlaced (ForArgument k x) t = t.place < length t.code
 IsPlaced (ForSaid x v) t = Unit {0}
 
 -- cursors lie within the subject, and starts too
-abbrev pub IsSound : List ℕ → State → Type 0
+abbrev pub IsSound : List ℕ → MatchState → Type 0
 IsSound s (Starting b left u) = b + left ≤ length s
 IsSound s (Going t cs b left u) = (t.cursor ≤ length s) × AreSound s cs × (b + left ≤ length s)
 IsSound s (Returning ch cs b left u) = IsSoundChoice s ch × AreSound s cs × (b + left ≤ length s)

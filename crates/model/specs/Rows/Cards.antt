@@ -13,8 +13,8 @@ card line = line ++ 10 ∷ []
 abbrev statement : ℕ → ℕ → List ℕ → Statement
 statement number first text = record { number = number; card = first; text = text }
 
-abbrev told : ℕ → CardRule → Result (List Statement) CardFault
-told n r = Err (fault n r)
+abbrev refused_at : ℕ → CardRule → Result (List Statement) CardFault
+refused_at n r = Err (fault n r)
 
 abbrev xs : ℕ → List ℕ
 xs n = replicate n 88
@@ -29,13 +29,13 @@ long_text more = card (xs 72) ++ times 55 (card (codes "+" ++ xs 71)) ++ card (c
 
 pub record CardRows : Type 0 where
   -- no card at all
-  pub no_bytes : deck [] ≡ told 1 rule.NoEnd
+  pub no_bytes : deck [] ≡ refused_at 1 rule.NoEnd
   pub end_alone : deck (card (codes "END")) ≡ Ok (statement 1 1 (codes "END") ∷ [])
   pub end_without_line_feed : deck (card (codes " X") ++ codes "END") ≡ Ok (statement 1 1 (codes " X") ∷ statement 2 2 (codes "END") ∷ [])
-  pub no_end : deck (card (codes " X") ++ card (codes " ENDS")) ≡ told 3 rule.NoEnd
-  pub continuation_first : deck (card (codes "+ X")) ≡ told 1 rule.NothingToContinue
-  pub continuation_after_comment : deck (card (codes "* C") ++ card (codes "+ X") ++ card (codes "END")) ≡ told 2 rule.NothingToContinue
-  pub unknown_control : deck (card (codes "-LISTX")) ≡ told 1 rule.UnknownControl
+  pub no_end : deck (card (codes " X") ++ card (codes " ENDS")) ≡ refused_at 3 rule.NoEnd
+  pub continuation_first : deck (card (codes "+ X")) ≡ refused_at 1 rule.NothingToContinue
+  pub continuation_after_comment : deck (card (codes "* C") ++ card (codes "+ X") ++ card (codes "END")) ≡ refused_at 2 rule.NothingToContinue
+  pub unknown_control : deck (card (codes "-LISTX")) ≡ refused_at 1 rule.UnknownControl
   pub known_controls : deck (card (codes "-LIST ON") ++ card (codes "-UNLIST") ++ card (codes "-EJECT") ++ card (codes "END")) ≡ Ok (statement 1 4 (codes "END") ∷ [])
   pub two_on_a_card : deck (card (codes " OUTPUT = 1;END")) ≡ Ok (statement 1 1 (codes " OUTPUT = 1") ∷ statement 2 1 (codes "END") ∷ [])
   -- nothing stands between what the two cards give
@@ -49,20 +49,20 @@ pub record CardRows : Type 0 where
   -- what stands behind the END piece is ignored, on its card and after it
   pub after_end : deck (card (codes "END A;B") ++ card (codes "-FOO") ++ card (9 ∷ [])) ≡ Ok (statement 1 1 (codes "END A") ∷ [])
   -- but a bad byte on its card is told
-  pub bad_byte_after_end : deck (card (codes "END;" ++ 9 ∷ [])) ≡ told 1 rule.BadByte
+  pub bad_byte_after_end : deck (card (codes "END;" ++ 9 ∷ [])) ≡ refused_at 1 rule.BadByte
   -- the deck ends at the card that makes the piece END
   pub end_over_two_cards : deck (card (codes ";EN") ++ card (codes "+D") ++ card (codes "+ A")) ≡ Ok (statement 1 1 (codes "END") ∷ [])
   pub end_before_continuation : deck (card (codes "END") ++ card (codes "+ING")) ≡ Ok (statement 1 1 (codes "END") ∷ [])
   pub not_yet_end : deck (card (codes "EN") ++ card (codes "+DX") ++ card (codes "END")) ≡ Ok (statement 1 1 (codes "ENDX") ∷ statement 2 3 (codes "END") ∷ [])
   -- column 73 isn't read
   pub past_column_72 : deck (card (xs 72 ++ codes "Y") ++ card (codes "END")) ≡ Ok (statement 1 1 (xs 72) ∷ statement 2 2 (codes "END") ∷ [])
-  pub bad_byte_past_column_72 : deck (card (xs 72 ++ 127 ∷ []) ++ card (codes "END")) ≡ told 1 rule.BadByte
-  pub bad_byte_in_comment : deck (card (codes "* " ++ 9 ∷ []) ++ card (codes "END")) ≡ told 1 rule.BadByte
+  pub bad_byte_past_column_72 : deck (card (xs 72 ++ 127 ∷ []) ++ card (codes "END")) ≡ refused_at 1 rule.BadByte
+  pub bad_byte_in_comment : deck (card (codes "* " ++ 9 ∷ []) ++ card (codes "END")) ≡ refused_at 1 rule.BadByte
   -- the least card, then the least number
-  pub two_on_one_card : deck (card (codes "+" ++ 9 ∷ []) ++ card (codes "END")) ≡ told 1 rule.BadByte
-  pub earlier_card : deck (card (codes " X") ++ card (codes "-FOO") ++ card (9 ∷ []) ++ card (codes "END")) ≡ told 2 rule.UnknownControl
+  pub two_on_one_card : deck (card (codes "+" ++ 9 ∷ []) ++ card (codes "END")) ≡ refused_at 1 rule.BadByte
+  pub earlier_card : deck (card (codes " X") ++ card (codes "-FOO") ++ card (9 ∷ []) ++ card (codes "END")) ≡ refused_at 2 rule.UnknownControl
   pub four_thousand_bytes : deck (long_text 23 ++ card (codes "END")) ≡ Ok (statement 1 1 (xs 4000) ∷ statement 2 58 (codes "END") ∷ [])
   -- told at the card of its first byte, and so before what is wrong with a later card
-  pub one_byte_more : deck (long_text 24 ++ card (codes "-FOO") ++ card (codes "END")) ≡ told 1 rule.StatementTooLong
+  pub one_byte_more : deck (long_text 24 ++ card (codes "-FOO") ++ card (codes "END")) ≡ refused_at 1 rule.StatementTooLong
   -- a deck over 1,048,576 bytes is told at card 0, whatever is in it
-  pub too_long : (text : List ℕ) → 1048576 < length text → deck text ≡ told 0 rule.DeckTooLong
+  pub too_long : (text : List ℕ) → 1048576 < length text → deck text ≡ refused_at 0 rule.DeckTooLong

@@ -7,8 +7,8 @@ use Rattle.model.specs.Module.Flow.{BreaksFlow}
 use Rattle.model.specs.Module.WellFormed.{IsWellFormed}
 
 -- this code, with statements at 0 and at the END, and these expressions
-abbrev pub of_code : ℕ → List ℕ → List Instr → Image
-of_code end es is = record {
+abbrev pub with_code : ℕ → List ℕ → List Instr → Image
+with_code end es is = record {
   entry = 1;
   strings = codes "A" ∷ [];
   labels = [];
@@ -20,30 +20,30 @@ of_code end es is = record {
 
 -- the body keeps a name over a TRY, and both ways from it meet at the FETCHK; the expression behind the END is null
 abbrev pub joined : Image
-joined = of_code 23 (24 ∷ []) (op.Begin 23 ∷ op.Var 0 ∷ op.Try 16 ∷ op.Untry ∷ op.FetchK ∷ op.Null ∷ op.MatchR ∷ op.Null ∷ op.Splice ∷ op.Body ∷ op.NoLabel ∷ op.End ∷ op.Null ∷ op.Ret ∷ [])
+joined = with_code 23 (24 ∷ []) (op.Begin 23 ∷ op.Var 0 ∷ op.Try 16 ∷ op.Untry ∷ op.FetchK ∷ op.Null ∷ op.MatchR ∷ op.Null ∷ op.Splice ∷ op.Body ∷ op.NoLabel ∷ op.End ∷ op.Null ∷ op.Ret ∷ [])
 
 -- the FETCHK stands under the TRY, and takes a name from before it
 abbrev pub fetched_under_try : Image
-fetched_under_try = of_code 22 [] (op.Begin 22 ∷ op.Var 0 ∷ op.Try 16 ∷ op.FetchK ∷ op.Null ∷ op.MatchR ∷ op.Null ∷ op.Splice ∷ op.Untry ∷ op.Body ∷ op.NoLabel ∷ op.End ∷ [])
+fetched_under_try = with_code 22 [] (op.Begin 22 ∷ op.Var 0 ∷ op.Try 16 ∷ op.FetchK ∷ op.Null ∷ op.MatchR ∷ op.Null ∷ op.Splice ∷ op.Untry ∷ op.Body ∷ op.NoLabel ∷ op.End ∷ [])
 
 -- one way to the NULL has a TRY, the other one hasn't
 abbrev pub joined_under_try : Image
-joined_under_try = of_code 14 [] (op.Begin 14 ∷ op.Try 10 ∷ op.Null ∷ op.Drop ∷ op.Body ∷ op.NoLabel ∷ op.End ∷ [])
+joined_under_try = with_code 14 [] (op.Begin 14 ∷ op.Try 10 ∷ op.Null ∷ op.Drop ∷ op.Body ∷ op.NoLabel ∷ op.End ∷ [])
 
 abbrev pub body_under_try : Image
-body_under_try = of_code 12 [] (op.Begin 12 ∷ op.Try 11 ∷ op.Body ∷ op.NoLabel ∷ op.End ∷ [])
+body_under_try = with_code 12 [] (op.Begin 12 ∷ op.Try 11 ∷ op.Body ∷ op.NoLabel ∷ op.End ∷ [])
 
 abbrev pub name_for_value : Image
-name_for_value = of_code 13 [] (op.Begin 13 ∷ op.Var 0 ∷ op.Drop ∷ op.Body ∷ op.NoLabel ∷ op.End ∷ [])
+name_for_value = with_code 13 [] (op.Begin 13 ∷ op.Var 0 ∷ op.Drop ∷ op.Body ∷ op.NoLabel ∷ op.End ∷ [])
 
 abbrev pub value_in_goto : Image
-value_in_goto = of_code 8 [] (op.Begin 8 ∷ op.Body ∷ op.Null ∷ op.Ret ∷ op.End ∷ [])
+value_in_goto = with_code 8 [] (op.Begin 8 ∷ op.Body ∷ op.Null ∷ op.Ret ∷ op.End ∷ [])
 
 abbrev pub goto_in_body : Image
-goto_in_body = of_code 10 [] (op.Begin 10 ∷ op.Goto 1 ∷ op.End ∷ [])
+goto_in_body = with_code 10 [] (op.Begin 10 ∷ op.Goto 1 ∷ op.End ∷ [])
 
 abbrev pub operand_left : Image
-operand_left = of_code 8 [] (op.Begin 8 ∷ op.Null ∷ op.Body ∷ op.NoLabel ∷ op.End ∷ [])
+operand_left = with_code 8 [] (op.Begin 8 ∷ op.Null ∷ op.Body ∷ op.NoLabel ∷ op.End ∷ [])
 
 pub record FlowRows : Type 0 where
   pub joins : IsWellFormed joined

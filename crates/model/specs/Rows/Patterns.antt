@@ -1,11 +1,12 @@
 -- Worked cases of matches: what the scan of a pattern and the steps of its code answer.
 use Rattle.std.specs.Prelude.{◌≡◌, ℕ, List, [], ◌∷◌, map, length, codes}
 use Rattle.model.specs.Deck.Target.{Name, Variable}
-use Rattle.model.specs.Pattern.Patterns.{KLen, Lit, Len, Pos, RPos, Tab, RTab, AnyOf, NotAnyOf, Span, Break, Rem, Arb, Bal, Fail, Pat, Plain, Succeed, Abort, Fence, Cat, Alt, Arbno, FenceOf, Cond, Imm, At, Defer, DeferBasic, Expr, DoSucceed, DoAbort, DoFence, Pending, IsPattern, IsCount, IsFailed, IsSaid, Event, Running, Failed, Asks, Matched, AskFor, SayThat, Text, Number, WantPattern, WantCount}
+use Rattle.model.specs.Pattern.Patterns.{KLen, Lit, Len, Pos, RPos, Tab, RTab, AnyOf, NotAnyOf, Span, Break, Rem, Arb, Bal, Fail, Pat, Plain, Succeed, Abort, Fence, Cat, Alt, Arbno, FenceOf, Cond, Imm, At, Defer, DeferBasic, DoSucceed, DoAbort, DoFence, Pending, IsPattern, IsCount, IsFailed, IsSaid, Event, Running, Failed, Asks, Matched, AskFor, SayThat, Text, Number, WantPattern, WantCount}
 use Rattle.model.specs.Deck.Trees as trees
 use Rattle.model.specs.Pattern.Search.{Script, scan}
 use Rattle.model.specs.Pattern.Steps.{Code, Answers, match_steps, event_of}
 use Rattle.model.specs.Pattern.Code.{basic_code, cat_code, alt_code, arbno_code, fence_code, cond_code, imm_code, cursor_code, defer_code, defer_basic_code}
+use Rattle.model.specs.Deck.Trees.{Expr}
 
 -- the code of a pattern, with every expression as number 0
 abbrev pub code_of : Pat → Code

@@ -5,7 +5,7 @@ use Rattle.model.specs.declared.format.FormatRule.{FormatRule}
 use Rattle.model.specs.declared.image.Image.{Image}
 use Rattle.model.specs.declared.instr.Instr.TheVariants as instrs
 use Rattle.model.specs.Module.Spelling.{spelling}
-use Rattle.model.specs.Module.Reading.{image_of}
+use Rattle.model.specs.Module.Reading.{read_image}
 
 abbrev pub hello : Image
 hello = record {
@@ -41,12 +41,12 @@ changed at byte = take at hello_bytes ++ byte ∷ drop (at + 1) hello_bytes
 
 -- refused by a rule at an offset of so many bytes
 abbrev pub Refused : List ℕ → ℕ → FormatRule → Type 0
-Refused bytes offset rule = image_of bytes ≡ Err (record { left = length bytes - offset; rule = rule })
+Refused bytes offset rule = read_image bytes ≡ Err (record { left = length bytes - offset; rule = rule })
 
 pub record SpellingRows : Type 0 where
   pub long : length hello_bytes ≡ 76
   pub spelt : spelling hello ≡ hello_bytes
-  pub read : image_of hello_bytes ≡ Ok hello
+  pub read : read_image hello_bytes ≡ Ok hello
   pub another_magic : Refused (changed 0 0) 0 BadMagic
   pub another_version : Refused (changed 5 2) 4 BadVersion
   pub many_strings : Refused (changed 10 0xff) 10 BadTable

@@ -5,7 +5,7 @@ use Rattle.expr_codegen.specs.Emitting.{size}
 use Rattle.expr_codegen.specs.Views.{gen_of}
 use Rattle.codegen.specs.Countable.{Fits}
 use Rattle.codegen.specs.Labels.{number_in}
-use Rattle.codegen.specs.Layout.{image_of}
+use Rattle.codegen.specs.Layout.{generated_image}
 use Rattle.codegen.proofs.Images.{size_empty, left_countable, image_is}
 use Rattle.codegen.proofs.generating.generate.Goals as goal
 
@@ -55,5 +55,5 @@ returns c =
           ∙ image_is (map stmt_of xs) (number_in c.in_ok-labels.labels) c.in_ok-offsets.offsets.items c.in_ok-expressions.expressions.items c.in_ok-named.named.items c.entry_number.result c.in_ok-strings.strings
           (gen_of c.new-g.result) (gen_of c.put_statements.new.g) (gen_of c.put_expressions.new.g) (gen_of c.put_labels.new.g) c.in_ok-labels.ensures c.new-g.ensures c.in_ok-offsets.ensures.laid c.in_ok-offsets.ensures.extends.taken
           c.in_ok-expressions.ensures.laid fits c.in_ok-named.ensures.texts c.in_ok-named.ensures.code c.in_ok-named.ensures.labels c.entry_number.ensures c.in_ok-strings.ensures
-          ∙ ap (λ l. image_of (map stmt_of l)) c.as_slice-statements.ensures.value;
+          ∙ ap (λ l. generated_image (map stmt_of l)) c.as_slice-statements.ensures.value;
     }

@@ -15,7 +15,7 @@ use Rattle.codegen.proofs.gotos.place.Goals as goal
 pub returns-in-Label-clause-emits : goal.returns-in-Label-clause-emits
 returns-in-Label-clause-emits c =
     on_ok _ _ _ c.put.ensures.put (λ put. as_part (instr _ _ _ (put ∙ ap (λ i. with_instr i (gen_of c.args.g.now)) c.to_label.ensures))
-    (ap (λ l. one (layout.to_label (return_of l) (number_in c.args.labels.now l))) c.deref.ensures.value ∙ ap (λ d. layout.place (number_in c.args.labels.now) (place_of d)) (sym c.in-Label.is)))
+    (ap (λ l. one (layout.goto_label (return_of l) (number_in c.args.labels.now l))) c.deref.ensures.value ∙ ap (λ d. layout.place (number_in c.args.labels.now) (place_of d)) (sym c.in-Label.is)))
 
 pub returns-in_ok-value-in-Computed-clause-emits : goal.returns-in_ok-value-in-Computed-clause-emits
 returns-in_ok-value-in-Computed-clause-emits c =

@@ -1,6 +1,6 @@
 use Rattle.std.proofs.Common.{◌≡◌, ◌<◌, ◌≤◌, ◌*◌, ◌+◌, ◌-◌, sym, ◌∙◌, subst, arith, ℕ, true, false, nat_lt, get_or}
 use Rattle.std.proofs.lemmas.Bool.Decides.{nat_tests}
-use Rattle.model.specs.Deck.Digits.{value, value_from}
+use Rattle.model.specs.Deck.Digits.{decimal_value, value_from}
 use Rattle.lexer.proofs.Values.{over, at_end}
 use Rattle.lexer.proofs.limits.is_large.Goals as goal
 
@@ -11,7 +11,7 @@ within : (limit n : ℕ) → n ≤ limit → false ≡ nat_lt limit n
 within limit n h = grind (arith, nat_tests)
 
 pub returns-then-number-digit : goal.returns-then-number-digit
-unfolding value
+unfolding decimal_value
 returns-then-number-digit c =
     let large : 9223372036854775807 < 10 * c.loop-d.number + (get_or c.args.digits.now c.loop-d.d-index 0 - 48) = omega arith in
     above 9223372036854775807 (value_from 0 c.args.digits.now)
@@ -19,7 +19,7 @@ returns-then-number-digit c =
     (over c.loop-d.number 9223372036854775807 c.args.digits.now c.loop-d.d-index (omega arith) large))
 
 pub returns : goal.returns
-unfolding value
+unfolding decimal_value
 returns c =
     let last = at_end c.loop-d.number c.args.digits.now c.loop-d.d-index (omega arith) in
     within 9223372036854775807 (value_from 0 c.args.digits.now)

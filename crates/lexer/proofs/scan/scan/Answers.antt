@@ -1,7 +1,7 @@
 use Rattle.std.proofs.Common.{◌≡◌, ◌∷◌, ◌∙◌, sym, ap, inl, inr, refl, arith, length}
 use Rattle.model.specs.declared.tokens.TokenKind.TheVariants as kind
 use Rattle.model.specs.Deck.Cut as cut
-use Rattle.model.specs.Deck.Pieces.{front, back, quoted, starred}
+use Rattle.model.specs.Deck.Pieces.{front, behind_front, quoted, starred}
 use Rattle.lexer.specs.Scans.{IsFound, class_of}
 use Rattle.lexer.proofs.Scanning.{run, arm, others}
 use Rattle.lexer.proofs.scan.scan.Goals as goal
@@ -20,7 +20,7 @@ returns-in-Digit c = arm c.args.text.now cut.Digit _ (omega arith) c.in-Digit.en
 
 pub returns-in-Quote : goal.returns-in-Quote
 returns-in-Quote c = arm c.args.text.now cut.Quote _ (omega arith) c.in-Quote.ensures
-    (λ b bs i. others (λ x y. IsFound (x ∷ y) c.literal.result (quoted x (front (cut.differs x) y) (back (cut.differs x) y))) c.args.text.now b bs i c.literal.ensures)
+    (λ b bs i. others (λ x y. IsFound (x ∷ y) c.literal.result (quoted x (front (cut.differs x) y) (behind_front (cut.differs x) y))) c.args.text.now b bs i c.literal.ensures)
 
 pub returns-in-Star : goal.returns-in-Star
 returns-in-Star c = arm c.args.text.now cut.Star _ (omega arith) c.in-Star.ensures

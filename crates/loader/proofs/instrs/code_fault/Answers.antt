@@ -1,7 +1,7 @@
 use Rattle.std.proofs.Common.{◌≡◌, ◌∙◌, ◌+◌, take, get_or, None, ap, subst, arith}
 use Rattle.model.specs.declared.instr.Instr.TheVariants.{End}
-use Rattle.model.specs.Module.Images.{bytes}
-use Rattle.model.specs.Module.WellFormed.{told, instr_fault}
+use Rattle.model.specs.Module.Images.{instr_size}
+use Rattle.model.specs.Module.WellFormed.{fault_if, instr_fault}
 use Rattle.loader.specs.Parts.{code_fault}
 use Rattle.loader.proofs.Coding.{instr_told, total_next, total_left}
 use Rattle.loader.proofs.Scanning.{rest, goes_on}
@@ -24,10 +24,10 @@ loop-instr-preserved c =
     let place = c.args.place + at in
     let x = get_or is k End in
     let lt = c.loop-instr-test.true in
-    let kept : instr_fault im (take k is) place x ≡ None = instr_told im (take k is) place at n x c.instr_rule.result c.loop-instr.invariant.front c.bytes.ensures c.instr_rule.ensures ∙ ap (told place) c.in_default.is in
-    let on = goes_on (instr_fault im) bytes is k place End (code_fault im) lt kept c.loop-instr.invariant.so_far in
+    let kept : instr_fault im (take k is) place x ≡ None = instr_told im (take k is) place at n x c.instr_rule.result c.loop-instr.invariant.front c.bytes.ensures c.instr_rule.ensures ∙ ap (fault_if place) c.in_default.is in
+    let on = goes_on (instr_fault im) instr_size is k place End (code_fault im) lt kept c.loop-instr.invariant.so_far in
     record {
-      so_far = subst (λ p. rest (instr_fault im) bytes is (k + 1) p ≡ code_fault im) (omega (arith, c.bytes.ensures)) on;
+      so_far = subst (λ p. rest (instr_fault im) instr_size is (k + 1) p ≡ code_fault im) (omega (arith, c.bytes.ensures)) on;
       front = omega (arith, c.loop-instr.invariant.front, c.bytes.ensures, total_next is k End lt);
       left = omega (arith, c.loop-instr.invariant.left, c.bytes.ensures, total_left is k End lt);
     }

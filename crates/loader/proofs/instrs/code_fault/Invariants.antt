@@ -1,5 +1,5 @@
 use Rattle.std.proofs.Common.{◌≡◌, ◌+◌, drop, take}
-use Rattle.model.specs.Module.Images.{bytes, total}
+use Rattle.model.specs.Module.Images.{instr_size, code_size}
 use Rattle.model.specs.Module.WellFormed.{instr_fault}
 use Rattle.loader.specs.Parts.{code_fault}
 use Rattle.loader.proofs.Scanning.{rest}
@@ -7,7 +7,7 @@ use Rattle.loader.proofs.instrs.code_fault.Given as goal
 
 abbrev pub invariant-loop-instr : goal.invariant-loop-instr
 invariant-loop-instr l = record {
-  so_far : rest (instr_fault l.image) bytes l.code l.instr-index (l.place + l.at) ≡ code_fault l.image;
-  front : l.at ≡ total (take l.instr-index l.code);
-  left : l.at + total (drop l.instr-index l.code) ≡ total l.image.code;
+  so_far : rest (instr_fault l.image) instr_size l.code l.instr-index (l.place + l.at) ≡ code_fault l.image;
+  front : l.at ≡ code_size (take l.instr-index l.code);
+  left : l.at + code_size (drop l.instr-index l.code) ≡ code_size l.image.code;
 }

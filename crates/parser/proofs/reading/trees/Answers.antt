@@ -1,11 +1,11 @@
 use Rattle.std.proofs.Common.{◌++◌, ◌∙◌, ap, ap₂, map, [], ◌∷◌}
 use Rattle.model.specs.Deck.TreeViews.{stmt_of}
-use Rattle.parser.specs.Reads.{shown, trees_of}
+use Rattle.parser.specs.Reads.{result_read, trees_of}
 use Rattle.parser.proofs.ReadLists.{none_left, tree_more, no_tree_more, trees_end}
 use Rattle.parser.proofs.reading.trees.Goals as goal
 
 pub loop-read-init : goal.loop-read-init
-loop-read-init c = ap₂ (λ ts rs. map stmt_of ts ++ trees_of (map shown rs)) c.new-trees.ensures.items c.into_iter-read-iterator.ensures.into_iter_gives.0
+loop-read-init c = ap₂ (λ ts rs. map stmt_of ts ++ trees_of (map result_read rs)) c.new-trees.ensures.items c.into_iter-read-iterator.ensures.into_iter_gives.0
 
 pub loop-read-preserved : goal.loop-read-preserved
 loop-read-preserved c =

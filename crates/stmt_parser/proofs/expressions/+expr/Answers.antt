@@ -70,11 +70,11 @@ lefts-returns t c =
 
 -- ---- calls, references and arguments
 pub named-returns-then-eat-2 : goal.named-returns-then-eat-2
-unfolding spec.named spec.bind spec.expect
+unfolding spec.after_name spec.bind spec.expect
 named-returns-then-eat-2 t c = rw (call_is c.in_ok-name.name c.shown.result) (grind (arith, common_steps))
 
 pub named-returns-then-eat-4 : goal.named-returns-then-eat-4
-unfolding spec.named spec.bind spec.expect
+unfolding spec.after_name spec.bind spec.expect
 named-returns-then-eat-4 t c = rw (reference_is c.in_ok-name.name c.in_ok-subscripts.subscripts) (grind (arith, common_steps))
 
 pub several-loop-turn-init : goal.several-loop-turn-init

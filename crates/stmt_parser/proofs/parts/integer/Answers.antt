@@ -1,10 +1,10 @@
 use Rattle.std.proofs.Common.{refl, arith}
-use Rattle.model.specs.Deck.Digits.{value}
+use Rattle.model.specs.Deck.Digits.{decimal_value}
 use Rattle.stmt_parser.proofs.Digits.{turn}
 use Rattle.stmt_parser.proofs.parts.integer.Goals as goal
 
 pub loop-digit-init : goal.loop-digit-init
-unfolding value
+unfolding decimal_value
 loop-digit-init c = (refl, c.requires.digits)
 
 pub overflow_mul-number : goal.overflow_mul-number

@@ -1,5 +1,5 @@
 use Rattle.std.proofs.Common.{◌≡◌, ap, arith, sym, ◌∙◌}
-use Rattle.model.specs.Module.Images.{total, bytes}
+use Rattle.model.specs.Module.Images.{code_size, instr_size}
 use Rattle.expr_codegen.proofs.Joins.{total_same}
 use Rattle.expr_codegen.proofs.generator.Generator.change.Goals as goal
 

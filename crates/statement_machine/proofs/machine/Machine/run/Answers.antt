@@ -1,11 +1,11 @@
 use Rattle.std.proofs.Common.{sym, ap, ◌∙◌}
-use Rattle.statement_machine.specs.Runs.{Held}
+use Rattle.statement_machine.specs.Runs.{MachineView}
 use Rattle.statement_machine.proofs.Seeing.{ran_on, ran_out, ran_same}
 use Rattle.statement_machine.proofs.machine.Machine.run.Goals as goal
 
 pub returns-in-Some-clause-ran : goal.returns-in-Some-clause-ran
 returns-in-Some-clause-ran g c =
-    ran_same c.args.self.now c.args.bound (g.U.Units.told c.args.units.now) c.status.result c.in-Some.halt (sym (ap (λ (h : Held). h.halt) c.self.view_is) ∙ c.in-Some.is)
+    ran_same c.args.self.now c.args.bound (g.U.Units.told c.args.units.now) c.status.result c.in-Some.halt (sym (ap (λ (h : MachineView). h.halt) c.self.view_is) ∙ c.in-Some.is)
 
 pub returns-in-Ok-clause-ran : goal.returns-in-Ok-clause-ran
 returns-in-Ok-clause-ran g c =

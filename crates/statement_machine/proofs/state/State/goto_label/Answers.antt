@@ -1,5 +1,5 @@
 use Rattle.std.proofs.Common.{◌∙◌, [], Ok, Err, ap, subst, sym}
-use Rattle.model.specs.Machine.Steps.{to_known, to_return}
+use Rattle.model.specs.Machine.Steps.{go_to_known, go_to_return}
 use Rattle.model.specs.Module.Images.{module_of}
 use Rattle.world.specs.Held.{world_of}
 use Rattle.statement_machine.specs.Held.{Left}
@@ -10,7 +10,7 @@ use Rattle.statement_machine.proofs.state.State.goto_label.Goals as goal
 pub returns-then-is_some-clause-left : goal.returns-then-is_some-clause-left
 returns-then-is_some-clause-left c io =
     let s = c.args.self.now in
-    subst (λ o. Left (Err c.no_return.result) s io (to_return (module_of c.args.program.now) c.args.label.now o [] (world_of s.world io))) c.return_of.ensures
+    subst (λ o. Left (Err c.no_return.result) s io (go_to_return (module_of c.args.program.now) c.args.label.now o [] (world_of s.world io))) c.return_of.ensures
     (leaves_none c.args.program.now c.args.label.now c.return_of.result s io c.no_return.result (sym c.is_some.ensures ∙ c.if-is_some.true) c.no_return.ensures.left)
 
 pub goto-requires-clause-there : goal.goto-requires-clause-there
@@ -23,7 +23,7 @@ returns-in-Some-clause-left c io =
     let M = module_of c.args.program.now in
     let w = world_of c.args.self.now.world io in
     subst (λ st. Left (Ok tt) c.goto.new.self io st)
-    (sym (ap (λ o. to_return M c.args.label.now o [] w) (sym c.return_of.ensures) ∙ leaves_not c.args.program.now c.args.label.now c.return_of.result w (sym c.is_some.ensures ∙ c.if-is_some.false) ∙ ap (λ x. to_known M x [] w) (sym c.in-Some.ensures)))
+    (sym (ap (λ o. go_to_return M c.args.label.now o [] w) (sym c.return_of.ensures) ∙ leaves_not c.args.program.now c.args.label.now c.return_of.result w (sym c.is_some.ensures ∙ c.if-is_some.false) ∙ ap (λ x. go_to_known M x [] w) (sym c.in-Some.ensures)))
     (c.goto.ensures 0 io)
 
 pub returns-in-None-clause-left : goal.returns-in-None-clause-left
@@ -31,5 +31,5 @@ returns-in-None-clause-left c io =
     let M = module_of c.args.program.now in
     let w = world_of c.args.self.now.world io in
     subst (λ st. Left (Err c.no_label.result) c.args.self.now io st)
-    (sym (ap (λ o. to_return M c.args.label.now o [] w) (sym c.return_of.ensures) ∙ leaves_not c.args.program.now c.args.label.now c.return_of.result w (sym c.is_some.ensures ∙ c.if-is_some.false) ∙ ap (λ x. to_known M x [] w) (sym c.in-None.ensures)))
+    (sym (ap (λ o. go_to_return M c.args.label.now o [] w) (sym c.return_of.ensures) ∙ leaves_not c.args.program.now c.args.label.now c.return_of.result w (sym c.is_some.ensures ∙ c.if-is_some.false) ∙ ap (λ x. go_to_known M x [] w) (sym c.in-None.ensures)))
     (c.no_label.ensures.left c.args.program.now 0 io)

@@ -1,6 +1,6 @@
 use Rattle.std.proofs.Common.{[], refl, sym, ap, ◌∙◌, drop, subst}
 use Rattle.model.specs.Language.Calls.{return_of}
-use Rattle.model.specs.Machine.Steps.{to_return}
+use Rattle.model.specs.Machine.Steps.{go_to_return}
 use Rattle.model.specs.Module.Images.{module_of}
 use Rattle.frames.specs.Kinds.{kinds_of}
 use Rattle.world.specs.Held.{world_of}
@@ -18,7 +18,7 @@ goto_label-requires-clause-operands c = no_operands c.pop_value.new.operands (ap
 pub returns-in-Ok-clause-left : goal.returns-in-Ok-clause-left
 returns-in-Ok-clause-left c next io =
     subst (λ st. Left c.goto_label.result c.goto_label.new.self io st) (sym (by_label c.args.program.now next c.args.self.now (record c.args.self.now { operands = c.pop_value.new.operands }) c.pop_value.result io c.pop_value.ensures c.in-Ok.label c.in-Ok.ensures.label))
-    (subst (λ l. Left c.goto_label.result c.goto_label.new.self io (to_return (module_of c.args.program.now) l (return_of l) [] (world_of c.args.self.now.world io))) c.as_slice.ensures (c.goto_label.ensures.left io))
+    (subst (λ l. Left c.goto_label.result c.goto_label.new.self io (go_to_return (module_of c.args.program.now) l (return_of l) [] (world_of c.args.self.now.world io))) c.as_slice.ensures (c.goto_label.ensures.left io))
 
 pub returns-in-Err-clause-left : goal.returns-in-Err-clause-left
 returns-in-Err-clause-left c next io =
