@@ -14,7 +14,7 @@ use Rattle.pattern_compiler.specs.declared.instr.Name.{Name}
 use Rattle.frames.specs.declared.operand.Operand.{Operand}
 use Rattle.frames.specs.declared.operand.Operand.TheVariants as operand
 use Rattle.frames.specs.View.{operands_of, handlers_of}
-use Rattle.world.specs.Answers.{Answers, AnswersOrFails}
+use Rattle.world.specs.Answers.{AnswersAs, AnswersOrFails}
 use Rattle.world.specs.Held.{WorldView, world_of}
 use Rattle.world.specs.Values.{value_of}
 use Rattle.world.specs.declared.value.Value.{Value}
@@ -31,7 +31,7 @@ use Rattle.world.proofs.Telling.{told_on}
 
 -- on from these operands and handlers after any operation that has this answer
 abbrev pub Goes : (q : ℕ) → Result (record {}) Fault → WorldView → List m.Operand → List m.Handler → Result (Unit {0}) Halt → State → Type 0
-Goes q answer mid ops hs r new = (io : Io) (o : Op MW (record {})) → Answers answer (world_of mid io) o → Left r new io (after_op o hs ops [] (λ u w. Run q ops hs [] w))
+Goes q answer mid ops hs r new = (io : Io) (o : Op MW (record {})) → AnswersAs answer (world_of mid io) o → Left r new io (after_op o hs ops [] (λ u w. Run q ops hs [] w))
 
 -- on with the value of any operation that has this answer
 abbrev pub GoesWith : (q : ℕ) → Result (Option MVal) Fault → WorldView → List m.Operand → List m.Handler → Result (Unit {0}) Halt → State → Type 0
@@ -77,7 +77,7 @@ module _ (im : Image) (q : ℕ) (s new : State) (mid : WorldView) (r : Result (U
   -- ---- assigning
 
   pub assigned : (v : Value) (answer : Result (record {}) Fault) (a b : Option Io) → s.operands ≡ operand.Value v ∷ operand.Name n ∷ rest
-      → IfTold a b (λ io io'. Answers answer (world_of mid io') (assign_op (name_of n) (value_of v) (world_of s.world io)))
+      → IfTold a b (λ io io'. AnswersAs answer (world_of mid io') (assign_op (name_of n) (value_of v) (world_of s.world io)))
       → Goes q answer mid (operands_of rest) hs r new
       → IfTold a b (λ io io'. Left r new io' (after im op.Assign q s io))
   assigned v answer a b e f g = told_on a b _ _ (λ io io' x. rw e (g io' (assign_op (name_of n) (value_of v) (world_of s.world io)) x)) f
@@ -89,7 +89,7 @@ module _ (im : Image) (q : ℕ) (s new : State) (mid : WorldView) (r : Result (U
       seen im r new no_records _ (g no_records o.0 o.1) (rw e at stands)
 
   pub spliced : (v : Value) (d : Span) (answer : Result (record {}) Fault) (a b : Option Io) → s.operands ≡ operand.Value v ∷ operand.Span d ∷ operand.Name n ∷ rest
-      → IfTold a b (λ io io'. Answers answer (world_of mid io') (splice_op (name_of n) d.subject d.start d.end (value_of v) (world_of s.world io)))
+      → IfTold a b (λ io io'. AnswersAs answer (world_of mid io') (splice_op (name_of n) d.subject d.start d.end (value_of v) (world_of s.world io)))
       → Goes q answer mid (operands_of rest) hs r new
       → IfTold a b (λ io io'. Left r new io' (after im op.Splice q s io))
   spliced v d answer a b e f g = told_on a b _ _ (λ io io' x. rw e (g io' (splice_op (name_of n) d.subject d.start d.end (value_of v) (world_of s.world io)) x)) f

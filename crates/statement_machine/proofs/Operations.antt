@@ -4,7 +4,7 @@ use Rattle.model.specs.Language.Io.{Io}
 use Rattle.model.specs.Language.Conversions.{Op, Gives, Refuses, Faults}
 use Rattle.model.specs.Machine.Steps as m
 use Rattle.model.specs.Machine.Steps.{MW, Operand, Handler, after_op, fail_to}
-use Rattle.world.specs.Answers.{Answers, AnswersOrFails}
+use Rattle.world.specs.Answers.{AnswersAs, AnswersOrFails}
 use Rattle.world.specs.Held.{world_of}
 use Rattle.world.specs.declared.fault.Fault.{Fault}
 use Rattle.world.specs.declared.fault.Fault.TheVariants as fault
@@ -26,7 +26,7 @@ refuses o w r s io hs ops k e h = subst (λ x. Left r s io (after_op x hs ops []
 
 -- a fault ends the run as the definitions say
 pub ends : {A : Type 0} (o : Op MW A) (f : Fault) (h : Halt) (s : State) (io : Io) (hs : List Handler) (ops : List Operand) (k : A → MW → m.State)
-    → h ≡ halt_of s.world.keys.stno f → Answers (Err f) (world_of s.world io) o → Left (Err h) s io (after_op o hs ops [] k)
+    → h ≡ halt_of s.world.keys.stno f → AnswersAs (Err f) (world_of s.world io) o → Left (Err h) s io (after_op o hs ops [] k)
 ends o f h s io hs ops k e a = subst (λ x. Left (Err x) s io (after_op o hs ops [] k)) (sym e) (halts o f s io hs ops k a)
 
 -- so does one of an operation that may fail
@@ -37,7 +37,7 @@ faults o (fault.Stop x) h s io hs ops k e a = ends o (fault.Stop x) h s io hs op
 
 -- ---- some operation answers so
 
-pub some_answer : {A : Type 0} (r : Result A Fault) (w : MW) → (o : Op MW A) × Answers r w o
+pub some_answer : {A : Type 0} (r : Result A Fault) (w : MW) → (o : Op MW A) × AnswersAs r w o
 some_answer (Ok a) w = (Gives a w, refl)
 some_answer (Err (fault.Error e)) w = (Faults e w, refl)
 some_answer (Err (fault.Stop s)) w = (Refuses w, tt)

@@ -16,7 +16,7 @@ ghost use Rattle.model.specs.declared.run.Stop.TheVariants.{NoMemory};
 ghost use Rattle.statement_machine.specs.Held.{Left};
 ghost use Rattle.statement_machine.specs.Runs.{found_kinds};
 ghost use Rattle.statement_machine.specs.Stopped.{StepKeepsCounts};
-ghost use Rattle.world.specs.Answers.{Answers, KeepsCounts, done};
+ghost use Rattle.world.specs.Answers.{AnswersAs, KeepsCounts, done};
 ghost use Rattle.world.specs.Held.{world_of};
 ghost use Rattle.world.specs.Values.{value_of};
 
@@ -36,7 +36,7 @@ fn assign_all<U: Units>(
     pending: &[Assignment],
 ) -> Result<(), Fault>
     ensures assigned { IfTold (U.told units.old) (U.told units.new) (λ io io'.
-        Answers (done result) (world_of world.new io') (assign_all (pending_of pending.now) (world_of world.old io))) }
+        AnswersAs (done result) (world_of world.new io') (assign_all (pending_of pending.now) (world_of world.old io))) }
     ensures counts { KeepsCounts result (U.failures units.old) (U.failures units.new) }
 {
     for assignment in pending {

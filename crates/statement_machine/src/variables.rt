@@ -9,7 +9,7 @@ ghost use Rattle.model.specs.Language.Told.{IfTold};
 ghost use Rattle.model.specs.declared.image.Image.{Image};
 ghost use Rattle.frames.specs.Kinds.{AreOnTop};
 ghost use Rattle.frames.specs.View.{operands_of, handlers_of};
-ghost use Rattle.world.specs.Answers.{Answers, AnswersOrFails, KeepsCounts, answer_map, done};
+ghost use Rattle.world.specs.Answers.{AnswersAs, AnswersOrFails, KeepsCounts, answer_map, done};
 ghost use Rattle.world.specs.Held.{world_of};
 ghost use Rattle.world.specs.Values.{value_of};
 ghost use Rattle.statement_machine.specs.Held.{IsSound, Left, Meets, after};
@@ -25,7 +25,7 @@ use world::{Fault, Value};
 impl State {
     // On after an operation that gives nothing and may be an error.
     fn went(&mut self, answer: Result<(), Fault>, next: u32) -> Result<(), Halt>
-        ensures left { (io : Io) (o : Op MW (record {})) → Answers (done answer) (world_of self.old.world io) o →
+        ensures left { (io : Io) (o : Op MW (record {})) → AnswersAs (done answer) (world_of self.old.world io) o →
             Left result self.new io (after_op o (handlers_of self.old.handlers) (operands_of self.old.operands) [] (λ _ w. Run next (operands_of self.old.operands) (handlers_of self.old.handlers) [] w)) }
         ensures counts { (old new : ℕ → ℕ) → KeepsCounts answer old new → StepKeepsCounts result old new }
     {

@@ -18,7 +18,7 @@ use Rattle.pattern_compiler.specs.View.{name_of}
 use Rattle.pattern_compiler.specs.declared.instr.Name.{Name}
 use Rattle.pattern_compiler.specs.declared.instr.Name.TheVariants as name
 use Rattle.world.specs.Values.{value_of}
-use Rattle.world.specs.Answers.{Answers, AnswersOrFails}
+use Rattle.world.specs.Answers.{AnswersAs, AnswersOrFails}
 use Rattle.world.specs.Held.{WorldView, IsSet, IsSetOrKept, world_of, variable_at, value_in, output_in, taken, fetched_from}
 use Rattle.world.specs.declared.fault.Fault.{Fault}
 use Rattle.world.specs.declared.value.Value.{Value}
@@ -112,11 +112,11 @@ abbrev pub write_if : Bool → ℕ → MVal → MW → Op MW (record {})
 write_if off u v w = if off then Gives (record {}) w else print_text u (to_text v) w
 
 pub written : (u : ℕ) (v v' : MVal) (h : WorldView) (r : Result (record {}) Fault) (o n : Option Io) → v ≡ v' → is_zero h.keys.output ≡ false
-    → IfTold o n (λ io io'. (k : WorldView) → Answers r (world_of k io') (print_text u (to_text v) (world_of k io)))
-    → IfTold o n (λ io io'. Answers r (world_of h io') (write_var (Some u) v' (world_of h io)))
+    → IfTold o n (λ io io'. (k : WorldView) → AnswersAs r (world_of k io') (print_text u (to_text v) (world_of k io)))
+    → IfTold o n (λ io io'. AnswersAs r (world_of h io') (write_var (Some u) v' (world_of h io)))
 written u v v' h r o n same on prints =
     told_on o n _ _
-    (λ io io' f. subst (λ p. Answers r (world_of h io') p) (ap (λ z. print_text u (to_text z) (world_of h io)) same ∙ ap (λ b. write_if b u v' (world_of h io)) (sym on)) (f h))
+    (λ io io' f. subst (λ p. AnswersAs r (world_of h io') p) (ap (λ z. print_text u (to_text z) (world_of h io)) same ∙ ap (λ b. write_if b u v' (world_of h io)) (sym on)) (f h))
     prints
 
 if_same : (x : Bytes) (v w : MVal) → (if bytes_eq x x then v else w) ≡ v
@@ -124,11 +124,11 @@ if_same x v w = ap (λ b. if b then v else w) ((bytes_eq-Decides x x).1 refl)
 
 pub assigned_to_unit : (n : Name) (x : Bytes) (u : ℕ) (v : MVal) (h new : WorldView) (r : Result (record {}) Fault) (o m : Option Io) → n ≡ name.Variable x → Some u ≡ output_in (variable_at x h.variables)
     → ((io : Io) → world_of new io ≡ set_var x v (world_of h io))
-    → IfTold o m (λ io io'. Answers r (world_of new io') (write_var (Some u) (value_in (variable_at x new.variables)) (world_of new io)))
-    → IfTold o m (λ io io'. Answers r (world_of new io') (assign_op (name_of n) v (world_of h io)))
+    → IfTold o m (λ io io'. AnswersAs r (world_of new io') (write_var (Some u) (value_in (variable_at x new.variables)) (world_of new io)))
+    → IfTold o m (λ io io'. AnswersAs r (world_of new io') (assign_op (name_of n) v (world_of h io)))
 assigned_to_unit n x u v h new r o m is out set writes =
     told_on o m _ _
-    (λ io io' a. subst (λ p. Answers r (world_of new io') p)
+    (λ io io' a. subst (λ p. AnswersAs r (world_of new io') p)
     (ap (λ z. write_var (Some u) z (world_of new io)) (ap (λ w. w.vars x) (set io) ∙ if_same x v ((world_of h io).vars x))
     ∙ ap (λ w. write_var (Some u) v w) (set io)
     ∙ ap (λ z. write_var z v (set_var x v (world_of h io))) out

@@ -49,10 +49,10 @@ op_of (Ok a) w = Gives a w
 op_of (Err e) w = Faults e w
 
 -- unless it stopped, a call answers as the operation does, which leaves this world
-abbrev pub Answers : {W A : Type 0} → Result A Fault → W → Op W A → Type 0
-Answers (Ok a) w o = o ≡ Gives a w
-Answers (Err (fault.Error e)) w o = o ≡ Faults e w
-Answers (Err (fault.Stop s)) w o = Unit {0}
+abbrev pub AnswersAs : {W A : Type 0} → Result A Fault → W → Op W A → Type 0
+AnswersAs (Ok a) w o = o ≡ Gives a w
+AnswersAs (Err (fault.Error e)) w o = o ≡ Faults e w
+AnswersAs (Err (fault.Stop s)) w o = Unit {0}
 
 -- the same for operations that may fail
 abbrev pub AnswersOrFails : {W A : Type 0} → Result (Option A) Fault → W → Op W A → Type 0

@@ -10,7 +10,7 @@ ghost use Rattle.model.specs.declared.run.Stop.TheVariants.{NoMemory};
 ghost use Rattle.pattern_compiler.specs.View.{name_of};
 ghost use Rattle.world.specs.Values.{value_of};
 ghost use Rattle.world.specs.Held.{WorldView, IsSet, IsSetOrKept, world_of, taken, variable_at, value_in};
-ghost use Rattle.world.specs.Answers.{answer_map, Answers, AnswersOrFails, done, IfStopped, KeepsCounts, stop_of};
+ghost use Rattle.world.specs.Answers.{answer_map, AnswersAs, AnswersOrFails, done, IfStopped, KeepsCounts, stop_of};
 
 use crate::fault::Fault;
 use crate::value::Value;
@@ -99,7 +99,7 @@ impl World {
         value: Value,
     ) -> Result<(), Fault>
         ensures assigned { IfTold (U.told units.old) (U.told units.new) (λ io io'.
-            Answers (done result) (world_of self.new io') (assign_op (name_of name.now) (value_of value) (world_of self.old io))) }
+            AnswersAs (done result) (world_of self.new io') (assign_op (name_of name.now) (value_of value) (world_of self.old io))) }
         ensures counts { KeepsCounts result (U.failures units.old) (U.failures units.new) }
         ensures ok { OnOk result (IsSet (name_of name.now) (value_of value) self.old self.new) }
         ensures err { OnErr result (IsSetOrKept (name_of name.now) (value_of value) self.old self.new) }
@@ -123,7 +123,7 @@ impl World {
         value: &Value,
     ) -> Result<(), Fault>
         ensures assigned { IfTold (U.told units.old) (U.told units.new) (λ io io'.
-            Answers (done result) (world_of self.new io') (splice_op (name_of name.now) span.now.subject span.now.start span.now.end (value_of value.now) (world_of self.old io))) }
+            AnswersAs (done result) (world_of self.new io') (splice_op (name_of name.now) span.now.subject span.now.start span.now.end (value_of value.now) (world_of self.old io))) }
         ensures counts { KeepsCounts result (U.failures units.old) (U.failures units.new) }
         ensures only { (self.new ≡ self.old) ⊎ ((v : MVal) × IsSet (name_of name.now) v self.old self.new) }
     {
@@ -140,7 +140,7 @@ impl World {
         unit: u8,
     ) -> Result<(), Fault>
         ensures written { IfTold (U.told units.old) (U.told units.new) (λ io io'.
-            Answers (done result) (world_of self.now io') (write_var (Some unit) (value_in (variable_at name.now self.now.variables)) (world_of self.now io))) }
+            AnswersAs (done result) (world_of self.now io') (write_var (Some unit) (value_in (variable_at name.now self.now.variables)) (world_of self.now io))) }
         ensures counts { KeepsCounts result (U.failures units.old) (U.failures units.new) }
     {
         if is_zero(&self.keywords, KeyId::Output) {
@@ -154,7 +154,7 @@ impl World {
 // Writes a value as a record.
 fn print<U: Units>(alloc: Global, units: &mut U, unit: u8, value: &Value) -> Result<(), Fault>
     ensures printed { IfTold (U.told units.old) (U.told units.new) (λ io io'.
-        (h : WorldView) → Answers (done result) (world_of h io') (print_text unit (to_text (value_of value.now)) (world_of h io))) }
+        (h : WorldView) → AnswersAs (done result) (world_of h io') (print_text unit (to_text (value_of value.now)) (world_of h io))) }
     ensures counts { KeepsCounts result (U.failures units.old) (U.failures units.new) }
 {
     let text = match value.to_text(alloc) {

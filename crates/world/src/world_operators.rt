@@ -8,7 +8,7 @@ ghost use Rattle.model.specs.Deck.Target.{Name};
 ghost use Rattle.model.specs.declared.run.Stop.TheVariants.{NoMemory};
 ghost use Rattle.world.specs.Values.{value_of, begun_of};
 ghost use Rattle.world.specs.Held.{world_of};
-ghost use Rattle.world.specs.Answers.{answer_map, done, op_of, Answers, IfStopped, LeadsTo};
+ghost use Rattle.world.specs.Answers.{answer_map, done, op_of, AnswersAs, IfStopped, LeadsTo};
 
 use crate::fault::Fault;
 use crate::value::Value;
@@ -86,7 +86,7 @@ impl World {
 
     /// Two values one after the other. The null string gives the other, unconverted.
     pub fn cat(&self, alloc: Global, left: &Value, right: &Value) -> Result<Value, Fault>
-        ensures value { (io : Io) → Answers (answer_map value_of result) (world_of self.now io) (cat_op codes_of (value_of left.now) (value_of right.now) (world_of self.now io)) }
+        ensures value { (io : Io) → AnswersAs (answer_map value_of result) (world_of self.now io) (cat_op codes_of (value_of left.now) (value_of right.now) (world_of self.now io)) }
         ensures stop { IfStopped result (λ stop. stop ≡ NoMemory) }
     {
         if left.is_null() {
@@ -108,7 +108,7 @@ impl World {
 
     /// The value of a keyword.
     pub fn keyword(&self, id: KeyId) -> Result<Value, Fault>
-        ensures value { (io : Io) → Answers (answer_map value_of result) (world_of self.now io) (keyget_op id (world_of self.now io)) }
+        ensures value { (io : Io) → AnswersAs (answer_map value_of result) (world_of self.now io) (keyget_op id (world_of self.now io)) }
         ensures stop { IfStopped result (λ stop. stop ≡ NoMemory) }
     {
         match self.keywords.get(id) {
@@ -135,7 +135,7 @@ impl World {
         subject: &Value,
         pattern: &Value,
     ) -> Result<Begun, Fault>
-        ensures begun { (io : Io) → Answers (answer_map begun_of result) (world_of self.now io) (match_op codes_of (value_of subject.now) (value_of pattern.now) (world_of self.now io)) }
+        ensures begun { (io : Io) → AnswersAs (answer_map begun_of result) (world_of self.now io) (match_op codes_of (value_of subject.now) (value_of pattern.now) (world_of self.now io)) }
         ensures stop { IfStopped result (λ stop. stop ≡ NoMemory) }
     {
         let subject = subject.to_text(alloc)?;
