@@ -109,7 +109,7 @@ pub all_read : {A B : Type 0} (f : A → B) (xs ys : List B) (left : List A) →
 all_read f xs ys left e so_far = sym (append_nil xs) ∙ ap (λ l. xs ++ map f l) (sym e) ∙ so_far
 
 -- one read less is left, and its tree is kept
-pub tree_more : (ts next : List deck_trees.Stmt) (t : deck_trees.Stmt) (left rest : List Read) (r : Read) (all : List Stmt) → left ≡ r ∷ rest → r.tree ≡ Ok t
+pub tree_more : (ts next : List trees.Stmt) (t : trees.Stmt) (left rest : List Read) (r : Read) (all : List Stmt) → left ≡ r ∷ rest → r.tree ≡ Ok t
     → next ≡ ts ++ t ∷ [] → map stmt_of ts ++ trees_of (map result_read left) ≡ all → map stmt_of next ++ trees_of (map result_read rest) ≡ all
 tree_more ts next t left rest r all l is n so_far =
     ap (λ xs. map stmt_of xs ++ trees_of (map result_read rest)) n
@@ -118,13 +118,13 @@ tree_more ts next t left rest r all l is n so_far =
     ∙ ap (λ x. map stmt_of ts ++ (tree_of_read (result_of x) ++ trees_of (map result_read rest))) (sym is)
     ∙ ap (λ xs. map stmt_of ts ++ trees_of (map result_read xs)) (sym l) ∙ so_far
 
-pub no_tree_more : (ts : List deck_trees.Stmt) (c : Cause) (left rest : List Read) (r : Read) (all : List Stmt) → left ≡ r ∷ rest → r.tree ≡ Err c
+pub no_tree_more : (ts : List trees.Stmt) (c : Cause) (left rest : List Read) (r : Read) (all : List Stmt) → left ≡ r ∷ rest → r.tree ≡ Err c
     → map stmt_of ts ++ trees_of (map result_read left) ≡ all → map stmt_of ts ++ trees_of (map result_read rest) ≡ all
 no_tree_more ts c left rest r all l is so_far =
     ap (λ x. map stmt_of ts ++ (tree_of_read (result_of x) ++ trees_of (map result_read rest))) (sym is)
     ∙ ap (λ xs. map stmt_of ts ++ trees_of (map result_read xs)) (sym l) ∙ so_far
 
-pub trees_end : (ts : List deck_trees.Stmt) (left : List Read) (all : List Stmt) → left ≡ [] → map stmt_of ts ++ trees_of (map result_read left) ≡ all → map stmt_of ts ≡ all
+pub trees_end : (ts : List trees.Stmt) (left : List Read) (all : List Stmt) → left ≡ [] → map stmt_of ts ++ trees_of (map result_read left) ≡ all → map stmt_of ts ≡ all
 trees_end ts left all e so_far = sym (append_nil (map stmt_of ts)) ∙ ap (λ l. map stmt_of ts ++ trees_of (map result_read l)) (sym e) ∙ so_far
 
 -- the causes that are told so far, with one more
@@ -167,7 +167,7 @@ other_cause found c ts (inl m) none other = absurd (other m)
 other_cause found c ts (inr n) none other = none n.1 ∙ ap Err (sym n.0)
 
 -- what the parser says of all tokens of a text
-pub parsed : (text : Bytes) (tokens given : List Token) (r : Result deck_trees.Stmt Cause) → given ≡ tokens → least_lexical (pieces text) ≡ None → Cut text (map piece_of tokens)
+pub parsed : (text : Bytes) (tokens given : List Token) (r : Result trees.Stmt Cause) → given ≡ tokens → least_lexical (pieces text) ≡ None → Cut text (map piece_of tokens)
     → IfOk r (λ s. Tree (stmt_of s) (toks given)) → IfErr r (λ c. (c ≡ cause.Memory) ⊎ ((c ≡ cause.NoTree) × HasNoTree (toks given))) → IsRead (read text) r
 parsed text tokens given (Ok s) same fair cut t c = is_tree text (stmt_of s) tokens fair cut (subst (λ ts. Tree (stmt_of s) (toks ts)) same t)
 parsed text tokens given (Err x) same fair cut t c = other_cause (read text) x (toks given) c (λ none. is_none text tokens fair cut (subst (λ ts. HasNoTree (toks ts)) same none))

@@ -31,13 +31,13 @@ pub struct Machine<'m> {
 }
 
 impl<'m> Model for Machine<'m> {
-    ghost use Rattle.statement_machine.specs.Runs.{Held, IsGoing, RunStands};
+    ghost use Rattle.statement_machine.specs.Runs.{MachineView, IsGoing, LacksNothing};
 
-    ghost Value = { Held };
+    ghost Value = { MachineView };
 
     ghost view = { λ m. record { image = m.program.now; run = m.run; halt = m.halt } };
 
-    ghost invariant = { λ m. IsGoing m.halt (RunStands m.program.now m.run) };
+    ghost invariant = { λ m. IsGoing m.halt (LacksNothing m.program.now m.run) };
 }
 
 impl<'m> Machine<'m> {

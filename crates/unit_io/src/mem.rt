@@ -46,9 +46,9 @@ pub struct MemUnits {
 }
 
 impl Model for MemUnits {
-    ghost use Rattle.unit_io.specs.Held.{Held, IsKept};
+    ghost use Rattle.unit_io.specs.Held.{UnitsView, IsKept};
 
-    ghost Value = { Held };
+    ghost Value = { UnitsView };
 
     ghost view = { λ m. record { opened = m.opened.items; printed = m.printed.items; failures = m.failures } };
 

@@ -84,9 +84,9 @@ impl Drop for World {
 }
 
 impl Model for World {
-    ghost use Rattle.world.specs.Held.{Held};
+    ghost use Rattle.world.specs.Held.{WorldView};
 
-    ghost Value = { Held };
+    ghost Value = { WorldView };
 
     ghost view = { λ w. record { variables = w.variables.entries; keys = w.keywords } };
 }
