@@ -18,7 +18,7 @@ pub struct Generator<'a> {
     strings: Strings,
     waiting: Vec<&'a Expr>,
     taken: usize,
-    ghost counted: { at ≡ total code.items },
+    ghost counted: { at ≡ code_size code.items },
     ghost within: { taken ≤ length waiting.items },
 }
 
