@@ -17,7 +17,7 @@ returns-then-not-is_label c =
     let at = c.loop-label.offset in
     let x = get_or ls k unlabelled in
     let new = c.in_ok-is_new.ensures.added ∙ ap (λ (ks : List ℕ). not (list_any (nat_eq x.string) ks)) c.loop-label.invariant.seen in
-    let told : label_at im (take k ls) at x ≡ told at (unless BadIndex false) = asked im (take k ls) at x c.in_ok-is_new.is_new c.is_label.result (new, c.is_label.ensures) ∙ ap (λ b. told at (unless BadIndex b)) c.if-not-is_label.true in
+    let told : label_at im (take k ls) at x ≡ fault_if at (unless BadIndex false) = asked im (take k ls) at x c.in_ok-is_new.is_new c.is_label.result (new, c.is_label.ensures) ∙ ap (λ b. fault_if at (unless BadIndex b)) c.if-not-is_label.true in
     stops (label_at im) (λ x. 8) ls k at unlabelled (label_fault im) _ c.loop-label-test.true told c.loop-label.invariant.so_far
 
 pub overflow_add-offset : goal.overflow_add-offset
@@ -33,7 +33,7 @@ loop-label-preserved c =
     let seen = c.loop-label.invariant.seen in
     let lt = c.loop-label-test.true in
     let new = c.in_ok-is_new.ensures.added ∙ ap (λ (ks : List ℕ). not (list_any (nat_eq x.string) ks)) seen in
-    let told : label_at im (take k ls) at x ≡ told at (unless BadIndex true) = asked im (take k ls) at x c.in_ok-is_new.is_new c.is_label.result (new, c.is_label.ensures) ∙ ap (λ b. told at (unless BadIndex b)) c.if-not-is_label.false in
+    let told : label_at im (take k ls) at x ≡ fault_if at (unless BadIndex true) = asked im (take k ls) at x c.in_ok-is_new.is_new c.is_label.result (new, c.is_label.ensures) ∙ ap (λ b. fault_if at (unless BadIndex b)) c.if-not-is_label.false in
     let fresh = good_is_new im (take k ls) x c.in_ok-is_new.is_new c.is_label.result (new, c.is_label.ensures) c.if-not-is_label.false in
     record {
       so_far = goes_on (label_at im) (λ x. 8) ls k at unlabelled (label_fault im) lt told c.loop-label.invariant.so_far;
