@@ -321,7 +321,7 @@ module _ (ss : List Stmt) (fit : IsFit ss) where
           let h = texts_small in
           texts_follow (label_texts ss) (with_texts (code_of ss).texts []) (omega (arith, h)) (texts_follow (code_of ss).texts [] (omega (arith, h)) tt);
     };
-    label_entries = record {
+    labels = record {
       count = (let h = labels_count im.strings 1 ss in let c = fit.count in let e : length im.labels ≤ most = omega (arith, h, c) in e);
       entries = labels_follow im.strings (few.strings) 1 ss (let c = fit.count in omega (arith, c)) [] (λ m h. refl);
     };
