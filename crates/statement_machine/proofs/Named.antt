@@ -49,14 +49,16 @@ rest_same (suc n) ks ls e = rest_same n ks ls (ap (drop 1) e)
 
 -- the base is the newest one below them
 pub base_next : (n : ℕ) (ops rest : List Operand) (vs : List Value) → AreOnTop (replicate (suc n) V) ops → ops ≡ map operand.Value (reverse vs) ++ rest → length vs ≡ n → TopIs V rest
-base_next n ops rest vs h is count =
-    (h.0, rest_same n (kinds_of rest) (V ∷ h.0) (
+base_next n ops rest vs h is count = (
+  h.0,
+  rest_same n (kinds_of rest) (V ∷ h.0) (
       ap (λ k. replicate k V ++ kinds_of rest) (sym (length-reverse vs ∙ count))
       ∙ sym (values_kinds (reverse vs) rest)
       ∙ ap kinds_of (sym is)
       ∙ h.1
       ∙ later n h.0
-    ))
+      ),
+)
 
 -- ---- the name
 

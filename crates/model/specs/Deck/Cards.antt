@@ -45,9 +45,7 @@ abbrev pub is_known_control : List ℕ → Bool
 is_known_control text = is_word_first (codes "-LIST") text || is_word_first (codes "-UNLIST") text || is_word_first (codes "-EJECT") text
 
 pub data CardKind : Type 0 where
-  Comment : CardKind
-  Control : CardKind
-  UnknownControl : CardKind
+  Comment Control UnknownControl : CardKind
   -- what it appends to the text before it
   Continuation : List ℕ → CardKind
   -- what its new text begins with

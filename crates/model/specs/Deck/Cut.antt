@@ -13,13 +13,7 @@ use Rattle.model.specs.Deck.Tokens.{Tok, tok_by}
 
 -- what a byte is; each is exactly one of these
 pub data Class : Type 0 where
-  Space : Class
-  Letter : Class
-  Digit : Class
-  Quote : Class
-  Star : Class
-  Dot : Class
-  Underscore : Class
+  Space Letter Digit Quote Star Dot Underscore : Class
   -- a mark of one byte other than `*` and `.`
   Sign : Mark → Class
   Other : Class
@@ -154,8 +148,7 @@ Cut text (p ∷ ps) = First text p × ((rest : List ℕ) × (text ≡ text_of p 
 abbrev pub toks_of : List Piece → List Tok
 toks_of [] = []
 toks_of (Token k text ∷ ps) = tok_by k text ∷ toks_of ps
-toks_of (Stray b ∷ ps) = toks_of ps
-toks_of (Unclosed text ∷ ps) = toks_of ps
+toks_of (_ ∷ ps) = toks_of ps
 
 -- ---- what pieces may break
 

@@ -22,8 +22,7 @@ bind (Some p) f = f p.0 p.1
 
 -- what a mark may be: a bracket that opens, `&`, an operator of either kind or of both, or none of these
 pub data Role : Type 0 where
-  Opens : Role
-  Refers : Role
+  Opens Refers : Role
   Prefix : Unary → Role
   Either : Unary → Binary → Role
   Infix : Binary → Role
@@ -32,12 +31,6 @@ pub data Role : Type 0 where
 abbrev pub role : Mark → Role
 role mark.Power = Infix binary.Power
 role mark.Open = Opens
-role mark.Close = Neither
-role mark.Less = Neither
-role mark.Greater = Neither
-role mark.Comma = Neither
-role mark.Equal = Neither
-role mark.Colon = Neither
 role mark.Star = Either unary.Unevaluated binary.Multiply
 role mark.Slash = Infix binary.Divide
 role mark.Plus = Either unary.Plus binary.Add
@@ -49,6 +42,7 @@ role mark.Question = Prefix unary.Interrogate
 role mark.Ampersand = Refers
 role mark.Bar = Infix binary.Alternate
 role mark.Tilde = Prefix unary.Negate
+role _ = Neither
 
 -- how an expression goes on: not at all, or by an operator and the tokens after it
 pub data Onward : Type 0 where
@@ -64,20 +58,16 @@ infix_by op (Blank ∷ ts) = Sees op ts
 infix_by op ts = Ends
 
 abbrev pub by_role : Role → Mark → List Tok → Onward
-by_role Opens m ts = Sees binary.Concatenate (Sign m ∷ ts)
-by_role Refers m ts = Sees binary.Concatenate (Sign m ∷ ts)
-by_role (Prefix u) m ts = Sees binary.Concatenate (Sign m ∷ ts)
 by_role (Either u op) m ts = binary_or_unary op m ts
 by_role (Infix op) m ts = infix_by op ts
 by_role Neither m ts = Ends
+by_role _ m ts = Sees binary.Concatenate (Sign m ∷ ts)
 
 abbrev pub after_blank : List Tok → Onward
 after_blank [] = Ends
 after_blank (Blank ∷ ts) = Ends
-after_blank (Word s ∷ ts) = Sees binary.Concatenate (Word s ∷ ts)
-after_blank (Digits n ∷ ts) = Sees binary.Concatenate (Digits n ∷ ts)
-after_blank (Quoted s ∷ ts) = Sees binary.Concatenate (Quoted s ∷ ts)
 after_blank (Sign m ∷ ts) = by_role (role m) m ts
+after_blank ts = Sees binary.Concatenate ts
 
 unfoldable pub next : List Tok → Onward
 next (Blank ∷ ts) = after_blank ts
@@ -157,8 +147,7 @@ module _ (inner : Parser Expr) where
   by_mark Refers ts found = keyword_of ts
   by_mark (Prefix u) ts found = prefixed u found
   by_mark (Either u op) ts found = prefixed u found
-  by_mark (Infix op) ts found = None
-  by_mark Neither ts found = None
+  by_mark _ ts found = None
 
   -- again is the parser of the element after a unary operator
   unfoldable pub element_step : Parser Expr → Parser Expr

@@ -44,8 +44,7 @@ by_class Quote b bs = quoted b (front (differs b) bs) (behind_front (differs b) 
 by_class Star b bs = starred b bs
 by_class Dot b bs = found (Token (kind.Mark mark.Dot) (b ∷ [])) bs
 by_class (Sign m) b bs = found (Token (kind.Mark m) (b ∷ [])) bs
-by_class Underscore b bs = found (Stray b) bs
-by_class Other b bs = found (Stray b) bs
+by_class _ b bs = found (Stray b) bs
 
 unfoldable pub first_piece : ℕ → List ℕ → FirstPiece
 first_piece b bs = by_class (class b) b bs

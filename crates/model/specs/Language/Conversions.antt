@@ -79,9 +79,8 @@ module _ {P E : Type 0} where
   to_pattern m (Str s) = Got (m.basic (Lit s))
   to_pattern m (Int z) = Got (m.basic (Lit (signed_decimal z)))
   to_pattern m (Pat p) = Got p
-  to_pattern m (Nam n) = Bad error.WrongType
   to_pattern m (Exp e) = Got (m.defer e)
-  to_pattern m (Obj k) = Bad error.WrongType
+  to_pattern m _ = Bad error.WrongType
 
   abbrev pub to_name : Value P E → Conv Name
   to_name (Str []) = Bad error.NotAName

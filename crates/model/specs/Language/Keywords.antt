@@ -69,13 +69,12 @@ put_key k.Input z ks = record ks { input = z }
 put_key k.Output z ks = record ks { output = z }
 put_key k.StLimit z ks = record ks { stlimit = z }
 put_key k.MaxLngth z ks = record ks { maxlngth = z }
-put_key k.Alphabet z ks = ks
 put_key k.StCount z ks = record ks { stcount = z }
 put_key k.StNo z ks = record ks { stno = z }
 put_key k.LastNo z ks = record ks { lastno = z }
 put_key k.StFCount z ks = record ks { stfcount = z }
 put_key k.FncLevel z ks = record ks { fnclevel = z }
-put_key k.RtnType z ks = ks
+put_key _ z ks = ks
 
 abbrev pub first_keys : Keys
 first_keys = record {

@@ -52,8 +52,7 @@ Settled (Open w) = ⊥
 
 -- what can be asked for
 pub data Query : Type 0 where
-  QVal : Expr → Query
-  QName : Expr → Query
+  QVal QName : Expr → Query
   QArgs : Args → Query
   QBody : Body → Query
   QExec : ℕ → Query
@@ -103,9 +102,7 @@ doing (Faults e w) k = error_rule e w
 -- an event other than Running
 abbrev pub told_at : SearchEvent → Option SearchEvent
 told_at Running = None
-told_at Failed = Some Failed
-told_at (Asks v) = Some (Asks v)
-told_at (Matched b e a) = Some (Matched b e a)
+told_at event = Some event
 
 -- a match once more, with one more answer
 abbrev pub again : Bytes → Pattern → ℕ → Script → Answer Pattern → W → Rule Span

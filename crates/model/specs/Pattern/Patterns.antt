@@ -71,10 +71,7 @@ want_of_kind KPos = WantCount
 want_of_kind KRPos = WantCount
 want_of_kind KTab = WantCount
 want_of_kind KRTab = WantCount
-want_of_kind KAny = WantBytes
-want_of_kind KNotAny = WantBytes
-want_of_kind KSpan = WantBytes
-want_of_kind KBreak = WantBytes
+want_of_kind _ = WantBytes
 
 -- a kind with a count, and with a set (a kind of the other sort fails)
 abbrev pub with_count : Kind → ℕ → Basic
@@ -93,8 +90,6 @@ with_bytes KBreak w = Break w
 with_bytes _ w = Fail
 
 abbrev pub with_answer : {P : Type 0} → Kind → Answer P → Basic
-with_answer k (IsPattern p) = Fail
 with_answer k (IsCount n) = with_count k n
 with_answer k (IsBytes w) = with_bytes k w
-with_answer k IsFailed = Fail
-with_answer k IsSaid = Fail
+with_answer k _ = Fail

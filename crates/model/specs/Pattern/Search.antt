@@ -16,19 +16,13 @@ pub data Found (V P : Type 0) : Type 0 where
 
 -- goes on where nothing was found, with the answers that are left
 abbrev pub on_miss : {V P : Type 0} → Found V P → (List (Answer P) → Found V P) → Found V P
-on_miss (Hit e a t) k = Hit e a t
 on_miss (Miss t) k = k t
-on_miss Stop k = Stop
-on_miss Deep k = Deep
-on_miss (Wait v) k = Wait v
+on_miss other k = other
 
 -- goes on from an end that was found
 abbrev pub on_hit : {V P : Type 0} → Found V P → (ℕ → Pending → List (Answer P) → Found V P) → Found V P
 on_hit (Hit e a t) k = k e a t
-on_hit (Miss t) k = Miss t
-on_hit Stop k = Stop
-on_hit Deep k = Deep
-on_hit (Wait v) k = Wait v
+on_hit other k = other
 
 -- each end in turn
 abbrev pub try_each : {V P : Type 0} → (ℕ → List (Answer P) → Found V P) → List ℕ → List (Answer P) → Found V P

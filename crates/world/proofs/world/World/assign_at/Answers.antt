@@ -30,7 +30,7 @@ returns-in_ok-clone-in-StringKey-clause-served g c =
     let stored = c.store-in-StringKey in
     record {
       told = assigned_there c.args.name.now (name.StringKey c.in-StringKey.object c.in_ok-clone-in-StringKey.field-0) _ c.args.self.now stored.new.self _ _
-      (c.in-StringKey.is ∙ ap (name.StringKey c.in-StringKey.object) (sym c.in_ok-clone-in-StringKey.ensures.cases)) stored.ensures.stored;
+          (c.in-StringKey.is ∙ ap (name.StringKey c.in-StringKey.object) (sym c.in_ok-clone-in-StringKey.ensures.cases)) stored.ensures.stored;
       counts = search rules;
     }
 

@@ -32,9 +32,9 @@ pub returns-in-Some-Table-clause-name : goal.returns-in-Some-Table-clause-name
 returns-in-Some-Table-clause-name c io =
     subst (λ o. AnswersOrFails (answer_map (option_map name_of) c.table_item.result) (world_of c.args.self.now io) o)
     (sym (
-      ap (λ v. element_op (value_of v) (map value_of c.args.subscripts.now) (world_of c.args.self.now io)) c.in-Object.is
-      ∙ in_table c.args.self.now c.self.inside.heap io c.in-Object.object (map value_of c.args.subscripts.now) (ap (λ h. h.objects) c.self.view_is) c.kind.result
-      c.kind.ensures (c.in-Some-Table.is ∙ ap Some c.in-Some-Table.field-0-is)
+    ap (λ v. element_op (value_of v) (map value_of c.args.subscripts.now) (world_of c.args.self.now io)) c.in-Object.is
+    ∙ in_table c.args.self.now c.self.inside.heap io c.in-Object.object (map value_of c.args.subscripts.now) (ap (λ h. h.objects) c.self.view_is) c.kind.result
+    c.kind.ensures (c.in-Some-Table.is ∙ ap Some c.in-Some-Table.field-0-is)
     ))
     (c.table_item.ensures.name (world_of c.args.self.now io))
 
