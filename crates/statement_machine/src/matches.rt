@@ -1,9 +1,8 @@
 //! What a match does to the state around it.
 
-ghost use Rattle.std.specs.Prelude.{◌≡◌, [], OnOk, IfOk};
+ghost use Rattle.std.specs.Prelude.{◌≡◌, List, [], OnOk, IfOk};
 ghost use Rattle.frames.specs.Kinds.{kinds_of};
-ghost use Rattle.frames.specs.Matches.{matching_of};
-ghost use Rattle.frames.specs.View.{operands_of, handlers_of};
+ghost use Rattle.frames.specs.declared.frame.Frame.{Frame};
 ghost use Rattle.match_machine.specs.View.{pending_of, told_of};
 ghost use Rattle.model.specs.Io.{Io};
 ghost use Rattle.model.specs.Machine.{on_event};
@@ -13,15 +12,15 @@ ghost use Rattle.model.specs.Pattern.{Matched};
 ghost use Rattle.model.specs.Told.{IfTold};
 ghost use Rattle.model.specs.declared.image.Image.{Image};
 ghost use Rattle.model.specs.declared.run.Stop.TheVariants.{NoMemory};
-ghost use Rattle.statement_machine.specs.Held.{Left};
-ghost use Rattle.statement_machine.specs.Runs.{found_kinds};
+ghost use Rattle.statement_machine.specs.Held.{Left, waiting};
+ghost use Rattle.statement_machine.specs.Runs.{found_kinds, matching_in};
 ghost use Rattle.statement_machine.specs.Stopped.{StepKeepsCounts};
 ghost use Rattle.world.specs.Answers.{Answers, KeepsCounts, done};
 ghost use Rattle.world.specs.Held.{world_of};
 ghost use Rattle.world.specs.Values.{value_of};
 
 use crate::state::State;
-use crate::status::Halt;
+use crate::status::Exit;
 use frames::Matching;
 use match_machine::{Assignment, Told};
 use std::alloc::{AllocError, Global};
@@ -68,16 +67,17 @@ impl State {
         start: usize,
         end: usize,
         pending: Vec<Assignment>,
-    ) -> Result<(), Halt>
-        ensures left { (im : Image) → IfTold (U.told units.old) (U.told units.new) (λ io io'. Left result self.new io'
-            (on_event (module_of im) (Matched start end (pending_of pending.items)) (matching_of matching (operands_of self.old.operands) (handlers_of self.old.handlers)) matching.search.state [] (world_of self.old.world io))) }
-        ensures shape { OnOk result ((self.new.at ≡ matching.place) × (self.new.handlers ≡ self.old.handlers) × (kinds_of self.new.operands ≡ found_kinds matching.keep (kinds_of self.old.operands))) }
+    ) -> Result<(), Exit>
+        ensures left { (im : Image) (fs : List Frame) → IfTold (U.told units.old) (U.told units.new) (λ io io'. Left im fs result self.new io'
+            (on_event (module_of im) (Matched start end (pending_of pending.items)) (matching_in im matching self.old) matching.search.state (waiting im fs self.old) (world_of self.old.world io))) }
+        ensures shape { OnOk result ((self.new.place ≡ matching.place) × (self.new.handlers ≡ self.old.handlers) × (self.new.operands.under ≡ self.old.operands.under)
+            × (kinds_of self.new.operands.top ≡ found_kinds matching.keep (kinds_of self.old.operands.top))) }
         ensures counts { StepKeepsCounts result (U.failures units.old) (U.failures units.new) }
     {
         if let Err(fault) = assign_all(self.alloc, &mut self.world, units, pending.as_slice()) {
             return Err(self.halted(fault));
         }
-        self.at = matching.place();
+        self.place = matching.place();
         matching.found(&mut self.operands, start, end)?;
         Ok(())
     }
