@@ -2,6 +2,7 @@
 use Rattle.std.specs.Prelude.{ℕ, List, [], ◌∷◌, ◌++◌, length, map, replicate, Option, Some, None, Bool, if◌then◌else◌}
 use Rattle.model.specs.Values.{Key, Bounds, Object, ArrayOf, TableOf, RecordOf}
 use Rattle.model.specs.Prototypes.{elements_in, are_bounds}
+use Rattle.model.specs.Aggregates.{row_count}
 use Rattle.aggregates.specs.Keys.{table_rows}
 use Rattle.aggregates.specs.declared.object.Object as held
 use Rattle.aggregates.specs.declared.object.Object.TheVariants as o
@@ -34,6 +35,11 @@ module _ {V : Type 0} where
   abbrev pub as_array : Option (List Bounds × List V) → Option (Object V)
   as_array None = None
   as_array (Some a) = Some (ArrayOf a.0 a.1)
+
+  -- how many rows the array of a table has
+  abbrev pub rows_in : (V → Bool) → Option (Object V) → ℕ
+  rows_in null (Some (TableOf es)) = row_count null es
+  rows_in null _ = 0
 
   abbrev pub rows_array : (V → Bool) → (Key → V) → Option (Object V) → Option (Object V)
   rows_array null value (Some (TableOf es)) = as_array (table_rows null value es)

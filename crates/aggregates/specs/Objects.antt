@@ -1,5 +1,5 @@
 -- What an object holds at a place, and what it is with another value there.
-use Rattle.std.specs.Prelude.{ℕ, ℤ, List, Option, Some, None, Bool, true, false}
+use Rattle.std.specs.Prelude.{ℕ, ℤ, List, length, Option, Some, None, Bool, true, false}
 use Rattle.model.specs.Values.{Key, Object, ArrayOf, TableOf, RecordOf}
 use Rattle.model.specs.Trees.{Bytes}
 use Rattle.model.specs.Aggregates.{place_from, place_of}
@@ -35,6 +35,11 @@ module _ {V : Type 0} where
   abbrev pub place_in : List ℤ → Option (Object V) → Option ℕ
   place_in zs (Some (ArrayOf bs vs)) = place_from 0 bs zs
   place_in zs _ = None
+
+  -- how many dimensions an array has
+  abbrev pub dimensions_in : Option (Object V) → ℕ
+  dimensions_in (Some (ArrayOf bs vs)) = length bs
+  dimensions_in _ = 0
 
   -- the place of a record's field, by its name
   abbrev pub field_in : Bytes → Option (Object V) → Option ℕ

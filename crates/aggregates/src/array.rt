@@ -1,6 +1,6 @@
 //! An array: its dimensions, and its elements side by side.
 
-ghost use Rattle.std.specs.Prelude.{◌≡◌, ◌<◌, ◌^◌, IfOk, Some, replicate, slice_get, length, false};
+ghost use Rattle.std.specs.Prelude.{◌≡◌, ◌<◌, ◌≤◌, ◌^◌, IfOk, Some, replicate, slice_get, length, false};
 ghost use Rattle.std.specs.Option.{option_copied};
 ghost use Rattle.model.specs.Aggregates.{place_from};
 ghost use Rattle.model.specs.Prototypes.{elements_in};
@@ -21,7 +21,7 @@ pub(crate) struct Array<V> {
 }
 
 impl<V> Model for Array<V> {
-    ghost use Rattle.std.specs.Prelude.{◌≡◌, ◌<◌, List, length};
+    ghost use Rattle.std.specs.Prelude.{◌≡◌, ◌<◌, ◌≤◌, List, length};
     ghost use Rattle.model.specs.Values as values;
     ghost use Rattle.model.specs.Prototypes.{elements_in};
 
@@ -29,7 +29,7 @@ impl<V> Model for Array<V> {
 
     ghost view = { λ a. (a.bounds.items, a.elements.items) };
 
-    ghost invariant = { λ a. (length a.elements.items ≡ elements_in a.bounds.items) × (0 < elements_in a.bounds.items) };
+    ghost invariant = { λ a. (length a.elements.items ≡ elements_in a.bounds.items) × (0 < elements_in a.bounds.items) × (length a.bounds.items ≤ 8) };
 }
 
 impl<V: Element> Array<V> {
@@ -37,6 +37,7 @@ impl<V: Element> Array<V> {
     pub(crate) fn of(bounds: Vec<Bounds>, elements: Vec<V>) -> Array<V>
         requires all { length elements.items ≡ elements_in bounds.items }
         requires some { 0 < elements_in bounds.items }
+        requires few { length bounds.items ≤ 8 }
         ensures { result ≡ (bounds.items, elements.items) }
     {
         Array { bounds, elements }
@@ -48,7 +49,8 @@ impl<V: Element> Array<V> {
         bounds: Vec<Bounds>,
         value: &V,
     ) -> Result<Array<V>, AllocError>
-        requires { elements_in bounds.items < 2 ^ 63 }
+        requires fits { elements_in bounds.items < 2 ^ 63 }
+        requires few { length bounds.items ≤ 8 }
         ensures { IfOk result (λ array. array ≡ (bounds.items, replicate (elements_in bounds.items) value.now)) }
     {
         let count = crate::bounds::elements_in(&bounds);
@@ -70,6 +72,14 @@ impl<V: Element> Array<V> {
         ensures { option_copied result ≡ slice_get self.now.1 place }
     {
         self.elements.get(place)
+    }
+
+    /// How many dimensions it has.
+    pub(crate) fn dimensions(&self) -> usize
+        ensures count { result ≡ length self.now.0 }
+        ensures few { result ≤ 8 }
+    {
+        self.bounds.len()
     }
 
     /// The place of the element with these subscripts.

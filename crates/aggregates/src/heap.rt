@@ -1,11 +1,11 @@
 //! The objects of a run.
 
-ghost use Rattle.std.specs.Prelude.{◌≡◌, ◌++◌, ◌∷◌, [], length, slice_get, Some, false, IfOk, OnOk, OnErr, option_map, if◌then◌else◌, None};
+ghost use Rattle.std.specs.Prelude.{◌≡◌, ◌≤◌, ◌++◌, ◌∷◌, [], length, slice_get, Some, false, IfOk, OnOk, OnErr, option_map, if◌then◌else◌, None};
 ghost use Rattle.std.specs.Option.{option_copied};
 ghost use Rattle.model.specs.Values.{ArrayOf, TableOf, RecordOf};
 ghost use Rattle.model.specs.Prototypes.{elements_in};
-ghost use Rattle.aggregates.specs.Objects.{held_at, stored_at, put_at, if_stored, place_in, field_in, record_type};
-ghost use Rattle.aggregates.specs.Made.{kind_of, filled, copied, rows_array, number, with_object, object_of};
+ghost use Rattle.aggregates.specs.Objects.{held_at, stored_at, put_at, if_stored, place_in, dimensions_in, field_in, record_type};
+ghost use Rattle.aggregates.specs.Made.{kind_of, filled, copied, rows_in, rows_array, number, with_object, object_of};
 
 use crate::array::Array;
 use crate::bounds::{Bounds, are_bounds};
@@ -57,6 +57,27 @@ impl<V: Element> Heap<V> {
         ensures { option_copied result ≡ held_at place.now (slice_get self.now object) }
     {
         self.object(object)?.get(place)
+    }
+
+    /// How many dimensions an array has; what isn't an array has none. Takes no memory.
+    pub fn dimensions(&self, object: usize) -> usize
+        ensures count { result ≡ dimensions_in (slice_get self.now object) }
+        ensures few { result ≤ 8 }
+    {
+        match self.object(object) {
+            Some(Object::Array(array)) => array.dimensions(),
+            _ => 0,
+        }
+    }
+
+    /// How many rows the array of a table would have; what isn't a table has none. Takes no memory.
+    pub fn row_count(&self, object: usize) -> usize
+        ensures { result ≡ rows_in V.null_test (slice_get self.now object) }
+    {
+        match self.object(object) {
+            Some(Object::Table(table)) => table.row_count(),
+            _ => 0,
+        }
     }
 
     /// The place of an array's element, by its subscripts. Takes no memory.

@@ -4,6 +4,10 @@
 //! `new_record` make an object and give its number, `place` and `field` find a place in it, `get` looks there and `set`
 //! stores there.
 //!
+//!     let table = heap.new_table(alloc)?;
+//!     let stored = heap.set(table, Place::Key(Key::Integer(1)), value)?;
+//!     let found = heap.get(table, &Place::Key(Key::Integer(1)));
+//!
 //! Promised: each call is its function on the definitions' list of objects (`model`'s `Aggregates`), and what memory
 //! refuses leaves the heap as it was. CALLING.md has a row for each call.
 #![tactic(auto)]

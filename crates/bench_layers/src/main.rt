@@ -1,6 +1,6 @@
-//! What the calls of the layers cost. Without a word it does a little of each and prints how much went through. With the
-//! word `time` it does much of each and prints what a byte or a step takes, and a second word names one layer: `texts`,
-//! `cards`, `modules`, `decks` or `matches`.
+//! What the calls of the layers cost. Without a word it does a little of each and prints how much went through. With
+//! the word `time` it does much of each and prints what a byte or a step takes, and a second word names one layer:
+//! `texts`, `cards`, `modules`, `decks` or `matches`.
 #![tactic(auto)]
 
 mod rows;

@@ -3,6 +3,7 @@ use Rattle.std.proofs.Common.{◌≡◌, refl, sym, ◌∙◌, ap, subst, ℕ, �
 use Rattle.std.specs.Prelude.{Option, Some, None, is_some, Ok, Err}
 use Rattle.std.specs.List.{list_all}
 use Rattle.std.proofs.lemmas.Bool.{cases_Bool}
+use Rattle.std.proofs.Math.Bool.{or-false, or_assoc}
 use Rattle.model.specs.declared.cards.Statement.{Statement}
 use Rattle.model.specs.declared.cards.CardFault.{CardFault}
 use Rattle.model.specs.declared.cards.CardRule.TheVariants as rule
@@ -80,17 +81,9 @@ early_more xs c =
 
 -- ---- whether a text has begun
 
-or_false : (b : Bool) → (b || false) ≡ b
-or_false true = refl
-or_false false = refl
-
-or_shift : (a b c : Bool) → ((a || b) || c) ≡ (a || (b || c))
-or_shift true b c = refl
-or_shift false b c = refl
-
 start_more : (xs : List Card) (c : Card) → has_start (xs ++ c ∷ []) ≡ (has_start xs || is_start (kind_of c))
-start_more [] c = or_false (is_start (kind_of c))
-start_more (x ∷ xs) c = ap (λ b. is_start (kind_of x) || b) (start_more xs c) ∙ sym (or_shift (is_start (kind_of x)) (has_start xs) (is_start (kind_of c)))
+start_more [] c = or-false (is_start (kind_of c))
+start_more (x ∷ xs) c = ap (λ b. is_start (kind_of x) || b) (start_more xs c) ∙ sym (or_assoc (is_start (kind_of x)) (has_start xs) (is_start (kind_of c)))
 
 step_begun : (o : Option Parts) (k : CardKind) (n : ℕ) → is_some (step o k n) ≡ (is_some o || is_start k)
 step_begun None Comment n = refl

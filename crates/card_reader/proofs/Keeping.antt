@@ -7,6 +7,7 @@ use Rattle.std.proofs.lemmas.List.{map-append}
 use Rattle.model.specs.declared.cards.CardFault.{CardFault}
 use Rattle.model.specs.declared.cards.CardRule.TheVariants as rule
 use Rattle.model.specs.Cards.{Column, placed, bytes, is_end, has_end, kept, first_card, is_blank_text, is_word_first, statements_from, long_statements, least, fault}
+use Rattle.model.proofs.DeckSizes.{length-bytes, statements_count}
 use Rattle.card_reader.specs.declared.reader.Reader.{Reader}
 use Rattle.card_reader.specs.Parts.{Parts, parts, parts_of}
 use Rattle.card_reader.specs.Reading.{merge, when, Holds, Ends, Others, IsClosed, IsPieceEnd, IsRead, Waits, statement_of, too_long}
@@ -47,10 +48,6 @@ statements_append n (x ∷ xs) ys =
     let e : (n + 1) + length xs ≡ n + suc (length xs) = omega arith in
     ap (λ t. record { number = n; card = first_card x; text = bytes x } ∷ t) (statements_append (n + 1) xs ys ∙ ap (λ m. statements_from (n + 1) xs ++ statements_from m ys) e)
 
-statements_length : (n : ℕ) (xs : List (List Column)) → length (statements_from n xs) ≡ length xs
-statements_length n [] = refl
-statements_length n (x ∷ xs) = ap suc (statements_length (n + 1) xs)
-
 long_append : (xs ys : List (List Column)) → long_statements (xs ++ ys) ≡ long_statements xs ++ long_statements ys
 long_append [] ys = refl
 long_append (x ∷ xs) ys = elim (cases_Bool (nat_lt 4000 (length x))) [ inl h ↦ rw h (ap (λ t. fault (first_card x) rule.StatementTooLong ∷ t) (long_append xs ys)) | inr h ↦ rw h (long_append xs ys) ]
@@ -60,10 +57,6 @@ long_append (x ∷ xs) ys = elim (cases_Bool (nat_lt 4000 (length x))) [ inl h �
 -- what a piece gives that isn't followed by others in the list
 abbrev given : List Column → List (List Column)
 given x = if is_blank_text (bytes x) then [] else x ∷ []
-
-bytes_length : (x : List Column) → length (bytes x) ≡ length x
-bytes_length [] = refl
-bytes_length (c ∷ cs) = ap suc (bytes_length cs)
 
 no_bytes : (x : List Column) → is_blank_text (bytes x) ≡ false → 0 < length x
 no_bytes [] h = absurd (cc)
@@ -77,8 +70,8 @@ given_statements n card x first = elim (cases_Bool (is_blank_text (bytes x))) [
 
 one_long : (card : ℕ) (x : List Column) → card ≡ first_card x → least (long_statements (x ∷ [])) ≡ when (nat_lt 4000 (length (bytes x))) card rule.StatementTooLong
 one_long card x first = elim (cases_Bool (nat_lt 4000 (length x))) [
-  | inl h ↦ rw (bytes_length x, h) (ap (λ m. Some (fault m rule.StatementTooLong)) (sym first))
-  | inr h ↦ rw (bytes_length x, h) refl
+  | inl h ↦ rw (length-bytes x, h) (ap (λ m. Some (fault m rule.StatementTooLong)) (sym first))
+  | inr h ↦ rw (length-bytes x, h) refl
 ]
 
 given_long : (card : ℕ) (x : List Column) → (0 < length x → card ≡ first_card x) → least (long_statements (given x)) ≡ too_long card (bytes x)
@@ -90,7 +83,7 @@ given_long card x first = elim (cases_Bool (is_blank_text (bytes x))) [
 -- the statements and the fault, once the last piece has ended as this kept list says
 closed_statements : (r after : Reader) (p : Parts) (e : Option CardFault) (ps : List (List Column)) → Holds r p e → IsClosed r after → kept ps ≡ kept p.whole ++ given p.last → after.statements ≡ statements_from 1 (kept ps)
 closed_statements r after p e ps h c k =
-    let count : length r.statements + 1 ≡ 1 + length (kept p.whole) = omega (arith, ap length h.statements, statements_length 1 (kept p.whole)) in
+    let count : length r.statements + 1 ≡ 1 + length (kept p.whole) = omega (arith, ap length h.statements, statements_count 1 (kept p.whole)) in
     c.statements
     ∙ ap (λ (t : List ℕ). r.statements ++ statement_of (length r.statements + 1) r.piece_card t) h.piece
     ∙ ap (λ m. r.statements ++ statement_of m r.piece_card (bytes p.last)) count
@@ -167,7 +160,7 @@ first_of n (x ∷ xs) text m h lt = let some : nat_lt 0 (suc (length xs)) ≡ tr
 pub extends : (r after : Reader) (p : Parts) (e : Option CardFault) (n : ℕ) (text : List ℕ) → Holds r p e → Others r after → after.piece.items ≡ r.piece.items ++ text
     → after.piece_card ≡ (if nat_lt 0 (length r.piece.items) then r.piece_card else n) → Holds after (parts p.whole (p.last ++ placed n text) p.quote) e
 extends r after p e n text h o grows card =
-    let width : length r.piece.items ≡ length p.last = ap length h.piece ∙ bytes_length p.last in
+    let width : length r.piece.items ≡ length p.last = ap length h.piece ∙ length-bytes p.last in
     record {
       no_end = h.no_end;
       statements = o.statements ∙ h.statements;

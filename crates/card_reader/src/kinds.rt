@@ -1,7 +1,8 @@
 //! What a card is, by its first column.
 
 ghost use Rattle.std.specs.Prelude.{◌≡◌, take, codes};
-ghost use Rattle.model.specs.Cards.{is_word_first, is_known_control, is_blank_text, kind_of_columns, kind_by_first, is_plain, is_blank};
+ghost use Rattle.model.specs.Cards.{is_word_first, is_known_control, is_blank_text};
+ghost use Rattle.model.specs.Cards.{kind_of_columns, kind_by_first, is_plain, is_blank};
 ghost use Rattle.std.specs.List.{list_all};
 ghost use Rattle.card_reader.specs.Reading.{kind_of};
 

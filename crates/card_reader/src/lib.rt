@@ -3,6 +3,8 @@
 //! `read_deck(alloc, bytes)` gives the deck's statements up to and with END, each with its number, card and text; or
 //! the fault of the least card, C1 to C6, and there the least.
 //!
+//!     let deck = read_deck(alloc, b" OUTPUT = 'HI'\nEND\n")?;
+//!
 //! Promised: it is the definition `deck` of `model`'s `Cards`, both ways, for every list of bytes; C7 says that a
 //! growth of memory was refused, in place of any other answer.
 #![tactic(auto)]
@@ -26,8 +28,12 @@ const LONGEST_DECK: usize = 1_048_576;
 // The deck's statements or its first fault, for a deck that isn't too long.
 fn read_cards(alloc: Global, deck: &[u8]) -> Result<Result<Deck, CardFault>, AllocError>
     requires { length deck.now ≤ 1048576 }
-    ensures statements { IfOk result (λ read. IfOk read (λ d. cards.deck_of (cards.cards deck.now) (cards.ended (cards.cards deck.now)) ≡ Ok d.statements)) }
-    ensures fault { IfOk result (λ read. IfErr read (λ f. cards.deck_of (cards.cards deck.now) (cards.ended (cards.cards deck.now)) ≡ Err f)) }
+    ensures statements { IfOk result (λ read.
+        IfOk read (λ d. cards.deck_of (cards.cards deck.now) (cards.ended (cards.cards deck.now))
+        ≡ Ok d.statements)) }
+    ensures fault { IfOk result (λ read.
+        IfErr read (λ f. cards.deck_of (cards.cards deck.now) (cards.ended (cards.cards deck.now))
+        ≡ Err f)) }
 {
     let mut reader = Reader::new(alloc);
     let mut rest = deck;

@@ -1,13 +1,17 @@
 //! The reader: the statements so far, the piece that may go on, and the least fault.
 
-ghost use Rattle.std.specs.Prelude.{◌≡◌, ◌≤◌, ◌<◌, ◌+◌, ℕ, true, false, [], ◌∷◌, ◌++◌, length, take, List, Option, Some, None, OnOk, IfOk, IfErr, Ok, Err, is_some, if◌then◌else◌, nat_lt};
+ghost use Rattle.std.specs.Prelude.{◌≡◌, ◌≤◌, ◌<◌, ◌+◌, ℕ, true, false, [], ◌∷◌, ◌++◌, length};
+ghost use Rattle.std.specs.Prelude.{take, List, Option, Some, None, OnOk, IfOk, IfErr, Ok, Err};
+ghost use Rattle.std.specs.Prelude.{is_some, if◌then◌else◌, nat_lt};
 ghost use Rattle.model.specs.Cards as cards;
 ghost use Rattle.card_reader.specs.Parts as parts;
 ghost use Rattle.card_reader.specs.Parts.{Parts, appended, nothing, step};
 ghost use Rattle.card_reader.specs.Reached.{answer};
 ghost use Rattle.model.specs.declared.cards.CardFault.{CardFault};
 ghost use Rattle.model.specs.declared.cards.CardRule.TheVariants as rule;
-ghost use Rattle.card_reader.specs.Reading.{IsStop, IsRead, IsPieceEnd, IsCardRead, Waits, Holds, Others, IsClosed, bad_byte, kind_fault, card_fault, kind_of, text_length, merge, pieces_now};
+ghost use Rattle.card_reader.specs.Reading.{IsStop, IsRead, IsPieceEnd, IsCardRead, Waits, Holds, Others};
+ghost use Rattle.card_reader.specs.Reading.{IsClosed, bad_byte, kind_fault, card_fault, kind_of};
+ghost use Rattle.card_reader.specs.Reading.{text_length, merge, pieces_now};
 
 use crate::kinds::{Kind, card_kind, columns_of, is_blank, is_end_statement, is_plain_line};
 use model::{Bytes, CardFault, CardRule, Deck, Seq, Statement};
@@ -116,7 +120,10 @@ impl Reader {
 
     // Tells a fault, unless a lesser one is told.
     fn note(&mut self, card: u32, rule: CardRule)
-        ensures { self.new ≡ record self.old { fault = merge self.old.fault (Some (cards.fault card rule)) } }
+        ensures { self.new ≡ record self.old {
+          fault = merge self.old.fault
+              (Some (cards.fault card rule));
+        } }
     {
         self.fault = Some(lesser(self.fault, CardFault { card, rule }));
     }
@@ -124,7 +131,8 @@ impl Reader {
     // Appends bytes of a card to the piece.
     fn extend(&mut self, card: u32, text: &[u8]) -> Result<(), AllocError>
         ensures piece { OnOk result (self.new.piece.items ≡ self.old.piece.items ++ text.now) }
-        ensures card { self.new.piece_card ≡ (if nat_lt 0 (length self.old.piece.items) then self.old.piece_card else card) }
+        ensures card { self.new.piece_card
+            ≡ (if nat_lt 0 (length self.old.piece.items) then self.old.piece_card else card) }
         ensures others { Others self.old self.new }
     {
         if self.piece.is_empty() {
@@ -157,7 +165,8 @@ impl Reader {
     // Ends the piece behind these bytes of a card. Says whether it is END.
     fn end_piece(&mut self, alloc: Global, card: u32, text: &[u8]) -> Result<bool, AllocError>
         requires { length self.old.statements + 1 < 4294967296 }
-        ensures read { (p : Parts) (e : Option CardFault) → Holds self.old p e → IsPieceEnd result self.new p.whole (p.last ++ cards.placed card text.now) e }
+        ensures read { (p : Parts) (e : Option CardFault) → Holds self.old p e
+            → IsPieceEnd result self.new p.whole (p.last ++ cards.placed card text.now) e }
         ensures begun { OnOk result (self.new.begun ≡ self.old.begun) }
         ensures count { OnOk result (length self.new.statements ≤ length self.old.statements + 1) }
     {
@@ -177,7 +186,9 @@ impl Reader {
         quote: Option<u8>,
     ) -> Result<bool, AllocError>
         requires { length self.old.statements + 1 < 4294967296 }
-        ensures read { (p : Parts) (e : Option CardFault) → Holds self.old p e → IsRead result self.new (parts.parts p.whole (p.last ++ cards.placed card text.now) quote) e }
+        ensures read { (p : Parts) (e : Option CardFault) → Holds self.old p e
+            → IsRead result self.new
+            (parts.parts p.whole (p.last ++ cards.placed card text.now) quote) e }
         ensures begun { OnOk result (self.new.begun ≡ self.old.begun) }
         ensures count { OnOk result (length self.new.statements ≤ length self.old.statements + 1) }
     {
@@ -193,9 +204,11 @@ impl Reader {
     // Appends a card's columns to the last text. Says whether a piece is END then.
     fn append(&mut self, alloc: Global, card: u32, text: &[u8]) -> Result<bool, AllocError>
         requires { length self.old.statements + length text.now + 1 < 4294967296 }
-        ensures read { (p : Parts) (e : Option CardFault) → Holds self.old p e → IsRead result self.new (appended p (cards.placed card text.now)) e }
+        ensures read { (p : Parts) (e : Option CardFault) → Holds self.old p e
+            → IsRead result self.new (appended p (cards.placed card text.now)) e }
         ensures begun { OnOk result (self.new.begun ≡ self.old.begun) }
-        ensures count { OnOk result (length self.new.statements ≤ length self.old.statements + length text.now + 1) }
+        ensures count { OnOk result
+            (length self.new.statements ≤ length self.old.statements + length text.now + 1) }
     {
         let mut rest = text;
         loop {
@@ -213,9 +226,11 @@ impl Reader {
     // Begins a text with these columns. Says whether a piece is END then.
     fn begin_text(&mut self, alloc: Global, card: u32, text: &[u8]) -> Result<bool, AllocError>
         requires { length self.old.statements + length text.now + 2 < 4294967296 }
-        ensures read { (o : Option Parts) (e : Option CardFault) → Waits self.old o e → IsRead result self.new (appended (parts.next_text o) (cards.placed card text.now)) e }
+        ensures read { (o : Option Parts) (e : Option CardFault) → Waits self.old o e
+            → IsRead result self.new (appended (parts.next_text o) (cards.placed card text.now)) e }
         ensures begun { OnOk result (self.new.begun ≡ true) }
-        ensures count { OnOk result (length self.new.statements ≤ length self.old.statements + length text.now + 2) }
+        ensures count { OnOk result
+            (length self.new.statements ≤ length self.old.statements + length text.now + 2) }
     {
         self.close_piece(alloc)?;
         self.begun = true;
@@ -225,7 +240,10 @@ impl Reader {
 
     // Tells C1 of a card.
     fn check_bytes(&mut self, card: u32, line: &[u8])
-        ensures { self.new ≡ record self.old { fault = merge self.old.fault (bad_byte card line.now) } }
+        ensures { self.new ≡ record self.old {
+          fault = merge self.old.fault
+              (bad_byte card line.now);
+        } }
     {
         if !is_plain_line(line) {
             self.note(card, CardRule::BadByte);
@@ -235,8 +253,12 @@ impl Reader {
     // Reads a card of this kind. Says whether a piece is END then.
     fn read_kind(&mut self, alloc: Global, card: u32, kind: Kind<'_>) -> Result<bool, AllocError>
         requires { length self.old.statements + text_length (kind_of kind) + 2 < 4294967296 }
-        ensures read { (o : Option Parts) (e : Option CardFault) → Waits self.old o e → IsCardRead result self.new (step o (kind_of kind.entry) card) (merge e (kind_fault (is_some o) (kind_of kind.entry) card)) }
-        ensures count { OnOk result (length self.new.statements ≤ length self.old.statements + text_length (kind_of kind.entry) + 2) }
+        ensures read { (o : Option Parts) (e : Option CardFault) → Waits self.old o e
+            → IsCardRead result self.new (step o (kind_of kind.entry) card)
+            (merge e (kind_fault (is_some o) (kind_of kind.entry) card)) }
+        ensures count { OnOk result
+            (length self.new.statements
+            ≤ length self.old.statements + text_length (kind_of kind.entry) + 2) }
     {
         match kind {
             Kind::Comment | Kind::Control => Ok(false),
@@ -261,8 +283,12 @@ impl Reader {
         line: &[u8],
     ) -> Result<bool, AllocError>
         requires { length self.old.statements + length line.now + 2 < 4294967296 }
-        ensures read { (o : Option Parts) (e : Option CardFault) → Waits self.old o e → IsCardRead result self.new (step o (cards.kind_of_columns (take 72 line.now)) card) (merge e (card_fault (is_some o) (cards.kind_of_columns (take 72 line.now)) card line.now)) }
-        ensures count { OnOk result (length self.new.statements ≤ length self.old.statements + length line.now + 2) }
+        ensures read { (o : Option Parts) (e : Option CardFault) → Waits self.old o e
+            → IsCardRead result self.new (step o (cards.kind_of_columns (take 72 line.now)) card)
+            (merge e (card_fault (is_some o)
+            (cards.kind_of_columns (take 72 line.now)) card line.now)) }
+        ensures count { OnOk result
+            (length self.new.statements ≤ length self.old.statements + length line.now + 2) }
     {
         self.check_bytes(card, line);
         self.read_kind(alloc, card, card_kind(columns_of(line)))
@@ -270,7 +296,8 @@ impl Reader {
 
     /// The statements, or the least fault, once END is read.
     pub(crate) fn finish(self) -> Result<Deck, CardFault>
-        ensures statements { IfOk result (λ d. answer self.statements self.fault ≡ Ok d.statements) }
+        ensures statements { IfOk result (λ d.
+            answer self.statements self.fault ≡ Ok d.statements) }
         ensures fault { IfErr result (λ f. answer self.statements self.fault ≡ Err f) }
     {
         match self.fault {
@@ -284,7 +311,11 @@ impl Reader {
     /// The least fault of a deck without END, whose last card is the one before this.
     pub(crate) fn without_end(mut self, alloc: Global, card: u32) -> Result<CardFault, AllocError>
         requires { length self.statements + 1 < 4294967296 }
-        ensures { IfOk result (λ f. (o : Option Parts) (e : Option CardFault) → Waits self o e → Some f ≡ merge (merge e (cards.least (cards.long_statements (cards.kept (pieces_now o))))) (Some (cards.fault card rule.NoEnd))) }
+        ensures { IfOk result (λ f.
+            (o : Option Parts) (e : Option CardFault) → Waits self o e
+            → Some f ≡ merge (merge e
+            (cards.least (cards.long_statements (cards.kept (pieces_now o)))))
+            (Some (cards.fault card rule.NoEnd))) }
     {
         self.close_piece(alloc)?;
         let fault = CardFault {

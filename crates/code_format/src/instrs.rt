@@ -14,7 +14,8 @@ use std::alloc::AllocError;
 /// The instruction with a number of 4 bytes that has this code, and what is behind it.
 #[tactic(auto, unfolding(model::specs::Reading::readers, model::specs::Reading::wide))]
 fn wide(code: u8, bytes: &[u8]) -> Option<(Instr, &[u8])>
-    requires { (code ≡ 1) ⊎ (code ≡ 3) ⊎ (code ≡ 7) ⊎ (code ≡ 10) ⊎ (code ≡ 18) ⊎ (code ≡ 24) ⊎ (code ≡ 34) }
+    requires { (code ≡ 1) ⊎ (code ≡ 3) ⊎ (code ≡ 7) ⊎ (code ≡ 10) ⊎ (code ≡ 18) ⊎ (code ≡ 24) ⊎
+        (code ≡ 34) }
     ensures { Finds (λ x. (x.0, x.1.now)) result (slice_get readers code >>> λ r. r bytes.now) }
 {
     let (n, rest) = first_u32(bytes)?;
@@ -119,7 +120,8 @@ pub fn first_instr(bytes: &[u8]) -> Option<(Instr, &[u8])>
     }
 }
 
-/// The instruction at a place and the place behind it. One that is in no table or is cut is a fault at the place itself.
+/// The instruction at a place and the place behind it. One that is in no table or is cut is a fault at the place
+/// itself.
 pub fn get_instr(bytes: &[u8], at: usize) -> Result<(Instr, usize), FormatFault>
     ensures { result ≡ instr_at bytes.now at }
 {
@@ -166,7 +168,8 @@ fn put_short(out: &mut Vec<u8>, code: u8, n: u16) -> Result<(), AllocError>
 
 #[tactic(auto, unfolding(model::specs::Spelling::u16, model::specs::Spelling::u32))]
 fn put_call(out: &mut Vec<u8>, code: u8, string: u32, n: u16) -> Result<(), AllocError>
-    ensures ok { OnOk result (out.new.items ≡ out.old.items ++ code ∷ (u32_bytes string ++ u16_bytes n)) }
+    ensures ok { OnOk result
+        (out.new.items ≡ out.old.items ++ code ∷ (u32_bytes string ++ u16_bytes n)) }
     ensures err { OnErr result (out.new.items ≡ out.old.items) }
 {
     let mut bytes = [code, 0, 0, 0, 0, 0, 0];

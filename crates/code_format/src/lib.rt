@@ -4,6 +4,9 @@
 //! begins at an offset, and where the next one begins. `put_pat_instr` and `get_pat_instr` are the same for
 //! instructions of pattern tables.
 //!
+//!     put_instr(&Instr::Goto(3), &mut bytes)?;
+//!     let (instr, next) = get_instr(&bytes, 0)?;
+//!
 //! Promised: what is put is the spelling of `model`'s `Spelling`; what spells no instruction is refused with the
 //! defined fault and offset, F6 or, for a pattern's operand that is cut, F3. Putting may be refused memory; reading
 //! takes none.

@@ -12,8 +12,10 @@ use std::alloc::AllocError;
 /// The instruction with 4 bytes that has this kind, and what is behind it.
 #[tactic(auto, unfolding(model::specs::Reading::pat_readers, model::specs::Reading::wide, model::specs::Reading::distance, model::specs::Reading::number_at))]
 fn wide(kind: u8, bytes: &[u8]) -> Result<(PatInstr, &[u8]), Miss>
-    requires { (kind ≡ 0) ⊎ (kind ≡ 1) ⊎ (kind ≡ 2) ⊎ (kind ≡ 8) ⊎ (kind ≡ 9) ⊎ (kind ≡ 10) ⊎ (kind ≡ 11) }
-    ensures { Reads (λ x. (x.0, x.1.now)) result (required (slice_get pat_readers kind >>> λ r. r bytes.now)) }
+    requires { (kind ≡ 0) ⊎ (kind ≡ 1) ⊎ (kind ≡ 2) ⊎ (kind ≡ 8) ⊎ (kind ≡ 9) ⊎ (kind ≡ 10) ⊎
+        (kind ≡ 11) }
+    ensures { Reads (λ x.
+        (x.0, x.1.now)) result (required (slice_get pat_readers kind >>> λ r. r bytes.now)) }
 {
     let (n, rest) = read_u32(bytes)?;
     match kind {
@@ -31,7 +33,8 @@ fn wide(kind: u8, bytes: &[u8]) -> Result<(PatInstr, &[u8]), Miss>
 #[tactic(auto, unfolding(model::specs::Reading::pat_readers, model::specs::Reading::long, model::specs::Reading::number_at))]
 fn long(kind: u8, bytes: &[u8]) -> Result<(PatInstr, &[u8]), Miss>
     requires { (kind ≡ 3) ⊎ (kind ≡ 4) ⊎ (kind ≡ 5) ⊎ (kind ≡ 6) ⊎ (kind ≡ 7) }
-    ensures { Reads (λ x. (x.0, x.1.now)) result (required (slice_get pat_readers kind >>> λ r. r bytes.now)) }
+    ensures { Reads (λ x.
+        (x.0, x.1.now)) result (required (slice_get pat_readers kind >>> λ r. r bytes.now)) }
 {
     let (n, rest) = read_u64(bytes)?;
     match kind {
@@ -59,8 +62,8 @@ pub fn first_pat_instr(bytes: &[u8]) -> Result<(PatInstr, &[u8]), Miss>
     }
 }
 
-/// The instruction at a place and the place behind it. A kind in no table is a fault at the place itself, an operand that
-/// is cut one at the end of the bytes.
+/// The instruction at a place and the place behind it. A kind in no table is a fault at the place itself, an operand
+/// that is cut one at the end of the bytes.
 pub fn get_pat_instr(bytes: &[u8], at: usize) -> Result<(PatInstr, usize), FormatFault>
     ensures { result ≡ pat_at bytes.now at }
 {

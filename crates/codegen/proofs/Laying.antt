@@ -7,9 +7,10 @@ use Rattle.model.specs.Modules.{total}
 use Rattle.model.specs.Trees.{Bytes, Expr, Stmt}
 use Rattle.model.specs.TreeViews.{stmt_of}
 use Rattle.model.specs.Weights as weights
+use Rattle.model.proofs.CodeBytes.{total_append}
 use Rattle.expr_codegen.specs.Code.{Part, nothing, one, ◌>>◌}
 use Rattle.expr_codegen.specs.Emitting.{Gen, Emits, Extends, Longer, size}
-use Rattle.expr_codegen.proofs.Joins.{both, nothing_put, total_append, longer_trans, longer_texts}
+use Rattle.expr_codegen.proofs.Joins.{both, nothing_put, longer_trans, longer_texts}
 use Rattle.expr_codegen.proofs.Extensions.{extends_same, extends_trans}
 use Rattle.codegen.specs.Countable.{CountableStmt}
 use Rattle.codegen.specs.Laying.{Laid, retaken, left}
@@ -53,7 +54,7 @@ module _ (number_of : Bytes → Option ℕ) where
   next xs i x h e = at_drop_more (λ l. l) xs i x h ∙ ap (λ y. y ∷ drop (i + 1) xs) (sym e)
 
   pub step : (xs : List Statement) (i n m : ℕ) (x : Statement) (os now : List ℕ) (at : ℕ) (g h k : Gen) → i < length xs → x ≡ get_or xs i x → m ≡ n + 1 → at ≡ total h.code → now ≡ os ++ at ∷ [] → Kept xs i n os g h
-      → Emits (layout.statement number_of n (stmt_of x)) h k → size k ≤ size h + 9 * weights.weight (stmt_of x) + 6 → Extends h k → Kept xs (i + 1) m now g k
+      → Emits (layout.statement number_of n (stmt_of x)) h k → size k ≤ size h + (9 * weights.weight (stmt_of x) + 6) → Extends h k → Kept xs (i + 1) m now g k
   step xs i n m x os now at g h k less is number place put (counted, stands, all, countable, room) emits s more_put =
       let rest : List Statement = drop (i + 1) xs in
       let more : drop i xs ≡ x ∷ rest = next xs i x less is in

@@ -7,7 +7,7 @@ ghost use Rattle.model.specs.Trees as trees;
 ghost use Rattle.model.specs.TreeViews.{body_of, expr_of, object_of};
 ghost use Rattle.model.specs.Weights as weights;
 ghost use Rattle.expr_codegen.specs.Code.{with_key};
-ghost use Rattle.expr_codegen.specs.Emitting.{Countable, Emits, Extends, size};
+ghost use Rattle.expr_codegen.specs.Emitting.{AddsAtMost, Countable, Emits, Extends, size};
 ghost use Rattle.expr_codegen.specs.Views.{gen_of};
 ghost use Rattle.codegen.specs.Countable.{CountableBody, CountableObject};
 ghost use Rattle.codegen.specs.Layout as layout;
@@ -31,8 +31,10 @@ fn key_target(subject: &Expr) -> Option<&[u8]>
 fn object<'a>(alloc: Global, g: &mut Generator<'a>, o: &'a Option<Expr>) -> Result<(), AllocError>
     requires countable { CountableObject (object_of o.now) }
     requires room { size (gen_of g.old) + 9 * weights.of_object (object_of o.now) + 1 < 2 ^ 31 }
-    ensures emits { OnOk result (Emits (layout.object (object_of o.now)) (gen_of g.old) (gen_of g.new)) }
-    ensures size { OnOk result (size (gen_of g.new) ≤ size (gen_of g.old) + 9 * weights.of_object (object_of o.now) + 1) }
+    ensures emits { OnOk result
+        (Emits (layout.object (object_of o.now)) (gen_of g.old) (gen_of g.new)) }
+    ensures size { OnOk result
+        (AddsAtMost (9 * weights.of_object (object_of o.now) + 1) (gen_of g.old) (gen_of g.new)) }
     ensures extends { Extends (gen_of g.old) (gen_of g.new) }
 {
     match o {
@@ -44,8 +46,10 @@ fn object<'a>(alloc: Global, g: &mut Generator<'a>, o: &'a Option<Expr>) -> Resu
 // Puts an assignment to a keyword.
 fn key_set<'a>(g: &mut Generator<'a>, name: &[u8]) -> Result<(), AllocError>
     requires { size (gen_of g.old) + 2 < 2 ^ 31 }
-    ensures emits { OnOk result (Emits (with_key (λ k. Instr.KeySet k) (key_named name.now)) (gen_of g.old) (gen_of g.new)) }
-    ensures size { OnOk result (size (gen_of g.new) ≤ size (gen_of g.old) + 2) }
+    ensures emits { OnOk result
+        (Emits (with_key (λ k. Instr.KeySet k) (key_named name.now)) (gen_of g.old)
+        (gen_of g.new)) }
+    ensures size { OnOk result (AddsAtMost 2 (gen_of g.old) (gen_of g.new)) }
     ensures extends { Extends (gen_of g.old) (gen_of g.new) }
 {
     if let Some(key) = KeyId::named(name) {
@@ -63,9 +67,15 @@ fn assignment<'a>(
 ) -> Result<(), AllocError>
     requires subject { Countable (expr_of subject.now) }
     requires object { CountableObject (object_of o.now) }
-    requires room { size (gen_of g.old) + 9 * (weights.of_expr (expr_of subject.now) + weights.of_object (object_of o.now) + 3) < 2 ^ 31 }
-    ensures emits { OnOk result (Emits (layout.assignment (meaning.key_target (expr_of subject.now)) (expr_of subject.now) (object_of o.now)) (gen_of g.old) (gen_of g.new)) }
-    ensures size { OnOk result (size (gen_of g.new) ≤ size (gen_of g.old) + 9 * (weights.of_expr (expr_of subject.now) + weights.of_object (object_of o.now) + 3)) }
+    requires room { size (gen_of g.old)
+        + 9 * (weights.of_expr (expr_of subject.now) + weights.of_object (object_of o.now) + 3)
+        < 2 ^ 31 }
+    ensures emits { OnOk result
+        (Emits (layout.assignment (meaning.key_target (expr_of subject.now)) (expr_of subject.now)
+        (object_of o.now)) (gen_of g.old) (gen_of g.new)) }
+    ensures size { OnOk result
+        (AddsAtMost (9 * (weights.of_expr (expr_of subject.now)
+        + weights.of_object (object_of o.now) + 3)) (gen_of g.old) (gen_of g.new)) }
     ensures extends { Extends (gen_of g.old) (gen_of g.new) }
 {
     match key_target(subject) {
@@ -92,9 +102,16 @@ fn replacement<'a>(
     requires subject { Countable (expr_of subject.now) }
     requires pattern { Countable (expr_of pattern.now) }
     requires object { CountableObject (object_of o.now) }
-    requires room { size (gen_of g.old) + 9 * (weights.of_expr (expr_of subject.now) + weights.of_expr (expr_of pattern.now) + weights.of_object (object_of o.now) + 4) < 2 ^ 31 }
-    ensures emits { OnOk result (Emits (layout.body (trees.Replace (expr_of subject.now) (expr_of pattern.now) (object_of o.now))) (gen_of g.old) (gen_of g.new)) }
-    ensures size { OnOk result (size (gen_of g.new) ≤ size (gen_of g.old) + 9 * (weights.of_expr (expr_of subject.now) + weights.of_expr (expr_of pattern.now) + weights.of_object (object_of o.now) + 4)) }
+    requires room { size (gen_of g.old)
+        + 9 * (weights.of_expr (expr_of subject.now) + weights.of_expr (expr_of pattern.now)
+        + weights.of_object (object_of o.now) + 4) < 2 ^ 31 }
+    ensures emits { OnOk result
+        (Emits (layout.body (trees.Replace (expr_of subject.now) (expr_of pattern.now)
+        (object_of o.now))) (gen_of g.old) (gen_of g.new)) }
+    ensures size { OnOk result
+        (AddsAtMost (9 * (weights.of_expr (expr_of subject.now)
+        + weights.of_expr (expr_of pattern.now) + weights.of_object (object_of o.now) + 4))
+        (gen_of g.old) (gen_of g.new)) }
     ensures extends { Extends (gen_of g.old) (gen_of g.new) }
 {
     name(alloc, g, subject)?;
@@ -109,8 +126,10 @@ fn replacement<'a>(
 pub fn body<'a>(alloc: Global, g: &mut Generator<'a>, b: &'a Body) -> Result<(), AllocError>
     requires countable { CountableBody (body_of b.now) }
     requires room { size (gen_of g.old) + 9 * weights.of_body (body_of b.now) < 2 ^ 31 }
-    ensures emits { OnOk result (Emits (layout.body (body_of b.now)) (gen_of g.old) (gen_of g.new)) }
-    ensures size { OnOk result (size (gen_of g.new) ≤ size (gen_of g.old) + 9 * weights.of_body (body_of b.now)) }
+    ensures emits { OnOk result
+        (Emits (layout.body (body_of b.now)) (gen_of g.old) (gen_of g.new)) }
+    ensures size { OnOk result
+        (AddsAtMost (9 * weights.of_body (body_of b.now)) (gen_of g.old) (gen_of g.new)) }
     ensures extends { Extends (gen_of g.old) (gen_of g.new) }
 {
     match b {

@@ -6,7 +6,7 @@ ghost use Rattle.model.specs.Programs as programs;
 ghost use Rattle.model.specs.TreeViews.{expr_of, program_of, stmt_of};
 ghost use Rattle.model.specs.Trees.{Bytes};
 ghost use Rattle.model.specs.Weights as weights;
-ghost use Rattle.expr_codegen.specs.Emitting.{Countable, Extends, size};
+ghost use Rattle.expr_codegen.specs.Emitting.{AddsAtMost, Countable, Extends, size};
 ghost use Rattle.expr_codegen.specs.Texts.{with_texts};
 ghost use Rattle.expr_codegen.specs.Views.{gen_of};
 ghost use Rattle.codegen.specs.Countable.{CountableStmt, Fits};
@@ -29,9 +29,15 @@ fn put_statements<'a>(
 ) -> Result<Vec<u32>, AllocError>
     requires few { length statements.now < 2 ^ 30 }
     requires countable { AllByRecursion CountableStmt (map stmt_of statements.now) }
-    requires room { size (gen_of g.old) + 9 * weights.total weights.weight (map stmt_of statements.now) + 6 * length statements.now < 2 ^ 30 }
-    ensures laid { IfOk result (λ os. Laid (layout.statements (number_in labels.now) 1 (map stmt_of statements.now)) os.items (gen_of g.old) (gen_of g.new)) }
-    ensures size { OnOk result (size (gen_of g.new) ≤ size (gen_of g.old) + 9 * weights.total weights.weight (map stmt_of statements.now) + 6 * length statements.now) }
+    requires room { size (gen_of g.old)
+        + 9 * weights.total weights.weight (map stmt_of statements.now) + 6 * length statements.now
+        < 2 ^ 30 }
+    ensures laid { IfOk result (λ os.
+        Laid (layout.statements (number_in labels.now) 1 (map stmt_of statements.now)) os.items
+        (gen_of g.old) (gen_of g.new)) }
+    ensures size { OnOk result
+        (AddsAtMost (9 * weights.total weights.weight (map stmt_of statements.now)
+        + 6 * length statements.now) (gen_of g.old) (gen_of g.new)) }
     ensures extends { Extends (gen_of g.old) (gen_of g.new) }
 {
     let mut offsets = Vec::new(alloc);
@@ -48,7 +54,10 @@ fn put_statements<'a>(
 fn put_expressions<'a>(alloc: Global, g: &mut Generator<'a>) -> Result<Vec<u32>, AllocError>
     requires countable { AllByRecursion Countable (left (gen_of g.old)) }
     requires room { size (gen_of g.old) < 2 ^ 31 }
-    ensures laid { IfOk result (λ os. (fuel : ℕ) → weights.total weights.of_expr (left (gen_of g.old)) ≤ fuel → Laid (layout.expressions fuel (left (gen_of g.old))) os.items (gen_of g.old) (gen_of g.new)) }
+    ensures laid { IfOk result (λ os.
+        (fuel : ℕ) → weights.total weights.of_expr (left (gen_of g.old)) ≤ fuel
+        → Laid (layout.expressions fuel (left (gen_of g.old))) os.items (gen_of g.old)
+        (gen_of g.new)) }
     ensures size { OnOk result (size (gen_of g.new) ≤ size (gen_of g.old)) }
 {
     let mut offsets = Vec::new(alloc);
@@ -68,10 +77,13 @@ fn put_labels<'a>(
 ) -> Result<Vec<Label>, AllocError>
     requires few { length statements.now < 2 ^ 30 }
     requires room { size (gen_of g.old) + length statements.now < 2 ^ 31 }
-    ensures texts { OnOk result ((gen_of g.new).texts ≡ with_texts (layout.label_texts (map stmt_of statements.now)) (gen_of g.old).texts) }
+    ensures texts { OnOk result
+        ((gen_of g.new).texts
+        ≡ with_texts (layout.label_texts (map stmt_of statements.now)) (gen_of g.old).texts) }
     ensures code { OnOk result ((gen_of g.new).code ≡ (gen_of g.old).code) }
     ensures extends { Extends (gen_of g.old) (gen_of g.new) }
-    ensures labels { IfOk result (λ ls. ls.items ≡ layout.labels (gen_of g.new).texts 1 (map stmt_of statements.now)) }
+    ensures labels { IfOk result (λ ls.
+        ls.items ≡ layout.labels (gen_of g.new).texts 1 (map stmt_of statements.now)) }
 {
     let mut labels = Vec::new(alloc);
     let mut number = 1;

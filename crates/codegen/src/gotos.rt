@@ -4,7 +4,7 @@ ghost use Rattle.std.specs.Prelude.{◌≡◌, ◌<◌, ◌≤◌, ◌+◌, ◌*
 ghost use Rattle.model.specs.Calls as calls;
 ghost use Rattle.model.specs.TreeViews.{goto_of, place_of};
 ghost use Rattle.model.specs.Weights as weights;
-ghost use Rattle.expr_codegen.specs.Emitting.{Emits, Extends, size};
+ghost use Rattle.expr_codegen.specs.Emitting.{AddsAtMost, Emits, Extends, size};
 ghost use Rattle.expr_codegen.specs.Views.{gen_of};
 ghost use Rattle.codegen.specs.Countable as countables;
 ghost use Rattle.codegen.specs.Countable.{CountableGoto, CountablePlace};
@@ -16,26 +16,12 @@ use expr_codegen::{Generator, value};
 use model::{Goto, Instr, Place, ReturnKind};
 use std::alloc::{AllocError, Global};
 
-// How a label leaves a function, if it does.
-fn return_of(label: &[u8]) -> Option<ReturnKind>
-    ensures { result ≡ calls.return_of label.now }
-{
-    if label == b"RETURN".as_slice() {
-        Some(ReturnKind::Return)
-    } else if label == b"FRETURN".as_slice() {
-        Some(ReturnKind::FReturn)
-    } else if label == b"NRETURN".as_slice() {
-        Some(ReturnKind::NReturn)
-    } else {
-        None
-    }
-}
-
 // The instruction that goes to a label.
 fn to_label(labels: &Labels, label: &[u8]) -> Instr
-    ensures { result ≡ layout.to_label (calls.return_of label.now) (number_in labels.now label.now) }
+    ensures { result ≡ layout.to_label (calls.return_of label.now)
+        (number_in labels.now label.now) }
 {
-    match return_of(label) {
+    match ReturnKind::named(label) {
         Some(kind) => Instr::Return(kind),
         None => match labels.find(label) {
             Some(number) => Instr::Goto(number),
@@ -53,8 +39,11 @@ pub fn place<'a>(
 ) -> Result<(), AllocError>
     requires countable { CountablePlace (place_of p.now) }
     requires room { size (gen_of g.old) + 9 * weights.of_place (place_of p.now) < 2 ^ 31 }
-    ensures emits { OnOk result (Emits (layout.place (number_in labels.now) (place_of p.now)) (gen_of g.old) (gen_of g.new)) }
-    ensures size { OnOk result (size (gen_of g.new) ≤ size (gen_of g.old) + 9 * weights.of_place (place_of p.now)) }
+    ensures emits { OnOk result
+        (Emits (layout.place (number_in labels.now) (place_of p.now)) (gen_of g.old)
+        (gen_of g.new)) }
+    ensures size { OnOk result
+        (AddsAtMost (9 * weights.of_place (place_of p.now)) (gen_of g.old) (gen_of g.new)) }
     ensures extends { Extends (gen_of g.old) (gen_of g.new) }
 {
     match p {
@@ -77,8 +66,12 @@ pub fn after_success<'a>(
     requires few { number < 2 ^ 31 }
     requires countable { CountableGoto (goto_of goto.now) }
     requires room { size (gen_of g.old) + 9 * weights.of_goto (goto_of goto.now) < 2 ^ 31 }
-    ensures emits { OnOk result (Emits (layout.after_success (number_in labels.now) number (goto_of goto.now)) (gen_of g.old) (gen_of g.new)) }
-    ensures size { OnOk result (size (gen_of g.new) + 9 * countables.of_failure (goto_of goto.now) ≤ size (gen_of g.old) + 9 * weights.of_goto (goto_of goto.now)) }
+    ensures emits { OnOk result
+        (Emits (layout.after_success (number_in labels.now) number (goto_of goto.now))
+        (gen_of g.old) (gen_of g.new)) }
+    ensures size { OnOk result
+        (size (gen_of g.new) + 9 * countables.of_failure (goto_of goto.now)
+        ≤ size (gen_of g.old) + 9 * weights.of_goto (goto_of goto.now)) }
     ensures extends { Extends (gen_of g.old) (gen_of g.new) }
 {
     match goto {
@@ -99,8 +92,11 @@ pub fn after_failure<'a>(
 ) -> Result<(), AllocError>
     requires countable { CountableGoto (goto_of goto.now) }
     requires room { size (gen_of g.old) + 9 * countables.of_failure (goto_of goto.now) < 2 ^ 31 }
-    ensures emits { OnOk result (Emits (layout.after_failure (number_in labels.now) (goto_of goto.now)) (gen_of g.old) (gen_of g.new)) }
-    ensures size { OnOk result (size (gen_of g.new) ≤ size (gen_of g.old) + 9 * countables.of_failure (goto_of goto.now)) }
+    ensures emits { OnOk result
+        (Emits (layout.after_failure (number_in labels.now) (goto_of goto.now)) (gen_of g.old)
+        (gen_of g.new)) }
+    ensures size { OnOk result
+        (AddsAtMost (9 * countables.of_failure (goto_of goto.now)) (gen_of g.old) (gen_of g.new)) }
     ensures extends { Extends (gen_of g.old) (gen_of g.new) }
 {
     match goto {

@@ -83,7 +83,8 @@ fn entry_label(statements: &[Stmt]) -> Option<&[u8]>
 
 /// The number of the first statement to run.
 pub fn entry_number(labels: &Labels, statements: &[Stmt]) -> u32
-    ensures { result ≡ entry_by (number_in labels.now) (programs.entry_label (map stmt_of statements.now)) }
+    ensures { result ≡ entry_by (number_in labels.now)
+        (programs.entry_label (map stmt_of statements.now)) }
 {
     match entry_label(statements) {
         Some(label) => labels.find(label).unwrap_or(1),
@@ -104,7 +105,9 @@ fn label_of(statement: &Stmt) -> Option<&[u8]>
 /// The labels of a program's statements.
 pub fn labels_of(alloc: Global, statements: &[Stmt]) -> Result<Labels, AllocError>
     requires { length statements.now < 2 ^ 31 }
-    ensures { IfOk result (λ labels. (l : List ℕ) → number_in labels l ≡ programs.labelled_from 1 (map stmt_of statements.now) l) }
+    ensures { IfOk result (λ labels.
+        (l : List ℕ) → number_in labels l
+        ≡ programs.labelled_from 1 (map stmt_of statements.now) l) }
 {
     let mut labels = Labels::new(alloc);
     let mut number = 1;

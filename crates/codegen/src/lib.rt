@@ -2,6 +2,9 @@
 //!
 //! `generate(alloc, &program)` gives the image of a program.
 //!
+//!     let program = parse_deck(alloc, &deck)?;
+//!     let image = generate(alloc, &program)?;
+//!
 //! Promised: exactly the image that the definitions give the program, for the whole language; it is refused by want of
 //! memory alone. It asks that the program's counts fit (`Fits`), as those of each accepted deck do. That such an image
 //! is well-formed and does what the deck means are laws of the definitions, proved in `codegen_laws`.

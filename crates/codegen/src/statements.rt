@@ -4,7 +4,7 @@ ghost use Rattle.std.specs.Prelude.{◌≡◌, ◌<◌, ◌≤◌, ◌+◌, ◌*
 ghost use Rattle.model.specs.Trees as trees;
 ghost use Rattle.model.specs.TreeViews.{body_of, goto_of, stmt_of};
 ghost use Rattle.model.specs.Weights as weights;
-ghost use Rattle.expr_codegen.specs.Emitting.{Emits, Extends, size};
+ghost use Rattle.expr_codegen.specs.Emitting.{AddsAtMost, Emits, Extends, size};
 ghost use Rattle.expr_codegen.specs.Views.{gen_of};
 ghost use Rattle.codegen.specs.Countable.{CountableBody, CountableGoto, CountableStmt};
 ghost use Rattle.codegen.specs.Labels.{number_in};
@@ -29,9 +29,14 @@ fn plain<'a>(
     requires few { number < 2 ^ 31 }
     requires body { CountableBody (body_of b.now) }
     requires goto { CountableGoto (goto_of goto.now) }
-    requires room { size (gen_of g.old) + 9 * weights.of_body (body_of b.now) + 9 * weights.of_goto (goto_of goto.now) + 6 < 2 ^ 31 }
-    ensures emits { OnOk result (Emits (layout.statement (number_in labels.now) number (trees.Plain None (body_of b.now) (goto_of goto.now))) (gen_of g.old) (gen_of g.new)) }
-    ensures size { OnOk result (size (gen_of g.new) ≤ size (gen_of g.old) + 9 * weights.of_body (body_of b.now) + 9 * weights.of_goto (goto_of goto.now) + 6) }
+    requires room { size (gen_of g.old) + 9 * weights.of_body (body_of b.now)
+        + 9 * weights.of_goto (goto_of goto.now) + 6 < 2 ^ 31 }
+    ensures emits { OnOk result
+        (Emits (layout.statement (number_in labels.now) number
+        (trees.Plain None (body_of b.now) (goto_of goto.now))) (gen_of g.old) (gen_of g.new)) }
+    ensures size { OnOk result
+        (AddsAtMost (9 * weights.of_body (body_of b.now) + 9 * weights.of_goto (goto_of goto.now)
+        + 6) (gen_of g.old) (gen_of g.new)) }
     ensures extends { Extends (gen_of g.old) (gen_of g.new) }
 {
     let begin = g.len();
@@ -56,8 +61,11 @@ pub fn statement<'a>(
     requires few { number < 2 ^ 31 }
     requires countable { CountableStmt (stmt_of s.now) }
     requires room { size (gen_of g.old) + 9 * weights.weight (stmt_of s.now) + 6 < 2 ^ 31 }
-    ensures emits { OnOk result (Emits (layout.statement (number_in labels.now) number (stmt_of s.now)) (gen_of g.old) (gen_of g.new)) }
-    ensures size { OnOk result (size (gen_of g.new) ≤ size (gen_of g.old) + 9 * weights.weight (stmt_of s.now) + 6) }
+    ensures emits { OnOk result
+        (Emits (layout.statement (number_in labels.now) number (stmt_of s.now)) (gen_of g.old)
+        (gen_of g.new)) }
+    ensures size { OnOk result
+        (AddsAtMost (9 * weights.weight (stmt_of s.now) + 6) (gen_of g.old) (gen_of g.new)) }
     ensures extends { Extends (gen_of g.old) (gen_of g.new) }
 {
     match s {

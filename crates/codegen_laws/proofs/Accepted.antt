@@ -2,6 +2,7 @@
 use Rattle.std.proofs.Common.{◌≡◌, refl, sym, ◌∙◌, subst, ℕ, ◌<◌, ◌≤◌, ◌^◌, ◌&&◌, Bool, true, false, not, List, [], ◌∷◌, ◌++◌, arith, Option, Some, None, bytes_eq, rules}
 use Rattle.std.specs.Prelude.{Ok, is_some, is_none, ◌≢◌, codes}
 use Rattle.std.specs.List.{AllByRecursion, list_any}
+use Rattle.std.proofs.lemmas.Bool.{and_parts, or_parts}
 use Rattle.model.specs.declared.cards.Statement.{Statement}
 use Rattle.model.specs.declared.causes.Cause.{Cause}
 use Rattle.model.specs.declared.causes.StmtFault.{StmtFault}
@@ -21,12 +22,8 @@ use Rattle.model.proofs.DeckSizes.{accepted_fit}
 use Rattle.model.proofs.DeckVerdicts.{Have, accepts, none_left, none_right}
 use Rattle.codegen.specs.Layout.{label_texts}
 use Rattle.codegen_laws.specs.Fit.{Named, Fit, FitArgs, FitObject, FitBody, FitPlace, FitGoto, FitStmt, EndsInEnd, NewLabels, IsFit}
-use Rattle.codegen_laws.proofs.SpeltTrees.{Spelt, SpeltArgs, SpeltObject, SpeltBody, SpeltPlace, SpeltGoto, SpeltStmt, read_spelt, no_cause, or_false}
+use Rattle.codegen_laws.proofs.SpeltTrees.{Spelt, SpeltArgs, SpeltObject, SpeltBody, SpeltPlace, SpeltGoto, SpeltStmt, read_spelt, no_cause}
 use Rattle.codegen_laws.proofs.TextPlaces.{same_text}
-
-and_true : (a b : Bool) → (a && b) ≡ true → (a ≡ true) × (b ≡ true)
-and_true true b h = (refl, h)
-and_true false b h = absurd (cc)
 
 not_false : (a : Bool) → not a ≡ false → a ≡ true
 not_false true h = refl
@@ -49,29 +46,29 @@ mutual
   fit_expr (Literal x) a b c s w = tt
   fit_expr (Keyword k) a b c s w = known_key (key_named k) b
   fit_expr (Call f args) a b c (n, s) w =
-      let x = and_true (at_most (prim_named f) (count args)) (in_args call_fits args) a in
+      let x = and_parts (at_most (prim_named f) (count args)) (in_args call_fits args) a in
       let y = few_args args in
       (n, x.0, (let l : count args < 2 ^ 16 = omega (arith, y, w) in l), fit_args args x.1 b c s (omega (arith, w)))
   fit_expr (Reference f args) a b c (n, s) w =
       let y = few_args args in
       (n, (let l : count args < 2 ^ 16 = omega (arith, y, w) in l), fit_args args a b c s (omega (arith, w)))
   fit_expr (Apply u x) a b c s w =
-      let z = and_true (operand_fits (Apply u x)) (everywhere operand_fits x) c in
+      let z = and_parts (operand_fits (Apply u x)) (everywhere operand_fits x) c in
       (z.0, fit_expr x a b z.1 s (omega (arith, w)))
   fit_expr (Combine o x y) a b c (s, t) w =
-      let l = and_true (everywhere call_fits x) (everywhere call_fits y) a in
-      let m = and_true (everywhere keyword_known x) (everywhere keyword_known y) b in
-      let z = and_true (operand_fits (Combine o x y)) (everywhere operand_fits x && everywhere operand_fits y) c in
-      let n = and_true (everywhere operand_fits x) (everywhere operand_fits y) z.1 in
+      let l = and_parts (everywhere call_fits x) (everywhere call_fits y) a in
+      let m = and_parts (everywhere keyword_known x) (everywhere keyword_known y) b in
+      let z = and_parts (operand_fits (Combine o x y)) (everywhere operand_fits x && everywhere operand_fits y) c in
+      let n = and_parts (everywhere operand_fits x) (everywhere operand_fits y) z.1 in
       (z.0, fit_expr x l.0 m.0 n.0 s (omega (arith, w)), fit_expr y l.1 m.1 n.1 t (omega (arith, w)))
 
   fit_args : (args : Args) → in_args call_fits args ≡ true → in_args keyword_known args ≡ true → in_args operand_fits args ≡ true → SpeltArgs args → of_args args ≤ 4000 → FitArgs args
   fit_args Nil a b c s w = tt
   fit_args (More Absent args) a b c (s, t) w = fit_args args a b c t (omega (arith, w))
   fit_args (More (Given e) args) a b c (s, t) w =
-      let l = and_true (everywhere call_fits e) (in_args call_fits args) a in
-      let m = and_true (everywhere keyword_known e) (in_args keyword_known args) b in
-      let n = and_true (everywhere operand_fits e) (in_args operand_fits args) c in
+      let l = and_parts (everywhere call_fits e) (in_args call_fits args) a in
+      let m = and_parts (everywhere keyword_known e) (in_args keyword_known args) b in
+      let n = and_parts (everywhere operand_fits e) (in_args operand_fits args) c in
       (fit_expr e l.0 m.0 n.0 s (omega (arith, w)), fit_args args l.1 m.1 n.1 t (omega (arith, w)))
 
 fit_object : (o : Option Expr) → in_object call_fits o ≡ true → in_object keyword_known o ≡ true → in_object operand_fits o ≡ true → SpeltObject o → of_object o ≤ 4000 → FitObject o
@@ -82,22 +79,22 @@ fit_body : (b : Body) → in_body call_fits b ≡ true → in_body keyword_known
 fit_body Nothing a b c t s w = tt
 fit_body (Evaluate e) a b c t s w = fit_expr e a b c s (omega (arith, w))
 fit_body (Match x y) a b c t (s, r) w =
-    let l = and_true (everywhere call_fits x) (everywhere call_fits y) a in
-    let m = and_true (everywhere keyword_known x) (everywhere keyword_known y) b in
-    let n = and_true (everywhere operand_fits x) (everywhere operand_fits y) c in
+    let l = and_parts (everywhere call_fits x) (everywhere call_fits y) a in
+    let m = and_parts (everywhere keyword_known x) (everywhere keyword_known y) b in
+    let n = and_parts (everywhere operand_fits x) (everywhere operand_fits y) c in
     (fit_expr x l.0 m.0 n.0 s (omega (arith, w)), fit_expr y l.1 m.1 n.1 r (omega (arith, w)))
 fit_body (Assign x o) a b c t (s, r) w =
-    let l = and_true (everywhere call_fits x) (in_object call_fits o) a in
-    let m = and_true (everywhere keyword_known x) (in_object keyword_known o) b in
-    let n = and_true (everywhere operand_fits x) (in_object operand_fits o) c in
+    let l = and_parts (everywhere call_fits x) (in_object call_fits o) a in
+    let m = and_parts (everywhere keyword_known x) (in_object keyword_known o) b in
+    let n = and_parts (everywhere operand_fits x) (in_object operand_fits o) c in
     (t, fit_expr x l.0 m.0 n.0 s (omega (arith, w)), fit_object o l.1 m.1 n.1 r (omega (arith, w)))
 fit_body (Replace x y o) a b c t (s, r, q) w =
-    let l = and_true (everywhere call_fits x) (everywhere call_fits y && in_object call_fits o) a in
-    let l' = and_true (everywhere call_fits y) (in_object call_fits o) l.1 in
-    let m = and_true (everywhere keyword_known x) (everywhere keyword_known y && in_object keyword_known o) b in
-    let m' = and_true (everywhere keyword_known y) (in_object keyword_known o) m.1 in
-    let n = and_true (everywhere operand_fits x) (everywhere operand_fits y && in_object operand_fits o) c in
-    let n' = and_true (everywhere operand_fits y) (in_object operand_fits o) n.1 in
+    let l = and_parts (everywhere call_fits x) (everywhere call_fits y && in_object call_fits o) a in
+    let l' = and_parts (everywhere call_fits y) (in_object call_fits o) l.1 in
+    let m = and_parts (everywhere keyword_known x) (everywhere keyword_known y && in_object keyword_known o) b in
+    let m' = and_parts (everywhere keyword_known y) (in_object keyword_known o) m.1 in
+    let n = and_parts (everywhere operand_fits x) (everywhere operand_fits y && in_object operand_fits o) c in
+    let n' = and_parts (everywhere operand_fits y) (in_object operand_fits o) n.1 in
     (t, fit_expr x l.0 m.0 n.0 s (omega (arith, w)), fit_expr y l'.0 m'.0 n'.0 r (omega (arith, w)), fit_object o l'.1 m'.1 n'.1 q (omega (arith, w)))
 
 fit_place : (p : Place) → in_place call_fits p ≡ true → in_place keyword_known p ≡ true → in_place operand_fits p ≡ true → SpeltPlace p → of_place p ≤ 4000 → FitPlace p
@@ -110,9 +107,9 @@ fit_goto (Always p) a b c s w = fit_place p a b c s (omega (arith, w))
 fit_goto (OnSuccess p) a b c s w = fit_place p a b c s (omega (arith, w))
 fit_goto (OnFailure p) a b c s w = fit_place p a b c s (omega (arith, w))
 fit_goto (Both p q) a b c (s, r) w =
-    let l = and_true (in_place call_fits p) (in_place call_fits q) a in
-    let m = and_true (in_place keyword_known p) (in_place keyword_known q) b in
-    let n = and_true (in_place operand_fits p) (in_place operand_fits q) c in
+    let l = and_parts (in_place call_fits p) (in_place call_fits q) a in
+    let m = and_parts (in_place keyword_known p) (in_place keyword_known q) b in
+    let n = and_parts (in_place operand_fits p) (in_place operand_fits q) c in
     (fit_place p l.0 m.0 n.0 s (omega (arith, w)), fit_place q l.1 m.1 n.1 r (omega (arith, w)))
 
 -- ---- statements that break no rule
@@ -133,10 +130,10 @@ keeps earlier all s h =
 
 fit_stmt : (earlier all : List Bytes) (s : Stmt) → Keeps earlier all s → SpeltStmt s → weight s ≤ 4000 → FitStmt s
 fit_stmt earlier all (Plain l b g) k (x, s, r) w =
-    let a = and_true (in_body call_fits b) (in_goto call_fits g) k.calls in
-    let c = and_true (in_body keyword_known b) (in_goto keyword_known g) k.keywords in
-    let d = and_true (subject_fits b) (in_body operand_fits b && in_goto operand_fits g) k.targets in
-    let e = and_true (in_body operand_fits b) (in_goto operand_fits g) d.1 in
+    let a = and_parts (in_body call_fits b) (in_goto call_fits g) k.calls in
+    let c = and_parts (in_body keyword_known b) (in_goto keyword_known g) k.keywords in
+    let d = and_parts (subject_fits b) (in_body operand_fits b && in_goto operand_fits g) k.targets in
+    let e = and_parts (in_body operand_fits b) (in_goto operand_fits g) d.1 in
     (fit_body b a.0 c.0 e.0 d.0 s (omega (arith, w)), fit_goto g a.1 c.1 e.1 r (omega (arith, w)))
 fit_stmt earlier all (End e) k s w = tt
 
@@ -156,9 +153,9 @@ other_text s t n = elim (bytes_eq s t) as (λ b. bytes_eq s t ≡ b → b ≡ fa
 
 no_return : (l : Bytes) → is_among l returns ≡ false → is_none (return_of l) ≡ true
 no_return l h =
-    let a = or_false (bytes_eq l (codes "RETURN")) _ h in
-    let b = or_false (bytes_eq l (codes "FRETURN")) _ a.1 in
-    let c = or_false (bytes_eq l (codes "NRETURN")) _ b.1 in
+    let a = or_parts (bytes_eq l (codes "RETURN")) _ h in
+    let b = or_parts (bytes_eq l (codes "FRETURN")) _ a.1 in
+    let c = or_parts (bytes_eq l (codes "NRETURN")) _ b.1 in
     rw (a.0, b.0, c.0) refl
 
 label_name : (l : Bytes) → Named l → l ≢ end_word → is_among l returns ≡ false → is_label_name (Some l) ≡ true
@@ -170,22 +167,22 @@ Covers earlier front = (l : Bytes) → is_among l earlier ≡ false → list_any
 
 among_left : (l : Bytes) (xs ys : List Bytes) → is_among l (xs ++ ys) ≡ false → is_among l xs ≡ false
 among_left l [] ys h = refl
-among_left l (x ∷ xs) ys h = let a = or_false (bytes_eq l x) (is_among l (xs ++ ys)) h in rw a.0 (among_left l xs ys a.1)
+among_left l (x ∷ xs) ys h = let a = or_parts (bytes_eq l x) (is_among l (xs ++ ys)) h in rw a.0 (among_left l xs ys a.1)
 
 among_right : (l : Bytes) (xs ys : List Bytes) → is_among l (xs ++ ys) ≡ false → is_among l ys ≡ false
 among_right l [] ys h = h
-among_right l (x ∷ xs) ys h = among_right l xs ys (or_false (bytes_eq l x) (is_among l (xs ++ ys)) h).1
+among_right l (x ∷ xs) ys h = among_right l xs ys (or_parts (bytes_eq l x) (is_among l (xs ++ ys)) h).1
 
 any_snoc : (l m : Bytes) (front : List Bytes) → list_any (λ m. bytes_eq m l) front ≡ false → bytes_eq m l ≡ false → list_any (λ m. bytes_eq m l) (front ++ m ∷ []) ≡ false
 any_snoc l m [] h e = rw e refl
-any_snoc l m (x ∷ front) h e = let a = or_false (bytes_eq x l) (list_any (λ m. bytes_eq m l) front) h in rw a.0 (any_snoc l m front a.1 e)
+any_snoc l m (x ∷ front) h e = let a = or_parts (bytes_eq x l) (list_any (λ m. bytes_eq m l) front) h in rw a.0 (any_snoc l m front a.1 e)
 
 covers_more : (earlier front more : List Bytes) → Covers earlier front → Covers (earlier ++ more) front
 covers_more earlier front more c l h = c l (among_left l earlier more h)
 
 covers_snoc : (earlier front : List Bytes) (m : Bytes) → Covers earlier front → Covers (earlier ++ m ∷ []) (front ++ m ∷ [])
 covers_snoc earlier front m c l h =
-    let a = or_false (bytes_eq l m) (is_among l []) (among_right l earlier (m ∷ []) h) in
+    let a = or_parts (bytes_eq l m) (is_among l []) (among_right l earlier (m ∷ []) h) in
     any_snoc l m front (c l (among_left l earlier (m ∷ []) h)) (differs_back l m a.0)
 
 -- ---- decks
@@ -231,7 +228,7 @@ new_labels earlier all [] k s front c = tt
 new_labels earlier all (End e ∷ ss) (k, ks) (s, more) front c = new_labels (earlier ++ end_word ∷ []) all ss ks more front (covers_more earlier front (end_word ∷ []) c)
 new_labels earlier all (Plain None b g ∷ ss) (k, ks) (s, more) front c = new_labels (earlier ++ []) all ss ks more front (covers_more earlier front [] c)
 new_labels earlier all (Plain (Some l) b g ∷ ss) (k, ks) ((n, b1, g1), more) front c =
-    let a = or_false (is_among l returns) (is_among l earlier) k.new in
+    let a = or_parts (is_among l returns) (is_among l earlier) k.new in
     (label_name l n.0 n.1 a.0, c l a.1, new_labels (earlier ++ l ∷ []) all ss ks more (front ++ l ∷ []) (covers_snoc earlier front l c))
 
 ends_in_end : (before : List Stmt) (e : Option Bytes) → AllByRecursion IsPlain before → EndsInEnd (before ++ End e ∷ [])

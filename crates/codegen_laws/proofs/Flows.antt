@@ -11,9 +11,10 @@ use Rattle.model.specs.Machine.{OnTry}
 use Rattle.model.specs.Modules.{bytes, total}
 use Rattle.model.specs.Trees.{Bytes, Expr}
 use Rattle.model.specs.WellFormed.{indices_fit}
+use Rattle.model.proofs.CodeBytes.{some_bytes}
 use Rattle.expr_codegen.specs.Texts.{place_of}
 use Rattle.expr_codegen.specs.Code.{Part, nothing, one, with_string, unevaluated, ◌>>◌, handled}
-use Rattle.codegen_laws.proofs.Shapes.{next_shape, after, shape_from, Targets, Sound, after_join, sound_join, some_bytes}
+use Rattle.codegen_laws.proofs.Shapes.{next_shape, after, shape_from, Targets, Sound, after_join, sound_join}
 use Rattle.codegen_laws.proofs.Standing.{Held, AllHeld, all_left, all_right}
 
 -- what numbers in an instruction are at most, but those of tables and offsets

@@ -5,6 +5,7 @@ use Rattle.std.specs.Cmp.Lexicographic.{pointwise}
 use Rattle.std.specs.Int.{w64, cast_unsigned}
 use Rattle.std.specs.List.{AllByRecursion, list_any}
 use Rattle.std.proofs.lemmas.Bool.Decides.{nat_tests}
+use Rattle.std.proofs.lemmas.Bool.{and_parts}
 use Rattle.model.specs.declared.image.Image.{Image}
 use Rattle.model.specs.declared.image.Label.{Label}
 use Rattle.model.specs.declared.instr.Instr.{Instr}
@@ -20,6 +21,7 @@ use Rattle.model.specs.Trees.{Bytes, Expr, Stmt, Plain, End}
 use Rattle.model.specs.WellFormed.{is_nonnull, is_statement, is_name}
 use Rattle.model.specs.Weights as weights
 use Rattle.model.specs.Weights.{of_name, weight}
+use Rattle.model.proofs.CodeBytes.{some_bytes, code_long, total_append}
 use Rattle.expr_codegen.specs.Texts.{place_of, with_text, with_texts}
 use Rattle.expr_codegen.specs.Code.{Part, ◌>>◌}
 use Rattle.codegen.specs.Layout.{statements_of, expressions_of, joined, offsets, labels, label_texts, code_of, image_of}
@@ -27,7 +29,7 @@ use Rattle.codegen_laws.specs.Fit.{IsFit}
 use Rattle.codegen_laws.proofs.Flows.{Fits}
 use Rattle.codegen_laws.proofs.Offsets.{HasCode, full_some, offsets_length, statements_full}
 use Rattle.codegen_laws.proofs.Placing.{code_is, offsets_count, entry_among}
-use Rattle.codegen_laws.proofs.Shapes.{next_shape, shape_from, Targets, Sound, some_bytes, total_join}
+use Rattle.codegen_laws.proofs.Shapes.{next_shape, shape_from, Targets, Sound}
 use Rattle.codegen_laws.proofs.Sizes.{of_texts, of_later, due, sum_join, statements_weigh, labels_weigh, queue_code, queue_texts, queue_length}
 use Rattle.codegen_laws.proofs.Sounding.{is_sound}
 
@@ -106,7 +108,7 @@ statements_follow texts (p ∷ ps) f k at front r small =
     let xs = p.code texts k at in
     let q : ℕ = at + total xs in
     let ys = (joined ps).code texts (k + length p.later) q in
-    let t = total_join xs ys in
+    let t = total_append xs ys in
     let some = full_some xs (f.0 texts k at) in
     let up : nat_lt at q ≡ true = grind (arith, some) in (
       (let h : at < 2 ^ 32 = omega (arith, small) in h, r),
@@ -120,7 +122,7 @@ expressions_follow texts (p ∷ ps) k at front small =
     let xs = p.code texts k at in
     let q : ℕ = at + total xs in
     let ys = (joined ps).code texts (k + length p.later) q in
-    let t = total_join xs ys in
+    let t = total_append xs ys in
     ((let h : at < 2 ^ 32 = omega (arith, small) in h), expressions_follow texts ps (k + length p.later) q (front ++ at ∷ []) (let h : q + total ys < 2 ^ 32 = omega (arith, small, t) in h))
 
 -- ---- instructions
@@ -164,10 +166,6 @@ no_more m n h = elim (nat_lt m n) as (λ b. nat_lt m n ≡ b → not b ≡ true 
 less_of : (m n : ℕ) → nat_lt m n ≡ true → m < n
 less_of m n h = grind (arith, nat_tests, h)
 
-both_right : (a b : Bool) → (a && b) ≡ true → b ≡ true
-both_right true b h = h
-both_right false b h = absurd (cc)
-
 name_within : (texts : List Bytes) (k : ℕ) → is_nonnull (slice_get texts k) ≡ true → k < length texts
 name_within [] k h = absurd (cc)
 name_within (t ∷ ts) zero h = omega arith
@@ -181,7 +179,7 @@ record Few (im : Image) : Type 0 where
   patterns : length im.patterns < 2 ^ 32
 
 statement_few : (im : Image) → Few im → (k : ℕ) → is_statement im k ≡ true → k < 2 ^ 32
-statement_few im few k h = let x = no_more (length im.statements) k (both_right (nat_lt 0 k) (not (nat_lt (length im.statements) k)) h) in let y = few.statements in omega (arith, x, y)
+statement_few im few k h = let x = no_more (length im.statements) k ((and_parts (nat_lt 0 k) (not (nat_lt (length im.statements) k)) h).1) in let y = few.statements in omega (arith, x, y)
 
 string_few : (im : Image) → Few im → (k : ℕ) → is_name im k ≡ true → k < 2 ^ 32
 string_few im few k h = let x = name_within im.strings k h in let y = few.strings in omega (arith, x, y)
@@ -205,43 +203,6 @@ instr_fits im few os _ p s rest small f t = tt
 code_fits : (im : Image) → Few im → (os : List ℕ) (p : ℕ) (s : Shape) (is : List Instr) → p + total is < 2 ^ 32 → Sound (Fits im) os p s is → AllByRecursion InstrFits is
 code_fits im few os p s [] small h = tt
 code_fits im few os p s (i ∷ is) small (f, a, t, h) = (instr_fits im few os i p s is small f t, code_fits im few os (p + bytes i) (next_shape i s) is (omega (arith, small)) h)
-
-length_u16 : (n : ℕ) → length (u16 n) ≡ 2
-unfolding u16
-length_u16 n = refl
-
-length_u32 : (n : ℕ) → length (u32 n) ≡ 4
-unfolding u32
-length_u32 n = refl
-
-length_u64 : (n : ℕ) → length (u64 n) ≡ 8
-unfolding u64
-length_u64 n = refl
-
-instr_length : (i : Instr) → length (instr i) ≡ bytes i
-instr_length (op.Begin f) = let h = length_u32 f in omega (arith, h)
-instr_length (op.Goto k) = let h = length_u32 k in omega (arith, h)
-instr_length (op.Str k) = let h = length_u32 k in omega (arith, h)
-instr_length (op.Int z) = let h = length_u64 (cast_unsigned w64 z) in omega (arith, h)
-instr_length (op.Var k) = let h = length_u32 k in omega (arith, h)
-instr_length (op.Elem n) = let h = length_u16 n in omega (arith, h)
-instr_length (op.Expr k) = let h = length_u32 k in omega (arith, h)
-instr_length (op.CallV k n) = let h = length_u32 k in let g = length_u16 n in let j = length-append (u32 k) (u16 n) in omega (arith, h, g, j)
-instr_length (op.CallN k n) = let h = length_u32 k in let g = length_u16 n in let j = length-append (u32 k) (u16 n) in omega (arith, h, g, j)
-instr_length (op.Try t) = let h = length_u32 t in omega (arith, h)
-instr_length (op.Pat k) = let h = length_u32 k in omega (arith, h)
-instr_length (op.Return r) = omega arith
-instr_length (op.KeyGet k) = omega arith
-instr_length (op.KeySet k) = omega arith
-instr_length (op.PrimV p n) = omega arith
-instr_length (op.PrimN p n) = omega arith
-instr_length (op.Sign o) = omega arith
-instr_length (op.Arith o) = omega arith
-instr_length _ = omega arith
-
-code_length : (is : List Instr) → length (code_bytes is) ≡ total is
-code_length [] = refl
-code_length (i ∷ is) = let x = instr_length i in let y = code_length is in let z = length-append (instr i) (code_bytes is) in omega (arith, x, y, z)
 
 -- ---- the image
 
@@ -274,7 +235,7 @@ module _ (ss : List Stmt) (fit : IsFit ss) where
       omega (arith, a, b, c, d)
 
   pub code_small : total im.code ≤ 15728640
-  code_small = let a = both_small in let b = total_join code_first code_second in let c : total im.code ≡ total (code_first ++ code_second) = ap total (code_is ss fit.ends fit.statements) in omega (arith, a, b, c)
+  code_small = let a = both_small in let b = total_append code_first code_second in let c : total im.code ≡ total (code_first ++ code_second) = ap total (code_is ss fit.ends fit.statements) in omega (arith, a, b, c)
 
   texts_small : of_texts (label_texts ss) + of_texts (code_of ss).texts ≤ 1048576
   unfolding ◌>>◌
@@ -335,5 +296,5 @@ module _ (ss : List Stmt) (fit : IsFit ss) where
     };
     patterns = record { count = omega arith; entries = tt };
     code = code_fits im few im.statements 0 bare im.code (let h = code_small in omega (arith, h)) (is_sound ss fit.ends fit.statements).sound;
-    code_length = (let h = code_small in let l = code_length im.code in let e : length (code_bytes im.code) ≤ most_code = omega (arith, h, l) in e);
+    code_length = (let h = code_small in let l = code_long im.code in let e : length (code_bytes im.code) ≤ most_code = omega (arith, h, l) in e);
   }

@@ -5,9 +5,9 @@ use Rattle.model.specs.declared.instr.Instr.{Instr}
 use Rattle.model.specs.declared.instr.Instr.TheVariants as op
 use Rattle.model.specs.Modules.{total, number_at}
 use Rattle.model.specs.Trees.{Bytes, Expr, Stmt, Plain, End}
+use Rattle.model.proofs.CodeBytes.{some_bytes}
 use Rattle.expr_codegen.specs.Code.{Part, one, ◌>>◌, handled, value}
 use Rattle.codegen.specs.Layout.{statement, statements, expression, expressions, offsets}
-use Rattle.codegen_laws.proofs.Shapes.{some_bytes}
 
 abbrev pub Full : List Instr → Type 0
 Full [] = ⊥

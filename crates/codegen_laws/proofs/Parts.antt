@@ -16,13 +16,14 @@ use Rattle.model.specs.Programs.{entry_label, program}
 use Rattle.model.specs.Spelling.{newest}
 use Rattle.model.specs.Trees.{Bytes, Stmt, Plain, End}
 use Rattle.model.specs.WellFormed.{first, rule, told, scan, entry_at, entry_rule, labels_at, label_rule, is_label_name, is_statement, statements_at, statement_rule, expressions_at, expression_rule, code_at, instr_fault, indices_fit, place_fits, begins_last, is_last_instr, is_end, is_begin, part_fault}
+use Rattle.model.proofs.CodeBytes.{some_bytes, total_append}
 use Rattle.expr_codegen.specs.Texts.{place_of, with_texts}
 use Rattle.codegen.specs.Layout.{labels, label_texts, code_of, image_of}
 use Rattle.codegen_laws.specs.Fit.{NewLabels, EndsInEnd, IsFit}
 use Rattle.codegen_laws.proofs.Flows.{Fits, shape_past}
 use Rattle.codegen_laws.proofs.Offsets.{get_within}
 use Rattle.codegen_laws.proofs.Placing.{later_of, stmts_placed, offsets_count, entry_among}
-use Rattle.codegen_laws.proofs.Shapes.{next_shape, after, shape_from, Targets, Sound, above, behind, some_bytes, total_join, ends_well, IsSound}
+use Rattle.codegen_laws.proofs.Shapes.{next_shape, after, shape_from, Targets, Sound, above, behind, ends_well, IsSound}
 use Rattle.codegen_laws.proofs.Sounding.{is_sound, statement_there}
 use Rattle.codegen_laws.proofs.Standing.{Held, AllHeld}
 use Rattle.codegen_laws.proofs.TextPlaces.{all_held}
@@ -94,7 +95,7 @@ goes_on : (im : Image) (front : List Instr) (i : Instr) (rest : List Instr) → 
 goes_on im front i [] e w = let h : is_last_instr i ≡ true = sym (ends_split front i) ∙ (λ k. ends_well (sym e k)) ∙ w in rw h refl
 goes_on im front i (j ∷ rest) e w =
     let y = some_bytes j in
-    let t = total_join front (i ∷ j ∷ rest) in
+    let t = total_append front (i ∷ j ∷ rest) in
     let same : total im.code ≡ total (front ++ i ∷ j ∷ rest) = ap total e in
     let h : (total front + bytes i == total im.code) ≡ false = grind (arith, y, t, same) in
     rw h (elim (is_last_instr i) as (λ b. b || true ≡ true) [ true ↦ refl | false ↦ refl ])

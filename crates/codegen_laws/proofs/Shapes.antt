@@ -9,6 +9,7 @@ use Rattle.model.specs.Machine.{At, Nowhere, Fetched, OnBegin, OnTry}
 use Rattle.model.specs.Modules.{bytes, total, fetch_from}
 use Rattle.model.specs.Flow.{InBody, Shape, shape, bare, asked, takes, leaves, Asks, leads, is_target, to_target, Begins, Reach, BreaksFlow, IsLeast}
 use Rattle.model.specs.WellFormed.{is_last_instr}
+use Rattle.model.proofs.CodeBytes.{some_bytes}
 
 -- ---- what the code leaves
 
@@ -44,10 +45,6 @@ Sound Fits os p s (i ∷ is) = Fits i × Asks i s × Targets os i p s is × Soun
 
 -- ---- code behind code
 
-pub total_join : (xs ys : List Instr) → total (xs ++ ys) ≡ total xs + total ys
-total_join [] ys = omega arith
-total_join (x ∷ xs) ys = let h = total_join xs ys in omega (arith, h)
-
 pub after_join : (xs ys : List Instr) (s : Shape) → after (xs ++ ys) s ≡ after ys (after xs s)
 after_join [] ys s = refl
 after_join (x ∷ xs) ys s = after_join xs ys (next_shape x s)
@@ -78,27 +75,6 @@ contains_cons x y xs (suc k, less, e) = inr (k, (let h : k < length xs = omega (
 
 pub contains_nil : {X : Type 0} (y : X) → Contains [] y → ⊥
 contains_nil y (k, less, e) = omega (arith, less)
-
-pub some_bytes : (i : Instr) → 1 ≤ bytes i
-some_bytes (op.Begin f) = omega arith
-some_bytes (op.Goto k) = omega arith
-some_bytes (op.Return r) = omega arith
-some_bytes (op.Str k) = omega arith
-some_bytes (op.Int z) = omega arith
-some_bytes (op.Var k) = omega arith
-some_bytes (op.KeyGet k) = omega arith
-some_bytes (op.KeySet k) = omega arith
-some_bytes (op.Elem n) = omega arith
-some_bytes (op.Expr k) = omega arith
-some_bytes (op.CallV k n) = omega arith
-some_bytes (op.CallN k n) = omega arith
-some_bytes (op.PrimV f n) = omega arith
-some_bytes (op.PrimN f n) = omega arith
-some_bytes (op.Try t) = omega arith
-some_bytes (op.Sign o) = omega arith
-some_bytes (op.Arith o) = omega arith
-some_bytes (op.Pat k) = omega arith
-some_bytes _ = omega arith
 
 -- what an instruction goes to but the next one
 abbrev GoneTo : Instr → Shape → ℕ → Shape → Type 0

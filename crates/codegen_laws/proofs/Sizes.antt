@@ -19,10 +19,10 @@ use Rattle.model.specs.Names.{key_named, prim_named}
 use Rattle.model.specs.Trees.{Bytes, Expr, Name, Integer, Literal, Keyword, Call, Reference, Apply, Combine, Args, Nil, More, Absent, Given, Place, Label, Computed, Goto, Next, Always, OnSuccess, OnFailure, Both, Body, Nothing, Evaluate, Match, Assign, Replace, Stmt, Plain, End}
 use Rattle.model.specs.Weights as weights
 use Rattle.model.specs.Weights.{of_name, of_expr, of_args, of_place, of_goto, of_object, of_body, weight}
+use Rattle.model.proofs.CodeBytes.{total_append}
 use Rattle.expr_codegen.specs.Texts.{place_of}
 use Rattle.expr_codegen.specs.Code.{Part, nothing, one, with_string, unevaluated, ◌>>◌, handled, call, with_key, value, name, arguments}
 use Rattle.codegen.specs.Layout.{object, assignment, body, to_known, to_label, place, after_success, after_failure, statement, statements, expression, expressions, joined, label_texts}
-use Rattle.codegen_laws.proofs.Shapes.{total_join}
 
 -- strings; expressions; the code of expressions with their ends
 abbrev pub of_texts : List Bytes → ℕ
@@ -85,7 +85,7 @@ bounds_join {c} {t} {q} {d} {s} {r} {a} {b} m n =
           let xs = a.code texts k p in
           let x = m.code texts k p in
           let y = n.code texts (k + length a.later) (p + total xs) in
-          let z = total_join xs (b.code texts (k + length a.later) (p + total xs)) in
+          let z = total_append xs (b.code texts (k + length a.later) (p + total xs)) in
           omega (arith, x, y, z, i);
       texts = omega (arith, mt, nt, j, l);
       later = omega (arith, ml, nl, l);
@@ -286,7 +286,7 @@ queue_code (suc fuel) (e ∷ es) texts k p =
     let x = (expression_weighs e).code texts k p in
     let y = queue_code fuel (es ++ more) texts (k + length more) (p + total xs) in
     let z = sum_join (λ e. 9 * of_expr e + 1) es more in
-    let w = total_join xs ys in
+    let w = total_append xs ys in
     omega (arith, x, y, z, w)
 
 pub queue_texts : (fuel : ℕ) (es : List Expr) → of_texts (joined (expressions fuel es)).texts ≤ of_later es

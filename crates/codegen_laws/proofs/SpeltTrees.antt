@@ -3,6 +3,7 @@ use Rattle.std.proofs.Common.{◌≡◌, refl, ℕ, ◌<◌, ◌≤◌, ◌^◌,
 use Rattle.std.specs.Prelude.{Ok, if◌then◌else◌, ◌≢◌}
 use Rattle.std.specs.Int.{w64}
 use Rattle.std.specs.List.{AllByRecursion}
+use Rattle.std.proofs.lemmas.Bool.{or_parts}
 use Rattle.std.proofs.lemmas.Bool.Decides.{nat_tests}
 use Rattle.model.specs.declared.tokens.TokenKind.{TokenKind}
 use Rattle.model.specs.declared.tokens.TokenKind.TheVariants as kind
@@ -18,6 +19,7 @@ use Rattle.model.specs.Trees.{Bytes, Expr, Name, Integer, Literal, Keyword, Call
 use Rattle.model.proofs.Cutting.{cut_is}
 use Rattle.model.proofs.DeckEnds.{piece_is}
 use Rattle.model.proofs.DeckVerdicts.{read_is}
+use Rattle.model.proofs.Lexing.{none_large}
 use Rattle.model.proofs.StatementSound.{stmt_sound}
 use Rattle.codegen_laws.specs.Fit.{Named}
 use Rattle.codegen_laws.proofs.Standing.{all_left, all_right}
@@ -173,14 +175,10 @@ tok_sound kind.Integer (b ∷ bs) t small = grind (arith, nat_tests, small)
 tok_sound kind.Literal (b ∷ bs) t small = tt
 tok_sound (kind.Mark m) (b ∷ bs) t small = tt
 
-pub or_false : (a b : Bool) → (a || b) ≡ false → (a ≡ false) × (b ≡ false)
-or_false true b h = absurd (cc)
-or_false false b h = (refl, h)
-
 toks_sound : (text : List ℕ) (ps : List Piece) → Cut text ps → has is_too_large ps ≡ false → AllSound (toks_of ps)
 toks_sound text [] cut small = tt
 toks_sound text (Token k token ∷ ps) cut small =
-    let (here, more) = or_false (is_too_large (Token k token)) (has is_too_large ps) small in
+    let (here, more) = or_parts (is_too_large (Token k token)) (has is_too_large ps) small in
     (tok_sound k token (piece_is text (Token k token) cut.0) here, toks_sound cut.1.0 ps cut.1.2 more)
 toks_sound text (Stray b ∷ ps) cut small = toks_sound cut.1.0 ps cut.1.2 small
 toks_sound text (Unclosed t ∷ ps) cut small = toks_sound cut.1.0 ps cut.1.2 small
@@ -189,14 +187,7 @@ pub no_cause : (b : Bool) (c : Cause) (rest : Option Cause) → (if b then Some 
 no_cause true c rest h = absurd (cc)
 no_cause false c rest h = (refl, h)
 
-none_too_large : (ps : List Piece) → least_lexical ps ≡ None → has is_too_large ps ≡ false
-unfolding least_lexical
-none_too_large ps h =
-    let a = no_cause (has is_stray ps) _ _ h in
-    let b = no_cause (has is_unclosed ps) _ _ a.1 in
-    (no_cause (has is_too_large ps) _ _ b.1).0
-
 pub read_spelt : (text : List ℕ) (s : Stmt) → read text ≡ Ok s → SpeltStmt s
 read_spelt text s h =
     let parts = read_is text s h in
-    tree_spelt s (toks_of (pieces text)) (stmt_sound (toks_of (pieces text)) s parts.1) (toks_sound text (pieces text) (cut_is text) (none_too_large (pieces text) parts.0))
+    tree_spelt s (toks_of (pieces text)) (stmt_sound (toks_of (pieces text)) s parts.1) (toks_sound text (pieces text) (cut_is text) (none_large (pieces text) parts.0))

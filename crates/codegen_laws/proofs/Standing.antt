@@ -6,9 +6,9 @@ use Rattle.model.specs.declared.instr.Instr.TheVariants as op
 use Rattle.model.specs.Machine.{At, Module}
 use Rattle.model.specs.Modules.{bytes, total, fetch_from}
 use Rattle.model.specs.Trees.{Bytes, Expr}
+use Rattle.model.proofs.CodeBytes.{some_bytes, total_append, fetch_here, fetch_past}
 use Rattle.expr_codegen.specs.Texts.{place_of}
 use Rattle.expr_codegen.specs.Code.{Part, nothing, one, with_string, unevaluated, ◌>>◌, handled}
-use Rattle.codegen_laws.proofs.Shapes.{total_join, some_bytes}
 
 pub all_left : {A : Type 0} (P : A → Type 0) (xs ys : List A) → AllByRecursion P (xs ++ ys) → AllByRecursion P xs
 all_left P [] ys h = tt
@@ -56,12 +56,6 @@ pub stands_right : (img : Module) (p : ℕ) (xs ys : List Instr) → StandsFrom 
 stands_right img p [] ys h = subst (λ n. StandsFrom img n ys) (let e : p ≡ p + 0 = omega arith in e) h
 stands_right img p (x ∷ xs) ys (a, b) = subst (λ n. StandsFrom img n ys) (let e : p + bytes x + total xs ≡ p + (bytes x + total xs) = omega arith in e) (stands_right img (p + bytes x) xs ys b)
 
-fetch_here : (i : Instr) (is : List Instr) (p : ℕ) → fetch_from p (i ∷ is) p ≡ At i (p + bytes i)
-fetch_here i is p = let e : (p == p) ≡ true = grind arith in rw e refl
-
-fetch_past : (i : Instr) (is : List Instr) (p at : ℕ) → p < at → fetch_from p (i ∷ is) at ≡ fetch_from (p + bytes i) is at
-fetch_past i is p at h = let e : (p == at) ≡ false = grind (arith, h) in rw e refl
-
 stands_from : (img : Module) (p : ℕ) (is : List Instr) → ((x : ℕ) → p ≤ x → img.fetch x ≡ fetch_from p is x) → StandsFrom img p is
 stands_from img p [] h = tt
 stands_from img p (i ∷ is) h = (
@@ -107,7 +101,7 @@ module _ (img : Module) (texts : List Bytes) (strings : (k : ℕ) → img.string
         let ys = b.code texts (k + length a.later) r in (
           r,
           m.at k p (all_left (Held texts) a.texts b.texts h) (numbered_left trees_at k a.later b.later l) (stands_left img p xs ys s),
-          subst (B r) (let t = total_join xs ys in let e : r + total ys ≡ p + total (xs ++ ys) = omega (arith, t) in e)
+          subst (B r) (let t = total_append xs ys in let e : r + total ys ≡ p + total (xs ++ ys) = omega (arith, t) in e)
               (n.at (k + length a.later) r (all_right (Held texts) a.texts b.texts h) (numbered_right trees_at k a.later b.later l) (stands_right img p xs ys s)),
         );
   }
@@ -126,7 +120,7 @@ module _ (img : Module) (texts : List Bytes) (strings : (k : ℕ) → img.string
           p + 5,
           s.0 ∙ ap (λ n. At (i t) (p + n)) (five t),
           m.at k (p + 5) (all_left (Held texts) a.texts b.texts h) (numbered_left trees_at k a.later b.later l) (stands_left img (p + 5) xs ys rest),
-          subst (B t) (let j = total_join xs ys in let f = five t in let e : t + total ys ≡ p + (bytes (i t) + total (xs ++ ys)) = omega (arith, j, f) in e)
+          subst (B t) (let j = total_append xs ys in let f = five t in let e : t + total ys ≡ p + (bytes (i t) + total (xs ++ ys)) = omega (arith, j, f) in e)
               (n.at (k + length a.later) t (all_right (Held texts) a.texts b.texts h) (numbered_right trees_at k a.later b.later l) (stands_right img (p + 5) xs ys rest)),
         );
   }

@@ -1,9 +1,10 @@
 //! The laws of images. Each function does nothing; its contract states a law.
 
-ghost use Rattle.codegen_laws.specs.CodegenLaws.{AreCountable, AreFit, DoesAsMeant, IsInTime, IsPlaced, IsSmall, IsSound, IsSpelt};
+ghost use Rattle.codegen_laws.specs.CodegenLaws.{AreCountable, AreFit, DoesAsMeant, IsInTime, IsPlaced};
+ghost use Rattle.codegen_laws.specs.CodegenLaws.{IsSmall, IsSound, IsSpelt};
 
-/// The trees of an accepted deck keep what their code relies on: names are nonnull, keywords known, targets targets, END
-/// is last, no label is there twice, and calls and references have as few arguments as instructions can count.
+/// The trees of an accepted deck keep what their code relies on: names are nonnull, keywords known, targets targets,
+/// END is last, no label is there twice, and calls and references have as few arguments as instructions can count.
 pub fn accepted_trees()
     ensures fit { AreFit }
     ensures countable { AreCountable }

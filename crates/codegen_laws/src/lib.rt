@@ -4,7 +4,11 @@
 //! well-formed, does what the deck means and ends in time. `accepted_trees` has what the trees of such a deck keep,
 //! `placed_images` that the code of each statement and expression stands in the image.
 //!
-//! To use a law, call its function and cite its clause. They hold for the whole language, whatever runs yet.
+//! To use a law, call its function, and cite its clause in the proof of the caller:
+//!
+//!     accepted_images();
+//!
+//! Promised: the laws hold for the whole language, whatever runs yet.
 #![tactic(auto)]
 
 mod laws;

@@ -5,7 +5,6 @@ use Rattle.model.specs.declared.image.Image.{Image}
 use Rattle.model.specs.declared.run.Status.{Status}
 use Rattle.model.specs.declared.run.Ending.{Ending}
 use Rattle.model.specs.Agreement.{Agrees, Inputs, Seen, mach, mean}
-use Rattle.model.specs.PrintedBefore.{seen_after}
 use Rattle.model.specs.Io.{Io}
 use Rattle.model.specs.Reading as reading
 use Rattle.model.specs.Faults.{verdict, Verdict, Accepted}
@@ -14,9 +13,10 @@ use Rattle.model.specs.Trees.{Stmt}
 use Rattle.model.proofs.SpeltImages.{spelt_is_read}
 use Rattle.loader.specs.Answers.{IsAnswer, no_memory}
 use Rattle.loader.proofs.Judging.{accepted}
+use Rattle.statement_machine.specs.Runs.{IsRun}
 use Rattle.statement_machine.specs.Stopped.{IfRan, ending_of}
 use Rattle.driver.specs.Compiled.{IsModuleOf}
-use Rattle.statement_machine.proofs.Seeing.{if_ran}
+use Rattle.statement_machine.proofs.Seeing.{if_ran, told_if_ran}
 use Rattle.statement_machine.proofs.Telling.{told_on}
 use Rattle.driver.specs.Whole.{IsRunOf, OfRun, IsSeenOf, Mean, EndIn, IsMeant, IsInTime}
 
@@ -24,7 +24,7 @@ read : (deck bytes : List ℕ) (m : IsModuleOf deck bytes) → reading.image_of 
 read deck bytes m = ap reading.image_of m.spelt ∙ spelt_is_read m.image m.has_spelling
 
 pub is_run : (deck given bytes : List ℕ) (bound : ℕ) (status : Status) (before after : Option Io) → given ≡ bytes → IsModuleOf deck bytes
-    → ((m : Image) → reading.image_of given ≡ Ok m → IfRan status (IfTold before after (λ io io'. record { ending = ending_of status; printed = io'.printed } ≡ seen_after io.printed (mach m io.left bound))))
+    → ((m : Image) → reading.image_of given ≡ Ok m → IfTold before after (λ io io'. IfRan status (IsRun m bound (ending_of status) io io')))
     → IsRunOf deck bound status before after
 is_run deck given bytes bound status before after same m run = record {
   statements = m.statements;
@@ -33,7 +33,7 @@ is_run deck given bytes bound status before after same m run = record {
   generated = m.generated;
   agrees = m.agrees;
   in_time = m.in_time;
-  run = run m.image (ap reading.image_of same ∙ read deck bytes m);
+  run = told_if_ran status before after _ (told_on before after _ _ (λ io io' g. if_ran status _ _ g (λ r. r.seen)) (run m.image (ap reading.image_of same ∙ read deck bytes m)));
 }
 
 -- ---- in the deck's own words

@@ -3,9 +3,11 @@
 //! `run_deck(alloc, deck, units, bound)` compiles a deck and runs its module, at most `bound` steps; `compile_deck` and
 //! `run_module` are its halves, `check_module` and `show` look at a module.
 //!
+//!     let status = run_deck(alloc, b" OUTPUT = 'HI'\nEND\n", &mut units, 1_000)?;
+//!
 //! Promised, of `run_deck`: a deck is refused by exactly its faults (`refused`); a run ends as the deck's meaning does,
 //! with that printed, or what it printed is a beginning of what the meaning prints (`meant`); and a meaning that ends
-//! after r rules is reached within 8 * (r + 1) steps (`in_time`). Words, lines and statuses (`read_words`, `report`)
+//! after r rules is reached within 7 * (r + 1) steps (`in_time`). Words, lines and statuses (`read_words`, `report`)
 //! are tested.
 #![tactic(auto)]
 

@@ -2,9 +2,8 @@
 
 ghost use Rattle.std.specs.Prelude.{◌≡◌, IfErr, IfOk, OnErr};
 ghost use Rattle.loader.specs.Answers.{no_memory};
-ghost use Rattle.statement_machine.specs.Answers.{IsStop};
-ghost use Rattle.statement_machine.specs.Stopped.{IfRan, IfStopped};
-ghost use Rattle.unit_io.specs.Counts.{Same};
+ghost use Rattle.statement_machine.specs.Stopped.{stop_of_run};
+ghost use Rattle.unit_io.specs.Service.{KeepsCounts};
 ghost use Rattle.driver.specs.declared.refusal.Refusal.TheVariants.{Memory};
 ghost use Rattle.driver.specs.Compiled.{IsRefusalOf};
 ghost use Rattle.driver.specs.Whole.{IsInTime, IsMeant, IsRunOf};
@@ -37,15 +36,18 @@ pub fn run_deck<U: Units>(
     ensures untouched { OnErr result (units.new ≡ units.old) }
     // In the deck's own words: the run ended as its meaning does at some depth, with exactly that printed, or it runs
     // on, and what it printed is a beginning of what its meaning prints at some depth.
-    ensures meant { IfOk result (λ status. IsMeant deck.now status (U.told units.old) (U.told units.new)) }
+    ensures meant { IfOk result (λ status.
+        IsMeant deck.now status (U.told units.old) (U.told units.new)) }
     // Where the meaning ends having used r rules, a run of STEPS_PER_RULE * (r + 1) steps or more has ended so.
-    ensures in_time { IfOk result (λ status. IsInTime deck.now bound status (U.told units.old) (U.told units.new)) }
+    ensures in_time { IfOk result (λ status.
+        IsInTime deck.now bound status (U.told units.old) (U.told units.new)) }
     // The run is the machine's, on an image that does what the deck's statements mean.
-    ensures run { IfOk result (λ status. IsRunOf deck.now bound status (U.told units.old) (U.told units.new)) }
-    // A run that nothing stopped met no failure of a unit.
-    ensures kept { IfOk result (λ status. IfRan status (Same (U.failures units.old) (U.failures units.new))) }
-    // A run stopped by a failed unit names it, and no other unit failed; for want of memory, none failed.
-    ensures stop { IfOk result (λ status. IfStopped status (λ stop. IsStop stop (U.failures units.old) (U.failures units.new))) }
+    ensures run { IfOk result (λ status.
+        IsRunOf deck.now bound status (U.told units.old) (U.told units.new)) }
+    // A run that nothing stopped met no failure of a unit. One stopped by a failed unit names it, and no other unit
+    // failed; for want of memory, none failed.
+    ensures counts { IfOk result (λ status.
+        KeepsCounts (stop_of_run status) (U.failures units.old) (U.failures units.new)) }
 {
     let module = compile_deck(alloc, deck)?;
     match run_module(alloc, &module, units, bound) {

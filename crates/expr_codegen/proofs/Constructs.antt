@@ -14,11 +14,12 @@ use Rattle.model.specs.declared.trees.Unary.{Unary}
 use Rattle.model.specs.declared.trees.Unary.TheVariants as u
 use Rattle.model.specs.Trees.{Bytes, Expr, Args, Apply, Combine}
 use Rattle.model.specs.TreeViews.{expr_of}
+use Rattle.model.proofs.CodeBytes.{total_append}
 use Rattle.expr_codegen.specs.Code.{Part, nothing, one, with_string, with_key, call, ◌>>◌, handled, value, name, arguments}
 use Rattle.expr_codegen.specs.Texts.{with_texts}
 use Rattle.expr_codegen.specs.Emitting.{Gen, Emits, Numbered, with_instr}
 use Rattle.expr_codegen.specs.Views.{takes_target, instr_of, wanted, call_of}
-use Rattle.expr_codegen.proofs.Joins.{both, instr, text, nothing_put, total_append}
+use Rattle.expr_codegen.proofs.Joins.{both, instr, text, nothing_put}
 
 -- ---- the same of equal parts
 pub as_part : {p q : Part} {g h : Gen} → Emits p g h → p ≡ q → Emits q g h

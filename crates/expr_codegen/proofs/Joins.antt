@@ -7,6 +7,7 @@ use Rattle.model.specs.declared.instr.Instr.TheVariants as op
 use Rattle.model.specs.Trees.{Bytes, Expr}
 use Rattle.model.specs.Modules.{bytes, total}
 use Rattle.model.specs.Weights.{of_expr}
+use Rattle.model.proofs.CodeBytes.{total_append}
 use Rattle.expr_codegen.specs.Texts.{place_of, with_text, with_texts}
 use Rattle.expr_codegen.specs.Code.{Part, nothing, one, with_string, unevaluated, ◌>>◌, handled}
 use Rattle.expr_codegen.specs.Emitting.{Gen, Emits, Longer, Numbered, SameBytes, due, size, with_instr, with_changed, with_waiting}
@@ -19,10 +20,6 @@ on_ok (Ok x) P Q h f = f h
 on_ok (Err e) P Q h f = tt
 
 -- ---- lists
-
-pub total_append : (a b : List Instr) → total (a ++ b) ≡ total a + total b
-total_append [] b = omega arith
-total_append (i ∷ a) b = omega (arith, total_append a b)
 
 pub total_snoc : (a : List Instr) (i : Instr) → total (a ++ i ∷ []) ≡ total a + bytes i
 total_snoc a i = let x = total_append a (i ∷ []) in omega (arith, x)

@@ -70,6 +70,10 @@ due (e ∷ es) = 9 * of_expr e + 1 + due es
 unfoldable pub size : Gen → ℕ
 size g = total g.code + length g.texts + length g.waiting + due (drop g.taken g.waiting)
 
+-- what was put makes it larger by so much at most
+abbrev pub AddsAtMost : ℕ → Gen → Gen → Type 0
+AddsAtMost n g h = size h ≤ size g + n
+
 -- the next unevaluated expression was taken, if one is left
 abbrev pub Takes : Option Expr → Gen → Gen → Type 0
 Takes None g h = (h ≡ g) × (drop g.taken g.waiting ≡ [])

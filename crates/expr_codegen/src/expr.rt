@@ -7,7 +7,7 @@ ghost use Rattle.model.specs.Trees.{Apply, Combine};
 ghost use Rattle.model.specs.TreeViews.{expr_of, args_of};
 ghost use Rattle.model.specs.Weights.{of_expr, of_args};
 ghost use Rattle.expr_codegen.specs.Code as code;
-ghost use Rattle.expr_codegen.specs.Emitting.{Emits, Extends, Countable, AllCountable, size, most_counted};
+ghost use Rattle.expr_codegen.specs.Emitting.{AddsAtMost, Emits, Extends, Countable, AllCountable, size, most_counted};
 ghost use Rattle.expr_codegen.specs.Views as views;
 ghost use Rattle.expr_codegen.specs.Views.{gen_of};
 
@@ -22,7 +22,8 @@ pub fn value<'a>(alloc: Global, g: &mut Generator<'a>, e: &'a Expr) -> Result<()
     requires countable { Countable (expr_of e.now) }
     requires room { size (gen_of g.old) + 9 * of_expr (expr_of e.now) < 2 ^ 31 }
     ensures emits { OnOk result (Emits (code.value (expr_of e.now)) (gen_of g.old) (gen_of g.new)) }
-    ensures size { OnOk result (size (gen_of g.new) ≤ size (gen_of g.old) + 9 * of_expr (expr_of e.now)) }
+    ensures size { OnOk result
+        (AddsAtMost (9 * of_expr (expr_of e.now)) (gen_of g.old) (gen_of g.new)) }
     ensures extends { Extends (gen_of g.old) (gen_of g.new) }
 {
     match e {
@@ -49,7 +50,8 @@ pub fn name<'a>(alloc: Global, g: &mut Generator<'a>, e: &'a Expr) -> Result<(),
     requires countable { Countable (expr_of e.now) }
     requires room { size (gen_of g.old) + 9 * of_expr (expr_of e.now) < 2 ^ 31 }
     ensures emits { OnOk result (Emits (code.name (expr_of e.now)) (gen_of g.old) (gen_of g.new)) }
-    ensures size { OnOk result (size (gen_of g.new) ≤ size (gen_of g.old) + 9 * of_expr (expr_of e.now)) }
+    ensures size { OnOk result
+        (AddsAtMost (9 * of_expr (expr_of e.now)) (gen_of g.old) (gen_of g.new)) }
     ensures extends { Extends (gen_of g.old) (gen_of g.new) }
 {
     match e {
@@ -71,8 +73,10 @@ fn applied_name<'a>(
 ) -> Result<(), AllocError>
     requires countable { Countable (expr_of x.now) }
     requires room { size (gen_of g.old) + 9 * of_expr (expr_of x.now) + 9 < 2 ^ 31 }
-    ensures emits { OnOk result (Emits (code.name (Apply op (expr_of x.now))) (gen_of g.old) (gen_of g.new)) }
-    ensures size { OnOk result (size (gen_of g.new) ≤ size (gen_of g.old) + 9 * of_expr (expr_of x.now) + 9) }
+    ensures emits { OnOk result
+        (Emits (code.name (Apply op (expr_of x.now))) (gen_of g.old) (gen_of g.new)) }
+    ensures size { OnOk result
+        (AddsAtMost (9 * of_expr (expr_of x.now) + 9) (gen_of g.old) (gen_of g.new)) }
     ensures extends { Extends (gen_of g.old) (gen_of g.new) }
 {
     match op {
@@ -94,8 +98,10 @@ fn applied<'a>(
 ) -> Result<(), AllocError>
     requires countable { Countable (expr_of x.now) }
     requires room { size (gen_of g.old) + 9 * of_expr (expr_of x.now) + 9 < 2 ^ 31 }
-    ensures emits { OnOk result (Emits (code.value (Apply op (expr_of x.now))) (gen_of g.old) (gen_of g.new)) }
-    ensures size { OnOk result (size (gen_of g.new) ≤ size (gen_of g.old) + 9 * of_expr (expr_of x.now) + 9) }
+    ensures emits { OnOk result
+        (Emits (code.value (Apply op (expr_of x.now))) (gen_of g.old) (gen_of g.new)) }
+    ensures size { OnOk result
+        (AddsAtMost (9 * of_expr (expr_of x.now) + 9) (gen_of g.old) (gen_of g.new)) }
     ensures extends { Extends (gen_of g.old) (gen_of g.new) }
 {
     match op {
@@ -135,8 +141,10 @@ fn applied<'a>(
 fn negated<'a>(alloc: Global, g: &mut Generator<'a>, x: &'a Expr) -> Result<(), AllocError>
     requires countable { Countable (expr_of x.now) }
     requires room { size (gen_of g.old) + 9 * of_expr (expr_of x.now) + 9 < 2 ^ 31 }
-    ensures emits { OnOk result (Emits (code.value (Apply u.Negate (expr_of x.now))) (gen_of g.old) (gen_of g.new)) }
-    ensures size { OnOk result (size (gen_of g.new) ≤ size (gen_of g.old) + 9 * of_expr (expr_of x.now) + 9) }
+    ensures emits { OnOk result
+        (Emits (code.value (Apply u.Negate (expr_of x.now))) (gen_of g.old) (gen_of g.new)) }
+    ensures size { OnOk result
+        (AddsAtMost (9 * of_expr (expr_of x.now) + 9) (gen_of g.old) (gen_of g.new)) }
     ensures extends { Extends (gen_of g.old) (gen_of g.new) }
 {
     let number = g.len();
@@ -162,9 +170,14 @@ fn combined<'a>(
 ) -> Result<(), AllocError>
     requires left { Countable (expr_of x.now) }
     requires right { Countable (expr_of y.now) }
-    requires room { size (gen_of g.old) + 9 * (of_expr (expr_of x.now) + of_expr (expr_of y.now) + 1) < 2 ^ 31 }
-    ensures emits { OnOk result (Emits (code.value (Combine op (expr_of x.now) (expr_of y.now))) (gen_of g.old) (gen_of g.new)) }
-    ensures size { OnOk result (size (gen_of g.new) ≤ size (gen_of g.old) + 9 * (of_expr (expr_of x.now) + of_expr (expr_of y.now) + 1)) }
+    requires room { size (gen_of g.old)
+        + 9 * (of_expr (expr_of x.now) + of_expr (expr_of y.now) + 1) < 2 ^ 31 }
+    ensures emits { OnOk result
+        (Emits (code.value (Combine op (expr_of x.now) (expr_of y.now))) (gen_of g.old)
+        (gen_of g.new)) }
+    ensures size { OnOk result
+        (AddsAtMost (9 * (of_expr (expr_of x.now) + of_expr (expr_of y.now) + 1)) (gen_of g.old)
+        (gen_of g.new)) }
     ensures extends { Extends (gen_of g.old) (gen_of g.new) }
 {
     value(alloc, g, x)?;
@@ -183,8 +196,10 @@ fn wanted<'a>(
 ) -> Result<(), AllocError>
     requires countable { Countable (expr_of e.now) }
     requires room { size (gen_of g.old) + 9 * of_expr (expr_of e.now) < 2 ^ 31 }
-    ensures emits { OnOk result (Emits (views.wanted wants_name (expr_of e.now)) (gen_of g.old) (gen_of g.new)) }
-    ensures size { OnOk result (size (gen_of g.new) ≤ size (gen_of g.old) + 9 * of_expr (expr_of e.now)) }
+    ensures emits { OnOk result
+        (Emits (views.wanted wants_name (expr_of e.now)) (gen_of g.old) (gen_of g.new)) }
+    ensures size { OnOk result
+        (AddsAtMost (9 * of_expr (expr_of e.now)) (gen_of g.old) (gen_of g.new)) }
     ensures extends { Extends (gen_of g.old) (gen_of g.new) }
 {
     if wants_name {
@@ -206,8 +221,11 @@ fn called<'a>(
     requires countable { AllCountable (args_of args.now) }
     requires few { length args.now ≤ most_counted (prim_named f.now) }
     requires room { size (gen_of g.old) + 9 * of_args (args_of args.now) + 8 < 2 ^ 31 }
-    ensures emits { OnOk result (Emits (views.called wants_name f.now (args_of args.now) (length args.now)) (gen_of g.old) (gen_of g.new)) }
-    ensures size { OnOk result (size (gen_of g.new) ≤ size (gen_of g.old) + 9 * of_args (args_of args.now) + 8) }
+    ensures emits { OnOk result
+        (Emits (views.called wants_name f.now (args_of args.now) (length args.now)) (gen_of g.old)
+        (gen_of g.new)) }
+    ensures size { OnOk result
+        (AddsAtMost (9 * of_args (args_of args.now) + 8) (gen_of g.old) (gen_of g.new)) }
     ensures extends { Extends (gen_of g.old) (gen_of g.new) }
 {
     arguments(alloc, g, args)?;
@@ -226,8 +244,11 @@ fn element<'a>(
     requires countable { AllCountable (args_of args.now) }
     requires few { length args.now ≤ 65535 }
     requires room { size (gen_of g.old) + 9 * of_args (args_of args.now) + 10 < 2 ^ 31 }
-    ensures emits { OnOk result (Emits (views.element x.now (args_of args.now) (length args.now)) (gen_of g.old) (gen_of g.new)) }
-    ensures size { OnOk result (size (gen_of g.new) ≤ size (gen_of g.old) + 9 * of_args (args_of args.now) + 10) }
+    ensures emits { OnOk result
+        (Emits (views.element x.now (args_of args.now) (length args.now)) (gen_of g.old)
+        (gen_of g.new)) }
+    ensures size { OnOk result
+        (AddsAtMost (9 * of_args (args_of args.now) + 10) (gen_of g.old) (gen_of g.new)) }
     ensures extends { Extends (gen_of g.old) (gen_of g.new) }
 {
     variable(alloc, g, x)?;
@@ -246,8 +267,10 @@ fn arguments<'a>(
 ) -> Result<(), AllocError>
     requires countable { AllCountable (args_of args.now) }
     requires room { size (gen_of g.old) + 9 * of_args (args_of args.now) < 2 ^ 31 }
-    ensures emits { OnOk result (Emits (code.arguments (args_of args.now)) (gen_of g.old) (gen_of g.new)) }
-    ensures size { OnOk result (size (gen_of g.new) ≤ size (gen_of g.old) + 9 * of_args (args_of args.now)) }
+    ensures emits { OnOk result
+        (Emits (code.arguments (args_of args.now)) (gen_of g.old) (gen_of g.new)) }
+    ensures size { OnOk result
+        (AddsAtMost (9 * of_args (args_of args.now)) (gen_of g.old) (gen_of g.new)) }
     ensures extends { Extends (gen_of g.old) (gen_of g.new) }
 {
     for argument in args {

@@ -4,7 +4,7 @@ ghost use Rattle.std.specs.Prelude.{◌≡◌, ◌<◌, ◌≤◌, ◌+◌, ◌*
 ghost use Rattle.model.specs.Modules.{bytes, total};
 ghost use Rattle.model.specs.TreeViews.{expr_of};
 ghost use Rattle.model.specs.Weights.{of_expr};
-ghost use Rattle.expr_codegen.specs.Emitting.{size};
+ghost use Rattle.expr_codegen.specs.Emitting.{AddsAtMost, size};
 ghost use Rattle.model.specs.declared.instr.Instr.{Instr};
 
 use crate::strings::Strings;
@@ -75,7 +75,7 @@ impl<'a> Generator<'a> {
         ensures extends { spec.Extends (gen_of self.old) (gen_of self.new) }
     {
         self.code.push(i)?;
-        self.at += length_of(i);
+        self.at += i.size();
         Ok(())
     }
 
@@ -83,8 +83,9 @@ impl<'a> Generator<'a> {
     #[tactic(auto, unfolding(crate::specs::Emitting::size))]
     pub fn string(&mut self, alloc: Global, text: &[u8]) -> Result<u32, AllocError>
         requires { size (gen_of self.old) < 2 ^ 31 }
-        ensures numbered { IfOk result (λ k. spec.Numbered text.now k (gen_of self.old) (gen_of self.new)) }
-        ensures size { OnOk result (size (gen_of self.new) ≤ size (gen_of self.old) + 1) }
+        ensures numbered { IfOk result (λ k.
+            spec.Numbered text.now k (gen_of self.old) (gen_of self.new)) }
+        ensures size { OnOk result (AddsAtMost 1 (gen_of self.old) (gen_of self.new)) }
         ensures refused { OnErr result (gen_of self.new ≡ gen_of self.old) }
         ensures extends { spec.Extends (gen_of self.old) (gen_of self.new) }
     {
@@ -95,8 +96,11 @@ impl<'a> Generator<'a> {
     #[tactic(auto, unfolding(crate::specs::Emitting::size))]
     pub fn defer(&mut self, x: &'a Expr) -> Result<(), AllocError>
         requires { size (gen_of self.old) + 9 * of_expr (expr_of x.now) + 7 < 2 ^ 31 }
-        ensures put { OnOk result (gen_of self.new ≡ spec.with_waiting (expr_of x.now) (spec.with_instr (Instr.Expr (length (gen_of self.old).waiting)) (gen_of self.old))) }
-        ensures size { OnOk result (size (gen_of self.new) ≡ size (gen_of self.old) + 9 * of_expr (expr_of x.now) + 7) }
+        ensures put { OnOk result
+            (gen_of self.new ≡ spec.with_waiting (expr_of x.now)
+            (spec.with_instr (Instr.Expr (length (gen_of self.old).waiting)) (gen_of self.old))) }
+        ensures size { OnOk result
+            (size (gen_of self.new) ≡ size (gen_of self.old) + 9 * of_expr (expr_of x.now) + 7) }
         ensures extends { spec.Extends (gen_of self.old) (gen_of self.new) }
     {
         let number = self.waiting.len() as u32;
@@ -107,7 +111,8 @@ impl<'a> Generator<'a> {
 
     /// Takes the next unevaluated expression.
     pub fn take(&mut self) -> Option<&'a Expr>
-        ensures { spec.Takes (option_map (λ e. expr_of e.now) result) (gen_of self.old) (gen_of self.new) }
+        ensures { spec.Takes (option_map (λ e. expr_of e.now) result) (gen_of self.old)
+            (gen_of self.new) }
     {
         match self.waiting.get(self.taken) {
             Some(next) => {
@@ -147,26 +152,5 @@ impl<'a> Generator<'a> {
         ensures size { size (gen_of self.new) ≡ size (gen_of self.old) }
     {
         self.code[n] = i;
-    }
-}
-
-// How many bytes an instruction has.
-fn length_of(i: Instr) -> u32
-    ensures { result ≡ bytes i }
-{
-    match i {
-        Instr::Int(_) => 9,
-        Instr::CallV(_, _) | Instr::CallN(_, _) => 7,
-        Instr::Begin(_)
-        | Instr::Goto(_)
-        | Instr::Str(_)
-        | Instr::Var(_)
-        | Instr::Expr(_)
-        | Instr::Try(_)
-        | Instr::Pat(_) => 5,
-        Instr::Elem(_) | Instr::PrimV(_, _) | Instr::PrimN(_, _) => 3,
-        Instr::Return(_) | Instr::KeyGet(_) | Instr::KeySet(_) | Instr::Sign(_) | Instr::Arith(_) =>
-            2,
-        _ => 1,
     }
 }

@@ -3,6 +3,10 @@
 //! `value(alloc, &mut generator, &expr)` puts the code of an expression for its value, `name` the code for its name. A
 //! `Generator` has the code so far, the strings by number, and the unevaluated expressions whose code is still to come.
 //!
+//!     let mut generator = Generator::new(alloc);
+//!     value(alloc, &mut generator, &expr)?;
+//!     let code = generator.into_code();
+//!
 //! Promised: exactly the instructions, strings and unevaluated expressions that the definitions give the expression,
 //! behind those that were there; refused by want of memory alone. Room for them in the limits is asked for.
 #![tactic(auto)]

@@ -3,7 +3,7 @@
 ghost use Rattle.std.specs.Prelude.{◌≡◌, ◌<◌, ◌≤◌, ◌+◌, ◌^◌, if◌then◌else◌, OnOk};
 ghost use Rattle.model.specs.Names.{key_named, prim_named};
 ghost use Rattle.expr_codegen.specs.Code.{with_string, with_key};
-ghost use Rattle.expr_codegen.specs.Emitting.{Emits, Extends, size, most_counted};
+ghost use Rattle.expr_codegen.specs.Emitting.{AddsAtMost, Emits, Extends, size, most_counted};
 ghost use Rattle.expr_codegen.specs.Views.{gen_of, call_of};
 ghost use Rattle.model.specs.declared.instr.Instr.{Instr};
 
@@ -14,8 +14,9 @@ use std::alloc::{AllocError, Global};
 /// Puts a variable's name.
 pub fn variable<'a>(alloc: Global, g: &mut Generator<'a>, name: &[u8]) -> Result<(), AllocError>
     requires { size (gen_of g.old) + 6 < 2 ^ 31 }
-    ensures emits { OnOk result (Emits (with_string (λ k. Instr.Var k) name.now) (gen_of g.old) (gen_of g.new)) }
-    ensures size { OnOk result (size (gen_of g.new) ≤ size (gen_of g.old) + 6) }
+    ensures emits { OnOk result
+        (Emits (with_string (λ k. Instr.Var k) name.now) (gen_of g.old) (gen_of g.new)) }
+    ensures size { OnOk result (AddsAtMost 6 (gen_of g.old) (gen_of g.new)) }
     ensures extends { Extends (gen_of g.old) (gen_of g.new) }
 {
     let number = g.string(alloc, name)?;
@@ -25,8 +26,9 @@ pub fn variable<'a>(alloc: Global, g: &mut Generator<'a>, name: &[u8]) -> Result
 /// Puts a literal.
 pub fn literal<'a>(alloc: Global, g: &mut Generator<'a>, text: &[u8]) -> Result<(), AllocError>
     requires { size (gen_of g.old) + 6 < 2 ^ 31 }
-    ensures emits { OnOk result (Emits (with_string (λ k. Instr.Str k) text.now) (gen_of g.old) (gen_of g.new)) }
-    ensures size { OnOk result (size (gen_of g.new) ≤ size (gen_of g.old) + 6) }
+    ensures emits { OnOk result
+        (Emits (with_string (λ k. Instr.Str k) text.now) (gen_of g.old) (gen_of g.new)) }
+    ensures size { OnOk result (AddsAtMost 6 (gen_of g.old) (gen_of g.new)) }
     ensures extends { Extends (gen_of g.old) (gen_of g.new) }
 {
     let number = g.string(alloc, text)?;
@@ -36,8 +38,10 @@ pub fn literal<'a>(alloc: Global, g: &mut Generator<'a>, text: &[u8]) -> Result<
 /// Puts a keyword's value.
 pub fn keyword<'a>(g: &mut Generator<'a>, name: &[u8]) -> Result<(), AllocError>
     requires { size (gen_of g.old) + 2 < 2 ^ 31 }
-    ensures emits { OnOk result (Emits (with_key (λ k. Instr.KeyGet k) (key_named name.now)) (gen_of g.old) (gen_of g.new)) }
-    ensures size { OnOk result (size (gen_of g.new) ≤ size (gen_of g.old) + 2) }
+    ensures emits { OnOk result
+        (Emits (with_key (λ k. Instr.KeyGet k) (key_named name.now)) (gen_of g.old)
+        (gen_of g.new)) }
+    ensures size { OnOk result (AddsAtMost 2 (gen_of g.old) (gen_of g.new)) }
     ensures extends { Extends (gen_of g.old) (gen_of g.new) }
 {
     if let Some(key) = KeyId::named(name) {
@@ -78,8 +82,9 @@ pub fn call<'a>(
 ) -> Result<(), AllocError>
     requires few { count ≤ most_counted (prim_named function.now) }
     requires room { size (gen_of g.old) + 8 < 2 ^ 31 }
-    ensures emits { OnOk result (Emits (call_of wants_name function.now count) (gen_of g.old) (gen_of g.new)) }
-    ensures size { OnOk result (size (gen_of g.new) ≤ size (gen_of g.old) + 8) }
+    ensures emits { OnOk result
+        (Emits (call_of wants_name function.now count) (gen_of g.old) (gen_of g.new)) }
+    ensures size { OnOk result (AddsAtMost 8 (gen_of g.old) (gen_of g.new)) }
     ensures extends { Extends (gen_of g.old) (gen_of g.new) }
 {
     match PrimId::named(function) {

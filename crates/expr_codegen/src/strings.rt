@@ -1,6 +1,7 @@
 //! The table of strings.
 
-ghost use Rattle.std.specs.Prelude.{◌≡◌, ◌<◌, ◌≤◌, ◌+◌, ◌^◌, List, [], ℕ, map, length, IfOk, OnOk, OnErr, Some, option_map};
+ghost use Rattle.std.specs.Prelude.{◌≡◌, ◌<◌, ◌≤◌, ◌+◌, ◌^◌, List, [], ℕ, map, length, IfOk};
+ghost use Rattle.std.specs.Prelude.{OnOk, OnErr, Some, option_map};
 ghost use Rattle.expr_codegen.specs.Texts.{place_of, with_text};
 
 use indexmap::IndexSet;

@@ -81,27 +81,3 @@ module _ (im : Image) (at : ℕ) (y : ℕ) (t : Shape) where
   led_to i next s h = subst (λ l. Contains l (y, t)) (sym (leads_are im i at next s)) (parts_led next (next_of (rule_of i) s) (target_of (rule_of i) s) h)
 
 -- ---- offsets
-
-pub some_bytes : (i : Instr) → 1 ≤ bytes i
-some_bytes op.End = omega arith
-some_bytes _ = omega arith
-
-fetch_if : (o : ℕ) (j : Instr) (is : List Instr) (at : ℕ) (i : Instr) (next : ℕ) (b : Bool) → (o == at) ≡ b
-    → (fetch_from (o + bytes j) is at ≡ At i next → (next ≡ at + bytes i) × (o + bytes j ≤ at) × (at < o + bytes j + total is))
-    → (if b then At j (o + bytes j) else fetch_from (o + bytes j) is at) ≡ At i next
-    → (next ≡ at + bytes i) × (o ≤ at) × (at < o + total (j ∷ is))
-fetch_if o j is at i next true e rest h =
-    let same : o ≡ at = grind (arith, nat_tests, e) in
-    let one : j ≡ i = cc in
-    let n : o + bytes j ≡ next = cc in
-    let m : bytes j ≡ bytes i = ap bytes one in
-    let p = some_bytes j in
-    (omega (arith, same, n, m), omega (arith, same), omega (arith, same, p))
-fetch_if o j is at i next false e rest h =
-    let r = rest h in
-    (r.0, omega (arith, r.1), omega (arith, r.2))
-
--- what is fetched lies within the code, and the next stands behind it
-pub fetch_lies : (o : ℕ) (is : List Instr) (at : ℕ) (i : Instr) (next : ℕ) → fetch_from o is at ≡ At i next → (next ≡ at + bytes i) × (o ≤ at) × (at < o + total is)
-fetch_lies o [] at i next h = absurd (cc)
-fetch_lies o (j ∷ is) at i next h = fetch_if o j is at i next (o == at) refl (fetch_lies (o + bytes j) is at i next) h

@@ -2,18 +2,20 @@
 use Rattle.std.proofs.Common.{◌≡◌, ℕ, zero, suc, ◌+◌, ◌*◌, ◌<◌, ◌≤◌, [], ◌∷◌, ◌++◌, length, drop, refl, sym, subst, arith, Option, Some, Bool, true, false, inl, inr, ◌⊎◌, ◌&&◌, nat_lt}
 use Rattle.std.proofs.lemmas.Bool.Decides.{nat_tests}
 use Rattle.std.proofs.lemmas.List.{length-drop}
+use Rattle.std.proofs.lemmas.Bool.{and_parts}
 use Rattle.model.specs.declared.instr.Instr.{Instr}
 use Rattle.model.specs.declared.image.Image.{Image}
 use Rattle.model.specs.Machine.{At, OnBegin, OnTry}
 use Rattle.model.specs.Modules.{fetch_from}
 use Rattle.model.specs.Flow as flow
 use Rattle.model.specs.Flow.{Shape, shape, bare, asked, Asks, Begins, Reach, Reaches, BreaksFlow, IsLeast, begins_at, is_target, leads}
+use Rattle.model.proofs.CodeBytes.{fetch_lies, some_bytes}
 use Rattle.flow_check.specs.declared.rules.Leaves.{Leaves}
 use Rattle.flow_check.specs.declared.rules.Leaves.TheVariants as leaves
 use Rattle.flow_check.specs.declared.rules.Rule.{Rule}
 use Rattle.flow_check.specs.declared.rules.Rule.TheVariants.{Leave, Begin, Body, Jump, Answer, Try, Untry, Fail, Operate}
 use Rattle.flow_check.specs.Rules.{rule_of, taken, left, Asked, next_of, target_of}
-use Rattle.flow_check.proofs.ByRule.{asks_are, LedTo, led_from, led_to, fetch_lies, some_bytes}
+use Rattle.flow_check.proofs.ByRule.{asks_are, LedTo, led_from, led_to}
 use Rattle.flow_check.proofs.Steps.{length_both}
 
 -- from an instruction before x
@@ -32,13 +34,9 @@ pub record Comes (im : Image) (x y : ℕ) (t : Shape) : Type 0 where
 abbrev pub Known : Image → ℕ → ℕ → Shape → Type 0
 Known im x y t = Begins im y t ⊎ Comes im x y t
 
-both_true : (a b : Bool) → (a && b) ≡ true → a ≡ true
-both_true true b e = refl
-both_true false b e = absurd (cc)
-
 led_on : (im : Image) (before next : ℕ) (i : Instr) (s : Shape) (y : ℕ) (t : Shape) → fetch_from 0 im.code before ≡ At i next → LedTo im before next (rule_of i) s y t → before < y
 led_on im before next i s y t e (inl h) = let f = fetch_lies 0 im.code before i next e in let p = some_bytes i in omega (arith, f.0, h.0, p)
-led_on im before next i s y t e (inr h) = let l : nat_lt before y ≡ true = both_true (nat_lt before y) (begins_at im y) h.1 in grind (arith, nat_tests, l)
+led_on im before next i s y t e (inr h) = let l : nat_lt before y ≡ true = (and_parts (nat_lt before y) (begins_at im y) h.1).0 in grind (arith, nat_tests, l)
 
 pub known_reaches : (im : Image) (x y : ℕ) (t : Shape) → Known im x y t → Reaches im y t
 known_reaches im x y t (inl h) = (0, h)

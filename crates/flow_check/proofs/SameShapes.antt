@@ -2,6 +2,7 @@
 use Rattle.std.proofs.Common.{◌≡◌, ℕ, List, [], ◌∷◌, map, refl, sym, ap, ◌∙◌, subst, arith, Option, Some, None, Bool, true, false, ◌&&◌}
 use Rattle.std.specs.Bool.{Decides}
 use Rattle.std.proofs.lemmas.Bool.Decides.{nat_tests}
+use Rattle.std.proofs.lemmas.Bool.{and_parts}
 use Rattle.model.specs.Machine.{Handler, OnBegin, OnTry}
 use Rattle.model.specs.Flow as flow
 use Rattle.flow_check.specs.declared.pool.Node.{Node}
@@ -12,10 +13,6 @@ use Rattle.flow_check.specs.Numbers.{Is, Distinct, Grows}
 use Rattle.flow_check.specs.Shapes.{IsShape, mode_of, top_of, runs, same_mode, same_stack, same_shape, empty_shape}
 use Rattle.flow_check.proofs.Stacks.{one_stack, one_number, grown}
 use Rattle.flow_check.proofs.RunLaws.{runs_one}
-
-both : (a b : Bool) → (a && b) ≡ true → (a ≡ true) × (b ≡ true)
-both true b e = (refl, e)
-both false b e = absurd (cc)
 
 mode_same : (m n : Mode) → same_mode m n ≡ true → m ≡ n
 mode_same Body Body e = refl
@@ -72,8 +69,8 @@ shapes m n ks js hs gs e f g = ap (λ x. flow.shape x ks hs) e ∙ ap (λ x. flo
 
 pub same_true : (ns : List Node) (a b : Shape) (s t : flow.Shape) → IsShape ns a s → IsShape ns b t → same_shape a b ≡ true → s ≡ t
 same_true ns a b s t h g e =
-    let p = both (same_mode a.mode b.mode) (same_stack a.kinds b.kinds && same_stack a.handlers b.handlers) e in
-    let q = both (same_stack a.kinds b.kinds) (same_stack a.handlers b.handlers) p.1 in
+    let p = and_parts (same_mode a.mode b.mode) (same_stack a.kinds b.kinds && same_stack a.handlers b.handlers) e in
+    let q = and_parts (same_stack a.kinds b.kinds) (same_stack a.handlers b.handlers) p.1 in
     let k : Is ns b.kinds (runs s.kinds) = subst (λ i. Is ns i (runs s.kinds)) (stack_same a.kinds b.kinds q.0) h.kinds in
     let l : Is ns b.handlers (map top_of s.handlers) = subst (λ i. Is ns i (map top_of s.handlers)) (stack_same a.handlers b.handlers q.1) h.handlers in
     shapes s.mode t.mode s.kinds t.kinds s.handlers t.handlers

@@ -7,6 +7,7 @@ use Rattle.model.specs.Machine.{At}
 use Rattle.model.specs.Modules.{fetch_from}
 use Rattle.model.specs.Flow as flow
 use Rattle.model.specs.Flow.{Asks, Begins, Reaches, BreaksFlow, IsLeast, begins_at, is_target}
+use Rattle.model.proofs.CodeBytes.{fetch_lies, some_bytes}
 use Rattle.flow_check.specs.declared.pool.Node.{Node}
 use Rattle.flow_check.specs.declared.shapes.Shape.{Shape}
 use Rattle.flow_check.specs.declared.marks.Mark.{Mark}
@@ -14,7 +15,7 @@ use Rattle.flow_check.specs.Numbers.{Distinct, Grows}
 use Rattle.flow_check.specs.Rules.{rule_of, Asked, next_of, target_of}
 use Rattle.flow_check.specs.Shapes.{IsNext, IsTarget}
 use Rattle.flow_check.specs.Marks.{met, followed}
-use Rattle.flow_check.proofs.ByRule.{asks_are, LedTo, fetch_lies, some_bytes}
+use Rattle.flow_check.proofs.ByRule.{asks_are, LedTo}
 use Rattle.flow_check.proofs.Forward.{Known, Comes, known_reaches, reaches_known}
 use Rattle.flow_check.proofs.Telling.{Tells, tells_same, tells_grown, tells_next, tells_followed}
 

@@ -9,6 +9,7 @@ use Rattle.model.specs.Modules.{bytes, fetch_from, total}
 use Rattle.model.specs.Spelling.{instr, code_bytes, u16, u32, u64}
 use Rattle.model.specs.Flow as flow
 use Rattle.model.specs.Flow.{Reaches, BreaksFlow, IsLeast, begins_at}
+use Rattle.model.proofs.CodeBytes.{some_bytes, code_long, fetch_here, fetch_past, fetch_lies}
 use Rattle.flow_check.specs.declared.pool.Node.{Node}
 use Rattle.flow_check.specs.declared.shapes.Shape.{Shape}
 use Rattle.flow_check.specs.declared.shapes.Mode.TheVariants.{Goto, Evaluation}
@@ -18,47 +19,12 @@ use Rattle.flow_check.specs.Numbers.{Distinct}
 use Rattle.flow_check.specs.Rules.{rule_of, next_of}
 use Rattle.flow_check.specs.Shapes.{IsShape, IsNext, empty_shape}
 use Rattle.flow_check.specs.Marks.{met, seeded, Followed, Stepped}
-use Rattle.flow_check.proofs.ByRule.{fetch_lies, some_bytes}
 use Rattle.flow_check.proofs.Forward.{Known, short}
 use Rattle.flow_check.proofs.SameShapes.{empty_is}
 use Rattle.flow_check.proofs.Telling.{Tells, tells_same, tells_seeded}
 use Rattle.flow_check.proofs.Walking.{Told, here_tells, told_skip, told_step, no_fault_none, no_fault_one, clear_more, least_lacks, least_torn}
 
 -- ---- bytes
-
-long_u16 : (n : ℕ) → length (u16 n) ≡ 2
-unfolding u16
-long_u16 n = refl
-
-long_u32 : (n : ℕ) → length (u32 n) ≡ 4
-unfolding u32
-long_u32 n = refl
-
-long_u64 : (n : ℕ) → length (u64 n) ≡ 8
-unfolding u64
-long_u64 n = refl
-
-both_long : (k n : ℕ) → length (u32 k ++ u16 n) ≡ 6
-both_long k n = let a = length-append (u32 k) (u16 n) in let b = long_u32 k in let c = long_u16 n in omega (arith, a, b, c)
-
-long : (i : Instr) → length (instr i) ≡ bytes i
-long (op.Begin f) = let h = long_u32 f in omega (arith, h)
-long (op.Goto k) = let h = long_u32 k in omega (arith, h)
-long (op.Str s) = let h = long_u32 s in omega (arith, h)
-long (op.Int z) = let h = long_u64 _ in ap suc h
-long (op.Var s) = let h = long_u32 s in omega (arith, h)
-long (op.Elem n) = let h = long_u16 n in omega (arith, h)
-long (op.Expr e) = let h = long_u32 e in omega (arith, h)
-long (op.CallV s n) = let h = both_long s n in omega (arith, h)
-long (op.CallN s n) = let h = both_long s n in omega (arith, h)
-long (op.Try t) = let h = long_u32 t in omega (arith, h)
-long (op.Pat p) = let h = long_u32 p in omega (arith, h)
-long op.End = refl
-long _ = refl
-
-pub code_long : (is : List Instr) → length (code_bytes is) ≡ total is
-code_long [] = refl
-code_long (i ∷ is) = let a = length-append (instr i) (code_bytes is) in let b = long i in let c = code_long is in omega (arith, a, b, c)
 
 -- ---- the place in the code
 
@@ -74,12 +40,6 @@ drop_done [] zero e = refl
 drop_done [] (suc k) e = absurd (omega (arith, e))
 drop_done (i ∷ is) zero e = absurd (omega (arith, e))
 drop_done (i ∷ is) (suc k) e = drop_done is k (omega (arith, e))
-
-fetch_here : (i : Instr) (rest : List Instr) (o : ℕ) → fetch_from o (i ∷ rest) o ≡ At i (o + bytes i)
-fetch_here i rest o = let e : (o == o) ≡ true = grind arith in rw e refl
-
-fetch_past : (i : Instr) (rest : List Instr) (o at : ℕ) → o < at → fetch_from o (i ∷ rest) at ≡ fetch_from (o + bytes i) rest at
-fetch_past i rest o at less = let e : (o == at) ≡ false = grind (arith, less) in rw e refl
 
 -- k instructions stand before o
 pub record Stands (im : Image) (k o : ℕ) : Type 0 where

@@ -14,14 +14,15 @@ ghost use Rattle.flow_check.specs.declared.shapes.Mode.TheVariants.{Goto, Evalua
 use crate::flow::{advance, empty};
 use crate::marks::{Mark, Marks};
 use crate::pool::Pool;
-use crate::rules::{Rule, rule_for, size};
+use crate::rules::{Rule, rule_for};
 use crate::shapes::{Mode, Shape};
 use model::{Image, Instr};
 use std::alloc::{AllocError, Global};
 
 /// Marks where statements or expressions begin.
 fn seed(marks: &mut Marks, offsets: &[u32], shape: Shape) -> Result<(), AllocError>
-    ensures { OnOk result ((y : ℕ) → marked marks.new y ≡ seeded offsets.now shape (marked marks.old) y) }
+    ensures { OnOk result
+        ((y : ℕ) → marked marks.new y ≡ seeded offsets.now shape (marked marks.old) y) }
 {
     for offset in offsets {
         marks.note(*offset, shape)?;
@@ -31,7 +32,10 @@ fn seed(marks: &mut Marks, offsets: &[u32], shape: Shape) -> Result<(), AllocErr
 
 /// The marks of where the code can begin.
 fn roots(alloc: Global, image: &Image) -> Result<Marks, AllocError>
-    ensures { IfOk result (λ m. (y : ℕ) → marked m y ≡ seeded image.now.expressions (empty_shape Evaluation) (seeded image.now.statements (empty_shape Goto) (λ _. None)) y) }
+    ensures { IfOk result (λ m.
+        (y : ℕ) → marked m y
+        ≡ seeded image.now.expressions (empty_shape Evaluation)
+        (seeded image.now.statements (empty_shape Goto) (λ _. None)) y) }
 {
     let mut marks = Marks::new(alloc);
     seed(&mut marks, image.statements.as_slice(), empty(Mode::Goto))?;
@@ -62,8 +66,11 @@ impl Drop for Walk {
 
 /// What follows where one shape comes; whether what is asked is there.
 fn follow(walk: &mut Walk, at: u32, rule: Rule, shape: Shape) -> Result<bool, AllocError>
-    requires { (s : flow.Shape) × IsShape walk.old.pool.nodes.keys shape s × (length s.kinds < 2 ^ 31) }
-    ensures { IfOk result (λ fine. Followed walk.old.pool.nodes.keys walk.new.pool.nodes.keys (marked walk.old.marks) (marked walk.new.marks) walk.new.carried at rule shape fine) }
+    requires { (s : flow.Shape) × IsShape walk.old.pool.nodes.keys shape s
+        × (length s.kinds < 2 ^ 31) }
+    ensures { IfOk result (λ fine.
+        Followed walk.old.pool.nodes.keys walk.new.pool.nodes.keys (marked walk.old.marks)
+        (marked walk.new.marks) walk.new.carried at rule shape fine) }
 {
     match advance(&mut walk.pool, rule, shape)? {
         None => Ok(false),
@@ -77,8 +84,12 @@ fn follow(walk: &mut Walk, at: u32, rule: Rule, shape: Shape) -> Result<bool, Al
 
 /// One instruction; whether it keeps the flow.
 fn step(walk: &mut Walk, at: u32, instr: Instr) -> Result<bool, AllocError>
-    requires { (a : shapes.Shape) → met walk.old.carried (marked walk.old.marks at) ≡ Some (One a) → (s : flow.Shape) × IsShape walk.old.pool.nodes.keys a s × (length s.kinds < 2 ^ 31) }
-    ensures { IfOk result (λ fine. Stepped walk.old.pool.nodes.keys walk.new.pool.nodes.keys (marked walk.old.marks) (marked walk.new.marks) walk.new.carried at (rule_of instr) (met walk.old.carried (marked walk.old.marks at)) fine) }
+    requires { (a : shapes.Shape) → met walk.old.carried (marked walk.old.marks at) ≡ Some (One a)
+        → (s : flow.Shape) × IsShape walk.old.pool.nodes.keys a s × (length s.kinds < 2 ^ 31) }
+    ensures { IfOk result (λ fine.
+        Stepped walk.old.pool.nodes.keys walk.new.pool.nodes.keys (marked walk.old.marks)
+        (marked walk.new.marks) walk.new.carried at (rule_of instr)
+        (met walk.old.carried (marked walk.old.marks at)) fine) }
 {
     match walk.marks.meet(at, walk.carried) {
         None => {
@@ -109,7 +120,7 @@ pub fn check_flow(alloc: Global, image: &Image) -> Result<Option<u32>, AllocErro
         if !fine {
             return Ok(Some(at));
         }
-        at += size(*instr);
+        at += instr.size();
     }
     Ok(None)
 }

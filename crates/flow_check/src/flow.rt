@@ -29,7 +29,8 @@ pub(crate) fn empty(mode: Mode) -> Shape
 
 /// Whether it is a goto's, with nothing.
 fn is_bare(shape: Shape) -> bool
-    ensures { (ns : List Node) → (s : flow.Shape) → IsShape ns shape s → Decides result (s ≡ flow.bare) }
+    ensures { (ns : List Node) → (s : flow.Shape) → IsShape ns shape s
+        → Decides result (s ≡ flow.bare) }
 {
     shape.is_same(empty(Mode::Goto))
 }
@@ -40,14 +41,17 @@ const NOWHERE: Led = Led {
 };
 
 fn leave(shape: Shape) -> Option<Led>
-    ensures { (ns : List Node) → (s : flow.Shape) → IsShape ns shape s → Advances ns result rules.Leave s }
+    ensures { (ns : List Node) → (s : flow.Shape) → IsShape ns shape s
+        → Advances ns result rules.Leave s }
 {
     if is_bare(shape) { Some(NOWHERE) } else { None }
 }
 
 fn begin(pool: &mut Pool, target: u32, shape: Shape) -> Result<Option<Led>, AllocError>
     ensures grows { OnOk result (Grows pool.old.nodes.keys pool.new.nodes.keys) }
-    ensures advanced { IfOk result (λ led. (s : flow.Shape) → IsShape pool.old.nodes.keys shape s → Advances pool.new.nodes.keys led (rules.Begin target) s) }
+    ensures advanced { IfOk result (λ led.
+        (s : flow.Shape) → IsShape pool.old.nodes.keys shape s
+        → Advances pool.new.nodes.keys led (rules.Begin target) s) }
 {
     if !is_bare(shape) {
         return Ok(None);
@@ -67,7 +71,8 @@ fn begin(pool: &mut Pool, target: u32, shape: Shape) -> Result<Option<Led>, Allo
 
 /// Whether the only handler is a statement's.
 fn is_in_begin(pool: &Pool, handlers: Stack) -> bool
-    ensures { (hs : List Handler) → Is pool.now.nodes.keys handlers (map top_of hs) → Decides result ((t : ℕ) × (hs ≡ OnBegin t ∷ [])) }
+    ensures { (hs : List Handler) → Is pool.now.nodes.keys handlers (map top_of hs)
+        → Decides result ((t : ℕ) × (hs ≡ OnBegin t ∷ [])) }
 {
     let Some(node) = pool.top(handlers) else {
         return false;
@@ -79,7 +84,8 @@ fn is_in_begin(pool: &Pool, handlers: Stack) -> bool
 }
 
 fn body(pool: &Pool, shape: Shape) -> Option<Led>
-    ensures { (s : flow.Shape) → IsShape pool.now.nodes.keys shape s → Advances pool.now.nodes.keys result rules.Body s }
+    ensures { (s : flow.Shape) → IsShape pool.now.nodes.keys shape s
+        → Advances pool.now.nodes.keys result rules.Body s }
 {
     match shape.mode {
         Mode::Body if shape.kinds.is_none() && is_in_begin(pool, shape.handlers) => Some(Led {
@@ -92,7 +98,8 @@ fn body(pool: &Pool, shape: Shape) -> Option<Led>
 
 /// Whether there is a value and nothing else.
 fn is_one_value(pool: &Pool, shape: Shape) -> bool
-    ensures { (s : flow.Shape) → IsShape pool.now.nodes.keys shape s → Decides result (s ≡ flow.shape s.mode (flow.V ∷ []) []) }
+    ensures { (s : flow.Shape) → IsShape pool.now.nodes.keys shape s
+        → Decides result (s ≡ flow.shape s.mode (flow.V ∷ []) []) }
 {
     if shape.handlers.is_none() {
         pool.is_value(shape.kinds)
@@ -102,7 +109,8 @@ fn is_one_value(pool: &Pool, shape: Shape) -> bool
 }
 
 fn jump(pool: &Pool, shape: Shape) -> Option<Led>
-    ensures { (s : flow.Shape) → IsShape pool.now.nodes.keys shape s → Advances pool.now.nodes.keys result rules.Jump s }
+    ensures { (s : flow.Shape) → IsShape pool.now.nodes.keys shape s
+        → Advances pool.now.nodes.keys result rules.Jump s }
 {
     match shape.mode {
         Mode::Goto if is_one_value(pool, shape) => Some(NOWHERE),
@@ -111,7 +119,8 @@ fn jump(pool: &Pool, shape: Shape) -> Option<Led>
 }
 
 fn answer(pool: &Pool, shape: Shape) -> Option<Led>
-    ensures { (s : flow.Shape) → IsShape pool.now.nodes.keys shape s → Advances pool.now.nodes.keys result rules.Answer s }
+    ensures { (s : flow.Shape) → IsShape pool.now.nodes.keys shape s
+        → Advances pool.now.nodes.keys result rules.Answer s }
 {
     match shape.mode {
         Mode::Evaluation if is_one_value(pool, shape) => Some(NOWHERE),
@@ -121,14 +130,17 @@ fn answer(pool: &Pool, shape: Shape) -> Option<Led>
 
 /// Whether there are as many operands as the newest handler keeps.
 fn is_kept(pool: &Pool, shape: Shape) -> bool
-    ensures { (s : flow.Shape) → IsShape pool.now.nodes.keys shape s → Decides result (flow.floor_of s.handlers ≤ length s.kinds) }
+    ensures { (s : flow.Shape) → IsShape pool.now.nodes.keys shape s
+        → Decides result (flow.floor_of s.handlers ≤ length s.kinds) }
 {
     pool.floor(shape.handlers) <= shape.depth
 }
 
 fn enter_try(pool: &mut Pool, target: u32, shape: Shape) -> Result<Option<Led>, AllocError>
     ensures grows { OnOk result (Grows pool.old.nodes.keys pool.new.nodes.keys) }
-    ensures advanced { IfOk result (λ led. (s : flow.Shape) → IsShape pool.old.nodes.keys shape s → Advances pool.new.nodes.keys led (rules.Try target) s) }
+    ensures advanced { IfOk result (λ led.
+        (s : flow.Shape) → IsShape pool.old.nodes.keys shape s
+        → Advances pool.new.nodes.keys led (rules.Try target) s) }
 {
     if !is_kept(pool, shape) {
         return Ok(None);
@@ -142,7 +154,8 @@ fn enter_try(pool: &mut Pool, target: u32, shape: Shape) -> Result<Option<Led>, 
 }
 
 fn leave_try(pool: &Pool, shape: Shape) -> Option<Led>
-    ensures { (s : flow.Shape) → IsShape pool.now.nodes.keys shape s → Advances pool.now.nodes.keys result rules.Untry s }
+    ensures { (s : flow.Shape) → IsShape pool.now.nodes.keys shape s
+        → Advances pool.now.nodes.keys result rules.Untry s }
 {
     match pool.top(shape.handlers) {
         Some(
@@ -162,7 +175,8 @@ fn leave_try(pool: &Pool, shape: Shape) -> Option<Led>
 }
 
 fn fail(pool: &Pool, shape: Shape) -> Option<Led>
-    ensures { (s : flow.Shape) → IsShape pool.now.nodes.keys shape s → Advances pool.now.nodes.keys result rules.Fail s }
+    ensures { (s : flow.Shape) → IsShape pool.now.nodes.keys shape s
+        → Advances pool.now.nodes.keys result rules.Fail s }
 {
     if is_kept(pool, shape) {
         Some(NOWHERE)
@@ -179,9 +193,13 @@ fn put_back(
     depth: u32,
     shape: Shape,
 ) -> Result<Option<Led>, AllocError>
-    requires { (ks : List flow.Kind) × Is pool.old.nodes.keys below (runs ks) × (length ks < 2 ^ 31) × (depth ≡ length ks) }
+    requires { (ks : List flow.Kind) × Is pool.old.nodes.keys below (runs ks)
+        × (length ks < 2 ^ 31) × (depth ≡ length ks) }
     ensures grows { OnOk result (Grows pool.old.nodes.keys pool.new.nodes.keys) }
-    ensures put { IfOk result (λ led. (ks : List flow.Kind) → (hs : List Handler) → Is pool.old.nodes.keys below (runs ks) → depth ≡ length ks → Is pool.old.nodes.keys shape.handlers (map top_of hs) → IsPut pool.new.nodes.keys led shape.mode (left leaves) ks hs) }
+    ensures put { IfOk result (λ led.
+        (ks : List flow.Kind) → (hs : List Handler) → Is pool.old.nodes.keys below (runs ks)
+        → depth ≡ length ks → Is pool.old.nodes.keys shape.handlers (map top_of hs)
+        → IsPut pool.new.nodes.keys led shape.mode (left leaves) ks hs) }
 {
     if depth < pool.floor(shape.handlers) {
         return Ok(None);
@@ -206,7 +224,9 @@ fn operate(
 ) -> Result<Option<Led>, AllocError>
     requires { (s : flow.Shape) × IsShape pool.old.nodes.keys shape s × (length s.kinds < 2 ^ 31) }
     ensures grows { OnOk result (Grows pool.old.nodes.keys pool.new.nodes.keys) }
-    ensures advanced { IfOk result (λ led. (s : flow.Shape) → IsShape pool.old.nodes.keys shape s → Advances pool.new.nodes.keys led (rules.Operate takes leaves) s) }
+    ensures advanced { IfOk result (λ led.
+        (s : flow.Shape) → IsShape pool.old.nodes.keys shape s
+        → Advances pool.new.nodes.keys led (rules.Operate takes leaves) s) }
 {
     match pool.take(takes, shape.kinds)? {
         None => Ok(None),
@@ -221,7 +241,9 @@ fn operate(
 pub(crate) fn advance(pool: &mut Pool, rule: Rule, shape: Shape) -> Result<Option<Led>, AllocError>
     requires { (s : flow.Shape) × IsShape pool.old.nodes.keys shape s × (length s.kinds < 2 ^ 31) }
     ensures grows { OnOk result (Grows pool.old.nodes.keys pool.new.nodes.keys) }
-    ensures advanced { IfOk result (λ led. (s : flow.Shape) → IsShape pool.old.nodes.keys shape s → Advances pool.new.nodes.keys led rule s) }
+    ensures advanced { IfOk result (λ led.
+        (s : flow.Shape) → IsShape pool.old.nodes.keys shape s
+        → Advances pool.new.nodes.keys led rule s) }
 {
     match rule {
         Rule::Leave => Ok(leave(shape)),

@@ -4,6 +4,8 @@
 //! least offset of an instruction that lacks what it asks or is reached in two ways that differ (W3); `None` where
 //! there is none.
 //!
+//!     let broken = check_flow(alloc, &image)?;
+//!
 //! Promised: exactly the least such offset of `model`'s `Flow`, for every image; refused by want of memory alone. One
 //! walk over the code in order.
 #![tactic(auto)]

@@ -59,7 +59,8 @@ impl Marks {
 
     /// One more way to a target.
     pub(crate) fn note(&mut self, target: u32, shape: Shape) -> Result<(), AllocError>
-        ensures { OnOk result ((y : ℕ) → marked self.new y ≡ noted target shape (marked self.old) y) }
+        ensures { OnOk result
+            ((y : ℕ) → marked self.new y ≡ noted target shape (marked self.old) y) }
     {
         let mark = match self.map.get(&target).copied() {
             None => Mark::One(shape),
@@ -72,7 +73,8 @@ impl Marks {
 
     /// The same where the target is after the offset.
     pub(crate) fn follow(&mut self, at: u32, target: Option<(u32, Shape)>) -> Result<(), AllocError>
-        ensures { OnOk result ((y : ℕ) → marked self.new y ≡ followed at target (marked self.old) y) }
+        ensures { OnOk result
+            ((y : ℕ) → marked self.new y ≡ followed at target (marked self.old) y) }
     {
         match target {
             Some((target, shape)) if at < target => self.note(target, shape),

@@ -16,7 +16,9 @@ use std::alloc::AllocError;
 impl Pool {
     fn pop_run(&mut self, run: Run, stack: Stack) -> Result<Option<Stack>, AllocError>
         ensures grows { OnOk result (Grows self.old.nodes.keys self.new.nodes.keys) }
-        ensures taken { IfOk result (λ k. (ks : List flow.Kind) → Is self.old.nodes.keys stack (runs ks) → IsTaken self.new.nodes.keys k (run_kinds run) ks) }
+        ensures taken { IfOk result (λ k.
+            (ks : List flow.Kind) → Is self.old.nodes.keys stack (runs ks)
+            → IsTaken self.new.nodes.keys k (run_kinds run) ks) }
     {
         let below = self.pop(run.kind, run.count, stack)?;
         Ok(below)
@@ -25,7 +27,9 @@ impl Pool {
     /// The stack below what an instruction takes, if that stands uppermost.
     pub(crate) fn take(&mut self, takes: Takes, stack: Stack) -> Result<Option<Stack>, AllocError>
         ensures grows { OnOk result (Grows self.old.nodes.keys self.new.nodes.keys) }
-        ensures taken { IfOk result (λ k. (ks : List flow.Kind) → Is self.old.nodes.keys stack (runs ks) → IsTaken self.new.nodes.keys k (taken takes) ks) }
+        ensures taken { IfOk result (λ k.
+            (ks : List flow.Kind) → Is self.old.nodes.keys stack (runs ks)
+            → IsTaken self.new.nodes.keys k (taken takes) ks) }
     {
         let (first, second, third) = takes.runs();
         match self.pop_run(first, stack)? {
@@ -44,7 +48,9 @@ impl Pool {
         stack: Stack,
     ) -> Result<Option<Stack>, AllocError>
         ensures grows { OnOk result (Grows self.old.nodes.keys self.new.nodes.keys) }
-        ensures taken { IfOk result (λ k. (ks : List flow.Kind) → Is self.old.nodes.keys stack (runs ks) → IsTaken self.new.nodes.keys k (run_kinds upper ++ run_kinds lower) ks) }
+        ensures taken { IfOk result (λ k.
+            (ks : List flow.Kind) → Is self.old.nodes.keys stack (runs ks)
+            → IsTaken self.new.nodes.keys k (run_kinds upper ++ run_kinds lower) ks) }
     {
         match self.pop_run(upper, stack)? {
             None => Ok(None),
@@ -57,9 +63,12 @@ impl Pool {
 
     /// The stack with what an instruction leaves.
     pub(crate) fn leave(&mut self, leaves: Leaves, stack: Stack) -> Result<Stack, AllocError>
-        requires { (ks : List flow.Kind) × Is self.old.nodes.keys stack (runs ks) × (length ks < 2 ^ 31) }
+        requires { (ks : List flow.Kind) × Is self.old.nodes.keys stack (runs ks)
+            × (length ks < 2 ^ 31) }
         ensures grows { OnOk result (Grows self.old.nodes.keys self.new.nodes.keys) }
-        ensures left { IfOk result (λ k. (ks : List flow.Kind) → Is self.old.nodes.keys stack (runs ks) → Is self.new.nodes.keys k (runs (left leaves ++ ks))) }
+        ensures left { IfOk result (λ k.
+            (ks : List flow.Kind) → Is self.old.nodes.keys stack (runs ks)
+            → Is self.new.nodes.keys k (runs (left leaves ++ ks))) }
     {
         match leaves {
             Leaves::Nothing => Ok(stack),
@@ -72,9 +81,12 @@ impl Pool {
 
     /// With a name, and one of a kind on it.
     fn push_both(&mut self, kind: Kind, stack: Stack) -> Result<Stack, AllocError>
-        requires { (ks : List flow.Kind) × Is self.old.nodes.keys stack (runs ks) × (length ks < 2 ^ 31) }
+        requires { (ks : List flow.Kind) × Is self.old.nodes.keys stack (runs ks)
+            × (length ks < 2 ^ 31) }
         ensures grows { OnOk result (Grows self.old.nodes.keys self.new.nodes.keys) }
-        ensures pushed { IfOk result (λ k. (ks : List flow.Kind) → Is self.old.nodes.keys stack (runs ks) → Is self.new.nodes.keys k (runs (kind_of kind ∷ flow.N ∷ ks))) }
+        ensures pushed { IfOk result (λ k.
+            (ks : List flow.Kind) → Is self.old.nodes.keys stack (runs ks)
+            → Is self.new.nodes.keys k (runs (kind_of kind ∷ flow.N ∷ ks))) }
     {
         let name = self.push(Kind::Name, stack)?;
         let both = self.push(kind, name)?;
@@ -83,7 +95,8 @@ impl Pool {
 
     /// How many operands the newest handler keeps.
     pub(crate) fn floor(&self, handlers: Stack) -> u32
-        ensures { (hs : List Handler) → Is self.now.nodes.keys handlers (map top_of hs) → result ≡ floor_of hs }
+        ensures { (hs : List Handler) → Is self.now.nodes.keys handlers (map top_of hs)
+            → result ≡ floor_of hs }
     {
         match self.top(handlers) {
             Some(
@@ -98,7 +111,8 @@ impl Pool {
 
     /// Whether there is a value and nothing else.
     pub(crate) fn is_value(&self, stack: Stack) -> bool
-        ensures { (ks : List flow.Kind) → Is self.now.nodes.keys stack (runs ks) → Decides result (ks ≡ V ∷ []) }
+        ensures { (ks : List flow.Kind) → Is self.now.nodes.keys stack (runs ks)
+            → Decides result (ks ≡ V ∷ []) }
     {
         let (count, below) = self.run(Kind::Value, stack);
         if count == 1 { below.is_none() } else { false }

@@ -1,6 +1,7 @@
 //! Stacks of operands and of handlers, with equal numbers for equal stacks.
 
-ghost use Rattle.std.specs.Prelude.{◌≡◌, ◌<◌, ◌-◌, ◌^◌, List, [], ◌∷◌, length, IfOk, OnErr, OnOk, IfSome, IfNone, Some, None, option_map, slice_get};
+ghost use Rattle.std.specs.Prelude.{◌≡◌, ◌<◌, ◌-◌, ◌^◌, List, [], ◌∷◌, length, IfOk, OnErr, OnOk, IfSome};
+ghost use Rattle.std.specs.Prelude.{IfNone, Some, None, option_map, slice_get};
 ghost use Rattle.flow_check.specs.declared.pool.Top.{Top};
 ghost use Rattle.flow_check.specs.Numbers.{Is, Grows, AreBoth, node_at, run_length, below_run, popped};
 ghost use Rattle.flow_check.specs.Shapes.{kind_of, runs};
@@ -53,7 +54,8 @@ impl Pool {
     /// The number of the stack with one more on it.
     pub(crate) fn put(&mut self, top: Top, below: Stack) -> Result<Stack, AllocError>
         ensures grows { OnOk result (Grows self.old.nodes.keys self.new.nodes.keys) }
-        ensures put { IfOk result (λ k. node_at self.new.nodes.keys k ≡ Some (record { top = top; below = below })) }
+        ensures put { IfOk result (λ k.
+            node_at self.new.nodes.keys k ≡ Some (record { top = top; below = below })) }
     {
         let (index, _) = self.nodes.insert_full(Node { top, below })?;
         Ok(Some(index))
@@ -71,7 +73,9 @@ impl Pool {
 
     /// How many operands of a kind stand uppermost, and the stack below them.
     pub(crate) fn run(&self, kind: Kind, stack: Stack) -> (u32, Stack)
-        ensures { (ts : List Top) → Is self.now.nodes.keys stack ts → (result.0 ≡ run_length kind ts) × Is self.now.nodes.keys result.1 (below_run kind ts) }
+        ensures { (ts : List Top) → Is self.now.nodes.keys stack ts
+            → (result.0 ≡ run_length kind ts)
+            × Is self.now.nodes.keys result.1 (below_run kind ts) }
     {
         match self.top(stack) {
             Some(
@@ -86,9 +90,12 @@ impl Pool {
 
     /// The stack with one more operand.
     pub(crate) fn push(&mut self, kind: Kind, stack: Stack) -> Result<Stack, AllocError>
-        requires { (ks : List flow.Kind) × Is self.old.nodes.keys stack (runs ks) × (length ks < 2 ^ 32 - 1) }
+        requires { (ks : List flow.Kind) × Is self.old.nodes.keys stack (runs ks)
+            × (length ks < 2 ^ 32 - 1) }
         ensures grows { OnOk result (Grows self.old.nodes.keys self.new.nodes.keys) }
-        ensures pushed { IfOk result (λ k. (ks : List flow.Kind) → Is self.old.nodes.keys stack (runs ks) → Is self.new.nodes.keys k (runs (kind_of kind ∷ ks))) }
+        ensures pushed { IfOk result (λ k.
+            (ks : List flow.Kind) → Is self.old.nodes.keys stack (runs ks)
+            → Is self.new.nodes.keys k (runs (kind_of kind ∷ ks))) }
     {
         let (count, below) = self.run(kind, stack);
         let more = self.put(Top::Run(kind, count + 1), below)?;
@@ -103,7 +110,9 @@ impl Pool {
         stack: Stack,
     ) -> Result<Option<Stack>, AllocError>
         ensures grows { OnOk result (Grows self.old.nodes.keys self.new.nodes.keys) }
-        ensures popped { IfOk result (λ k. (ts : List Top) → Is self.old.nodes.keys stack ts → AreBoth self.new.nodes.keys k (popped kind count ts)) }
+        ensures popped { IfOk result (λ k.
+            (ts : List Top) → Is self.old.nodes.keys stack ts
+            → AreBoth self.new.nodes.keys k (popped kind count ts)) }
     {
         if count == 0 {
             return Ok(Some(stack));

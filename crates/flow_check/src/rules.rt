@@ -156,19 +156,3 @@ pub(crate) fn rule_for(instr: Instr) -> Rule
         Instr::Splice => Rule::Operate(Takes::ValueSpanName, Leaves::Nothing),
     }
 }
-
-/// How many bytes an instruction has.
-pub(crate) fn size(instr: Instr) -> u32
-    ensures { result ≡ bytes instr }
-{
-    match instr {
-        Instr::CallV(..) | Instr::CallN(..) => 7,
-        Instr::Int(_) => 9,
-        Instr::Begin(_) | Instr::Goto(_) | Instr::Str(_) | Instr::Var(_) => 5,
-        Instr::Expr(_) | Instr::Try(_) | Instr::Pat(_) => 5,
-        Instr::Elem(_) | Instr::PrimV(..) | Instr::PrimN(..) => 3,
-        Instr::Return(_) | Instr::KeyGet(_) | Instr::KeySet(_) => 2,
-        Instr::Sign(_) | Instr::Arith(_) => 2,
-        _ => 1,
-    }
-}

@@ -1,5 +1,6 @@
 -- Where each statement runs today, each instruction of the image runs yet, and no expression stays unevaluated.
 use Rattle.std.proofs.Common.{◌≡◌, ◌∙◌, refl, sym, ap, subst, ℕ, zero, suc, ◌+◌, List, [], ◌∷◌, ◌++◌, length, arith, Bool, true, false, ◌&&◌, Option, Some, None}
+use Rattle.std.proofs.lemmas.Bool.{and_parts}
 use Rattle.model.specs.declared.causes.StmtFault.{StmtFault}
 use Rattle.model.specs.declared.instr.Instr.{Instr}
 use Rattle.model.specs.declared.instr.Instr.TheVariants as op
@@ -54,10 +55,6 @@ both {p} {q} a b = record {
 -- a part and an instruction behind it
 ended : {p : Part} (i : Instr) → IsRunYet i → RunsYet p → RunsYet (p >> one i)
 ended i h a = both a (single i h)
-
-and_parts : (a b : Bool) → (a && b) ≡ true → (a ≡ true) × (b ≡ true)
-and_parts true b e = (refl, e)
-and_parts false b e = absurd (cc)
 
 -- two parts, which run each under a condition, and an instruction behind them
 two : {p q : Part} {a b : Bool} (i : Instr) → IsRunYet i → (a && b) ≡ true → (a ≡ true → RunsYet p) → (b ≡ true → RunsYet q) → RunsYet (p >> q >> one i)

@@ -4,6 +4,9 @@
 //! operands off, `fail` tells where a failure leads. A `Frame` is what waits for the code that runs. `Matching` is a match
 //! with what goes on after it: `advance` makes steps, `supply` answers.
 //!
+//!     operands.push(Operand::Value(value))?;
+//!     let value = pop_value(&mut operands);
+//!
 //! Promised: each call is its function on the definitions' lists, and a match makes as many steps of the machine as it
 //! tells. Popping asks that such an operand lies on top. CALLING.md has a row for each call.
 #![tactic(auto)]

@@ -3,6 +3,10 @@
 //! `Keywords::get` gives what a keyword holds, `set` assigns it as a statement does, `put` and `returned` change it as
 //! the machine itself does.
 //!
+//!     let mut keywords = Keywords::new(alloc)?;
+//!     keywords.set(KeyId::Trim, 0)?;
+//!     let trims = keywords.get(KeyId::Trim);
+//!
 //! Promised: each is its function on the table of keywords in `model`'s `Keywords`: what they hold at first, which are
 //! protected, and which values each takes. Only `new` takes memory.
 #![tactic(auto)]

@@ -2,6 +2,8 @@
 //!
 //! `lex(alloc, text)` gives the tokens, each with its kind, its bytes and the place where they stand in the text.
 //!
+//!     let tokens = lex(alloc, b"N = N + 1")?;
+//!
 //! Promised: they are the one cut of the text (`Cut` of `model`), blanks among them; a text is refused exactly where
 //! its pieces break one of L1 to L5, by the least, or for want of memory. The tokens are such as the parser asks for
 //! (`Lexed`).
@@ -26,7 +28,8 @@ use std::alloc::Global;
 // The tokens of the text, and what they break of L3 to L5.
 fn cut_text<'a>(alloc: Global, text: &'a [u8]) -> Result<(Vec<Token<'a>>, Limits), Cause>
     ensures tokens { IfOk result (λ p. AreTokens text.now p.0.items p.1) }
-    ensures cause { IfErr result (λ c. c ≢ cause.Memory → least_lexical (pieces text.now) ≡ Some c) }
+    ensures cause { IfErr result (λ c.
+        c ≢ cause.Memory → least_lexical (pieces text.now) ≡ Some c) }
 {
     let mut tokens = Vec::new(alloc);
     let mut limits = Limits::new();
@@ -60,7 +63,8 @@ pub fn lex(alloc: Global, text: &[u8]) -> Result<Vec<Token<'_>>, Cause>
     ensures spans { IfOk result (λ tokens. Spans 0 (length text.now) text.now tokens.items) }
     ensures fair { OnOk result (least_lexical (pieces text.now) ≡ None) }
     ensures lexed { IfOk result (λ tokens. Lexed tokens.items) }
-    ensures cause { IfErr result (λ c. c ≢ cause.Memory → least_lexical (pieces text.now) ≡ Some c) }
+    ensures cause { IfErr result (λ c.
+        c ≢ cause.Memory → least_lexical (pieces text.now) ≡ Some c) }
 {
     let (tokens, limits) = cut_text(alloc, text)?;
     match limits.least() {

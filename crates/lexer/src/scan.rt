@@ -59,7 +59,8 @@ fn digits(text: &[u8]) -> usize
 
 // What begins with this quote, where this is behind it.
 fn literal(quote: u8, text: &[u8]) -> Scanned
-    ensures { IsFound (quote ∷ text.now) result (quoted quote (front (cut.differs quote) text.now) (back (cut.differs quote) text.now)) }
+    ensures { IsFound (quote ∷ text.now) result
+        (quoted quote (front (cut.differs quote) text.now) (back (cut.differs quote) text.now)) }
 {
     match memchr(quote, text) {
         Some(inner) => Scanned::Token(TokenKind::Literal, inner + 2),

@@ -3,6 +3,9 @@
 //! `load(alloc, bytes)` gives a `Module` or the fault that is told: F1 to F7 of the bytes, W1 to W5 of the image. A
 //! module is read by place (`at`), by number (`statement`, `string`, ..) and by name (`label`).
 //!
+//!     let module = load(alloc, &bytes)?;
+//!     let first = module.entry();
+//!
 //! Promised: bytes are accepted exactly if they spell a well-formed image of instructions that run yet (`runs_yet`),
 //! want of memory aside; else the one defined fault is told. So a `Module` is well-formed by its type. CALLING.md has
 //! the clauses.

@@ -21,6 +21,7 @@ use Rattle.machine_laws.specs.InRange.{InstrIn, CodeIn, StateIn, ModuleIn}
 use Rattle.machine_laws.proofs.Lists.{IfThere, choice_in}
 use Rattle.machine_laws.proofs.OperationsIn.{first_in}
 use Rattle.machine_laws.proofs.MachineIn.{begun_in, steps_in, asks_in}
+use Rattle.machine_laws.proofs.Complete.{rule_none, told_none}
 
 -- ---- patterns of an image ask for nothing
 
@@ -72,14 +73,6 @@ first_right : {A : Type 0} (x y : Option A) → first x y ≡ None → y ≡ Non
 first_right None y e = e
 first_right (Some a) y e = cc
 
-untold : (at : ℕ) (o : Option ModuleRule) → told at o ≡ None → o ≡ None
-untold at None e = refl
-untold at (Some r) e = cc
-
-kept : (r : ModuleRule) (b : Bool) → rule r b ≡ None → b ≡ true
-kept r true e = refl
-kept r false e = cc
-
 module _ (im : Image) where
   abbrev Fits : Fetched → Type 0
   Fits Nowhere = Unit {0}
@@ -87,7 +80,7 @@ module _ (im : Image) where
 
   instr_fits : (front : List Instr) (place : ℕ) (i : Instr) → instr_fault im front place i ≡ None → indices_fit im i ≡ true
   instr_fits front place i e =
-      kept BadIndex (indices_fit im i) (first_left (rule BadIndex (indices_fit im i)) _ (untold place (instr_rule im (total front) (total front + bytes i) i) e))
+      rule_none BadIndex (indices_fit im i) (first_left (rule BadIndex (indices_fit im i)) _ (told_none place (instr_rule im (total front) (total front + bytes i) i) e))
 
   each_fits : (front : List Instr) (place : ℕ) (is : List Instr) (o at : ℕ) → scan (instr_fault im) bytes front place is ≡ None → Fits (fetch_from o is at)
   each_fits front place [] o at e = tt

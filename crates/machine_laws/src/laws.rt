@@ -1,7 +1,12 @@
-//! The laws of numbers of unevaluated expressions, and of where the states of a run stand. Each function does nothing; its
-//! contract states laws.
+//! The laws of numbers of unevaluated expressions, and of where the states of a run stand. Each function does nothing;
+//! its contract states laws.
 
-ghost use Rattle.machine_laws.specs.MachineLaws.{SearchesStayIn, SuppliedStayIn, AskedAreIn, FirstWorldsAreIn, BegunAreIn, StepsStayIn, NextAskedAreIn, NoneAsked, ImagesAreIn, WellFormedAreIn, AskedAreThere, RunsAskForWhatIsThere, WellFormedAreComplete, BegunStand, StepsStand, ActsStand, InstructionsAreThere, NeedsAreThere, StandingAreNotStuck, NeverStuck};
+ghost use Rattle.machine_laws.specs.MachineLaws.{SearchesStayIn, SuppliedStayIn, AskedAreIn};
+ghost use Rattle.machine_laws.specs.MachineLaws.{FirstWorldsAreIn, BegunAreIn, StepsStayIn, NextAskedAreIn};
+ghost use Rattle.machine_laws.specs.MachineLaws.{NoneAsked, ImagesAreIn, WellFormedAreIn, AskedAreThere};
+ghost use Rattle.machine_laws.specs.MachineLaws.{RunsAskForWhatIsThere, WellFormedAreComplete, BegunStand};
+ghost use Rattle.machine_laws.specs.MachineLaws.{StepsStand, ActsStand, InstructionsAreThere, NeedsAreThere};
+ghost use Rattle.machine_laws.specs.MachineLaws.{StandingAreNotStuck, NeverStuck};
 
 /// A search whose code, choices and answers ask only for expressions below a number asks only for such.
 pub fn searches_stay_in_range()
@@ -10,7 +15,8 @@ pub fn searches_stay_in_range()
     ensures asked { AskedAreIn }
 {}
 
-/// The machine, begun with expressions below a number, on a module that gives such alone, keeps and asks for such alone.
+/// The machine, begun with expressions below a number, on a module that gives such alone, keeps and asks for such
+/// alone.
 pub fn expressions_stay_in_range()
     ensures first { FirstWorldsAreIn }
     ensures begun { BegunAreIn }

@@ -4,7 +4,10 @@
 //! what it needs. The others say that the numbers of unevaluated expressions stay in range, so that what a match asks
 //! for is there.
 //!
-//! They hold for the whole table of instructions. CALLING.md tells which clause or lemma leads from what to what.
+//!     never_stuck();
+//!
+//! Promised: the laws hold for the whole table of instructions. CALLING.md tells which clause or lemma leads from what
+//! to what.
 #![tactic(auto)]
 
 mod laws;

@@ -3,6 +3,7 @@ use Rattle.std.proofs.Common.{◌≡◌, refl, sym, ◌∙◌, ap, subst, ℕ, z
 use Rattle.std.specs.Prelude.{Option, Some, None, if◌then◌else◌}
 use Rattle.std.proofs.lemmas.Bool.{cases_Bool}
 use Rattle.std.proofs.lemmas.Bool.Decides.{nat_tests}
+use Rattle.std.proofs.lemmas.Bool.{and_parts}
 use Rattle.model.specs.declared.tokens.Mark.{Mark}
 use Rattle.model.specs.declared.tokens.Mark.TheVariants as mark
 use Rattle.model.specs.declared.tokens.TokenKind.{TokenKind}
@@ -37,14 +38,6 @@ back_none p (b ∷ bs) (x ∷ xs) c cs e s h = elim (cases_Bool (p b)) [
   | inr k ↦ (let g : b ∷ bs ≡ [] = rw k at e in cc)
 ]
 
-and_left : (a b : Bool) → (a && b) ≡ true → a ≡ true
-and_left true b h = refl
-and_left false b h = h
-
-and_right : (a b : Bool) → (a && b) ≡ true → b ≡ true
-and_right true b h = h
-and_right false b h = absurd (cc)
-
 -- bytes that pass, at the front of a text, are no more than its front
 front_longest : (p : ℕ → Bool) (text xs more : List ℕ) → all p xs ≡ true → text ≡ xs ++ more → length xs ≤ length (front p text)
 front_longest p text [] more h e = omega arith
@@ -52,8 +45,8 @@ front_longest p [] (x ∷ xs) more h e = absurd (cc)
 front_longest p (b ∷ bs) (x ∷ xs) more h e =
     let same : b ≡ x = cc in
     let rest : bs ≡ xs ++ more = cc in
-    let hit : p b ≡ true = ap p same ∙ and_left (p x) (all p xs) h in
-    let below = front_longest p bs xs more (and_right (p x) (all p xs) h) rest in
+    let hit : p b ≡ true = ap p same ∙ (and_parts (p x) (all p xs) h).0 in
+    let below = front_longest p bs xs more (and_parts (p x) (all p xs) h).1 rest in
     rw hit (omega arith)
 
 -- ---- the kind of a token, by the class of its first byte and what follows

@@ -3,6 +3,7 @@ use Rattle.std.proofs.Common.{◌≡◌, refl, sym, ◌∙◌, ap, subst, ℕ, �
 use Rattle.std.specs.Prelude.{⊤, Option, Some, None, Ok, codes}
 use Rattle.std.proofs.lemmas.Bool.{cases_Bool}
 use Rattle.std.proofs.lemmas.Bool.Decides.{nat_tests}
+use Rattle.std.proofs.lemmas.Bool.{and_parts}
 use Rattle.model.specs.declared.cards.Statement.{Statement}
 use Rattle.model.specs.declared.causes.Cause.TheVariants as cause
 use Rattle.model.specs.declared.tokens.TokenKind.TheVariants as kind
@@ -72,10 +73,6 @@ record Behind (word text : List ℕ) : Type 0 where
   pub rest : List ℕ
   pub is : text ≡ word ++ rest
   pub ends : Ends rest
-
-and_parts : (a b : Bool) → (a && b) ≡ true → (a ≡ true) × (b ≡ true)
-and_parts true b h = (refl, h)
-and_parts false b h = absurd (cc)
 
 word_parts : (word text : List ℕ) → is_word_first word text ≡ true → Behind word text
 word_parts [] [] h = record { rest = []; is = refl; ends = tt }

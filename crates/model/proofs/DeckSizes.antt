@@ -180,14 +180,14 @@ short_pieces (p ∷ ps) h = elim (if_is (nat_lt 4000 (length p)) (fault (first_c
 abbrev on_statements : List Statement → ℕ
 on_statements ss = total (λ s. length s.text) ss
 
-length-bytes : (p : List Column) → length (bytes p) ≡ length p
+pub length-bytes : (p : List Column) → length (bytes p) ≡ length p
 length-bytes p = length-map p (λ c. c.byte)
 
 statements_total : (n : ℕ) (ps : List (List Column)) → on_statements (statements_from n ps) ≡ total length ps
 statements_total n [] = refl
 statements_total n (p ∷ ps) = let more = statements_total (n + 1) ps in omega (arith, length-bytes p)
 
-statements_count : (n : ℕ) (ps : List (List Column)) → length (statements_from n ps) ≡ length ps
+pub statements_count : (n : ℕ) (ps : List (List Column)) → length (statements_from n ps) ≡ length ps
 statements_count n [] = refl
 statements_count n (p ∷ ps) = ap suc (statements_count (n + 1) ps)
 

@@ -4,6 +4,7 @@ use Rattle.std.proofs.lemmas.Bool.Decides.{Decides-ltb}
 use Rattle.std.specs.Int.{w64}
 use Rattle.std.specs.Char.{digit_value}
 use Rattle.std.specs.Str.Parse.{AllDigits, IsNumeral, without_leading_sign, signed_digits_value}
+use Rattle.std.proofs.lemmas.Bool.{and_parts}
 use Rattle.model.specs.declared.run.ErrorCode.TheVariants as error
 use Rattle.model.specs.Trees.{Bytes}
 use Rattle.model.specs.Conversions.{Conv, Got, Bad, all_digits, is_numeral, in_range, fit}
@@ -33,14 +34,6 @@ faults_beyond e z h = go (in_range z) refl
 
 and_true : (a b : Bool) → a ≡ true → b ≡ true → (a && b) ≡ true
 and_true a b h k = ap (λ a. a && b) h ∙ k
-
-left_true : (a b : Bool) → (a && b) ≡ true → a ≡ true
-left_true true b h = refl
-left_true false b h = h
-
-right_true : (a b : Bool) → (a && b) ≡ true → b ≡ true
-right_true true b h = h
-right_true false b h = absurd (subst IsNo h tt)
   where
     IsNo : Bool → Type 0
     IsNo true = ⊥
@@ -52,7 +45,7 @@ digits_are (b ∷ bs) (lt, h) = and_true (nat_lt (digit_value b) 10) (all_digits
 
 are_digits : (bs : Bytes) → all_digits bs ≡ true → AllDigits 10 bs
 are_digits [] h = tt
-are_digits (b ∷ bs) h = ((Decides-ltb (digit_value b) 10).0 (left_true (nat_lt (digit_value b) 10) (all_digits bs) h), are_digits bs (right_true (nat_lt (digit_value b) 10) (all_digits bs) h))
+are_digits (b ∷ bs) h = ((Decides-ltb (digit_value b) 10).0 ((and_parts (nat_lt (digit_value b) 10) (all_digits bs) h).0), are_digits bs ((and_parts (nat_lt (digit_value b) 10) (all_digits bs) h).1))
 
 numeral_is : (bs : Bytes) → IsNumeral 10 bs → is_numeral bs ≡ true
 numeral_is [] (lt, h) = absurd (omega arith)

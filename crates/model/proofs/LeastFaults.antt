@@ -15,6 +15,7 @@ use Rattle.model.specs.Modules.{bytes, total}
 use Rattle.model.specs.Flow.{BreaksFlow, IsLeast}
 use Rattle.model.specs.WellFormed.{first, rule, told, scan, entry_at, labels_at, statements_at, expressions_at, patterns_at, code_at, entry_rule, label_rule, statement_rule, expression_rule, pat_rule, pat_bytes, pattern_bytes, pattern_fault, instr_fault, part_fault, indices_fit, place_fits, is_last_instr, is_end, begins_last, number_of, comes_first, lesser, flow_fault}
 use Rattle.model.specs.LeastFaults.{IsAt, Among, InInstr, InPattern, Has, InEntry, InLabels, InStatements, InExpressions, InPatterns, InCode, InFlow, NotAfter, IsLeastOf, LeastIsTold, OneIsTold, WellFormedHasNone, NoneIsWellFormed}
+use Rattle.model.proofs.CodeBytes.{some_bytes}
 
 abbrev Faults : Type 1
 Faults = ModuleFault → Type 0
@@ -141,10 +142,6 @@ module _ {A : Type 0} (k : ℕ) (some : 0 < k) (broken : List A → A → Option
       least_among (λ front place x. told place (broken front x)) (λ x. k) (λ front place x. IsAt place (broken front x)) (λ front place x. least_at place (broken front x)) (λ front place x. within_at place k (broken front x) some) at xs
 
 -- ---- the parts of an image
-
-some_bytes : (i : Instr) → 0 < bytes i
-some_bytes op.End = omega arith
-some_bytes _ = omega arith
 
 some_pat_bytes : (i : PatInstr) → 0 < pat_bytes i
 some_pat_bytes (pats.Len n) = omega arith

@@ -2,6 +2,7 @@
 use Rattle.std.proofs.Common.{◌≡◌, refl, sym, ◌∙◌, ap, subst, ℕ, ◌≤◌, ◌||◌, Bool, true, false, List, [], ◌∷◌, map, arith}
 use Rattle.std.proofs.lemmas.Bool.Decides.{nat_tests}
 use Rattle.std.specs.Prelude.{Some, None, if◌then◌else◌, nat_lt}
+use Rattle.std.proofs.lemmas.Bool.{or_parts}
 use Rattle.model.specs.declared.tokens.Token.{Token}
 use Rattle.model.specs.declared.tokens.TokenKind.{TokenKind}
 use Rattle.model.specs.declared.tokens.TokenKind.TheVariants as kind
@@ -34,13 +35,9 @@ third false true c d e v w x y z h = absurd (cc)
 third false false true d e v w x y z h = absurd (cc)
 third false false false d e v w x y z h = refl
 
-none_large : (ps : List Piece) → least_lexical ps ≡ None → has is_too_large ps ≡ false
+pub none_large : (ps : List Piece) → least_lexical ps ≡ None → has is_too_large ps ≡ false
 unfolding least_lexical
 none_large ps h = third (has is_stray ps) (has is_unclosed ps) (has is_too_large ps) (opens_too_many 0 ps) (rows_too_many 0 ps) _ _ _ _ _ h
-
-neither : (a b : Bool) → (a || b) ≡ false → (a ≡ false) × (b ≡ false)
-neither true b h = absurd (cc)
-neither false b h = (refl, h)
 
 fits : (k : TokenKind) (text : List ℕ) → is_too_large (cut.Token k text) ≡ false → k ≡ kind.Integer → value text ≤ 9223372036854775807
 fits k text h e =
@@ -50,7 +47,7 @@ fits k text h e =
 all_lexed : (ts : List Token) (text : List ℕ) → Cut text (map piece_of ts) → has is_too_large (map piece_of ts) ≡ false → Lexed ts
 all_lexed [] text c h = tt
 all_lexed (t ∷ ts) text c h =
-    let n = neither (is_too_large (piece_of t)) (has is_too_large (map piece_of ts)) h in
+    let n = or_parts (is_too_large (piece_of t)) (has is_too_large (map piece_of ts)) h in
     (record { token = first_good text (piece_of t) c.0; small = fits t.kind t.text.now n.0 }, all_lexed ts c.1.0 c.1.2 n.1)
 
 pub lexed : (ts : List Token) (text : List ℕ) → Cut text (map piece_of ts) → least_lexical (pieces text) ≡ None → Lexed ts

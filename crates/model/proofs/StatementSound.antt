@@ -2,6 +2,7 @@
 use Rattle.std.proofs.Common.{◌≡◌, refl, sym, ◌∙◌, ap, subst, ℕ, ◌&&◌, inl, inr, Bool, true, false, List, [], ◌∷◌, ◌++◌, length, append-nil}
 use Rattle.std.specs.Prelude.{Option, Some, None}
 use Rattle.std.proofs.lemmas.Slice.Eq.{bytes_eq-Decides}
+use Rattle.std.proofs.lemmas.Bool.{and_parts}
 use Rattle.model.specs.declared.tokens.Mark.{Mark}
 use Rattle.model.specs.declared.tokens.Mark.TheVariants as mark
 use Rattle.model.specs.Tokens.{Tok, Blank, Word, Digits, Quoted, Sign}
@@ -15,10 +16,6 @@ use Rattle.model.proofs.ParseSteps.{bind_some, some_same, if_is, Wanted, opening
 use Rattle.model.proofs.ParseSound.{Front, conclude_as, join2, join3, closed, elements_sound, whole_sound}
 
 -- ---- what comes next
-and_true : (a b : Bool) → (a && b) ≡ true → (a ≡ true) × (b ≡ true)
-and_true true b h = (refl, h)
-and_true false b h = absurd (cc)
-
 blank_is : (t : Tok) → is_blank t ≡ true → t ≡ Blank
 blank_is Blank h = refl
 blank_is _ h = absurd (cc)
@@ -27,13 +24,13 @@ sees_spaced_is : (m : Mark) → Wanted m → (ts : List Tok) → sees_spaced m t
 unfolding sees_spaced
 sees_spaced_is m w [] h = absurd (cc)
 sees_spaced_is m w (t ∷ ts) h =
-    let b = and_true (is_blank t) (sees m ts) h in
+    let b = and_parts (is_blank t) (sees m ts) h in
     ap (λ x. x ∷ ts) (blank_is t b.0) ∙ ap (λ x. Blank ∷ x) (sees_is m w ts b.1)
 
 starts_spaced_is : (ts : List Tok) → starts_spaced ts ≡ true → ts ≡ Blank ∷ tail ts
 unfolding starts_spaced
 starts_spaced_is [] h = absurd (cc)
-starts_spaced_is (t ∷ ts) h = ap (λ x. x ∷ ts) (blank_is t (and_true (is_blank t) (starts ts) h).0)
+starts_spaced_is (t ∷ ts) h = ap (λ x. x ∷ ts) (blank_is t (and_parts (is_blank t) (starts ts) h).0)
 
 sees_word_is : (w : Bytes) (ts : List Tok) → sees_word w ts ≡ true → ts ≡ Word w ∷ tail ts
 unfolding sees_word
@@ -54,7 +51,7 @@ word_spaced_is : (ts : List Tok) → word_spaced ts ≡ true → (l : Bytes) × 
 unfolding word_spaced
 word_spaced_is [] h = absurd (cc)
 word_spaced_is (t ∷ ts) h =
-    let b = and_true (is_blank t) (starts_word ts) h in
+    let b = and_parts (is_blank t) (starts_word ts) h in
     let w = word_is_next ts b.1 in
     (w.0, ap (λ x. x ∷ ts) (blank_is t b.0) ∙ ap (λ x. Blank ∷ x) w.1)
 

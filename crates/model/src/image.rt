@@ -42,7 +42,8 @@ pub struct Label {
     pub statement: u32,
 }
 
-/// A module before it is spelt as bytes. Offsets count bytes of the code, numbers of statements begin at 1, others at 0.
+/// A module before it is spelt as bytes. Offsets count bytes of the code, numbers of statements begin at 1, others at
+/// 0.
 pub struct Image {
     /// The number of the first statement to run.
     pub entry: u32,

@@ -1,5 +1,9 @@
 //! The instructions of a module.
 
+ghost use Rattle.std.specs.Prelude.{◌≡◌};
+ghost use Rattle.model.specs.Calls.{return_of};
+ghost use Rattle.model.specs.Modules.{bytes};
+
 use crate::keys::KeyId;
 use crate::primitives::PrimId;
 
@@ -12,6 +16,23 @@ pub enum ReturnKind {
     FReturn,
     /// With the name that the value of the variable of its name converts to.
     NReturn,
+}
+
+impl ReturnKind {
+    /// How a label of this name leaves a function, if it does.
+    pub fn named(name: &[u8]) -> Option<ReturnKind>
+        ensures { result ≡ return_of name.now }
+    {
+        if name == b"RETURN".as_slice() {
+            Some(ReturnKind::Return)
+        } else if name == b"FRETURN".as_slice() {
+            Some(ReturnKind::FReturn)
+        } else if name == b"NRETURN".as_slice() {
+            Some(ReturnKind::NReturn)
+        } else {
+            None
+        }
+    }
 }
 
 /// A sign before an integer.
@@ -115,4 +136,22 @@ pub enum Instr {
     Splice,
     /// The end of an unevaluated expression.
     Ret,
+}
+
+impl Instr {
+    /// How many bytes it has in a module.
+    pub fn size(self) -> u32
+        ensures { result ≡ bytes self }
+    {
+        match self {
+            Instr::Int(_) => 9,
+            Instr::CallV(..) | Instr::CallN(..) => 7,
+            Instr::Begin(_) | Instr::Goto(_) | Instr::Str(_) | Instr::Var(_) => 5,
+            Instr::Expr(_) | Instr::Try(_) | Instr::Pat(_) => 5,
+            Instr::Elem(_) | Instr::PrimV(..) | Instr::PrimN(..) => 3,
+            Instr::Return(_) | Instr::KeyGet(_) | Instr::KeySet(_) => 2,
+            Instr::Sign(_) | Instr::Arith(_) => 2,
+            _ => 1,
+        }
+    }
 }

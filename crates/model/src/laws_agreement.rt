@@ -1,4 +1,5 @@
-//! The laws of the meaning and of the machine. Each function does nothing; its contract states a law, and who calls it may use the law.
+//! The laws of the meaning and of the machine. Each function does nothing; its contract states a law, and who calls it
+//! may use the law.
 
 ghost use Rattle.model.specs.Agreement.{AgreesWherePlaced, EndingStays, PrintedGrows};
 ghost use Rattle.model.specs.PrintedBefore.{RunsAfter};
@@ -16,8 +17,8 @@ pub fn runs_add_to_what_was_printed()
     ensures { RunsAfter }
 {}
 
-/// Where a deck's meaning ends having used r rules, a module that does what the deck does has ended so after any 7 * (r + 1)
-/// steps or more.
+/// Where a deck's meaning ends having used r rules, a module that does what the deck does has ended so after any 7 * (r
+/// + 1) steps or more.
 pub fn run_steps_are_bounded()
     ensures { RunStepsBounded }
 {}

@@ -11,7 +11,8 @@ pub fn least_fault_is_told()
     ensures one { OneIsTold }
 {}
 
-/// The worked cases of well-formedness: the first fault of the parts of each image, and where the flow is kept or broken.
+/// The worked cases of well-formedness: the first fault of the parts of each image, and where the flow is kept or
+/// broken.
 pub fn worked_images()
     ensures parts { PartsMeetCases }
     ensures flow { FlowRows }

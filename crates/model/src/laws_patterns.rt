@@ -1,9 +1,14 @@
 //! The laws of patterns. Each function does nothing; its contract states a law, and who calls it may use the law.
 
-ghost use Rattle.model.specs.PatternLaws.{EndsGrow, SearchStays, ScanStays, EndsPermitted, StepsOfScan, ScanOfSteps, ScanOfFirst, FirstOfScan, AnswersComeLater, StepsAreSound, LiteralsScanned, LiteralScansRight, LiteralsRun, LiteralRunsRight};
-ghost use Rattle.model.specs.MatchStates.{StatesAnswerAsScan, StatesAnswerFirstEnd, StatesAnswerLiterals, StatesCome, StepsLeadOn, AnswersLeadOn};
+ghost use Rattle.model.specs.PatternLaws.{EndsGrow, SearchStays, ScanStays, EndsPermitted, StepsOfScan};
+ghost use Rattle.model.specs.PatternLaws.{ScanOfSteps, ScanOfFirst, FirstOfScan, AnswersComeLater};
+ghost use Rattle.model.specs.PatternLaws.{StepsAreSound, LiteralsScanned, LiteralScansRight, LiteralsRun};
+ghost use Rattle.model.specs.PatternLaws.{LiteralRunsRight};
+ghost use Rattle.model.specs.MatchStates.{StatesAnswerAsScan, StatesAnswerFirstEnd, StatesAnswerLiterals};
+ghost use Rattle.model.specs.MatchStates.{StatesCome, StepsLeadOn, AnswersLeadOn};
 ghost use Rattle.model.specs.StepBound.{PatternStepsBounded, PatternStepsOnBounded};
-ghost use Rattle.model.specs.PatternCases.{ScansMeetCases, StepsMeetCases, ScansMeetQuestions, StepsMeetQuestions, NestedEnds};
+ghost use Rattle.model.specs.PatternCases.{ScansMeetCases, StepsMeetCases, ScansMeetQuestions};
+ghost use Rattle.model.specs.PatternCases.{StepsMeetQuestions, NestedEnds};
 
 /// What is answered at a bound stays at each greater one.
 pub fn answers_stay()
@@ -23,8 +28,8 @@ pub fn code_means_its_pattern()
     ensures scans { ScanOfSteps }
 {}
 
-/// Code that stands for a pattern comes to each event of its scan within four pattern steps, since the match's start, for
-/// each rule that the scan uses under the answers given so far.
+/// Code that stands for a pattern comes to each event of its scan within four pattern steps, since the match's start,
+/// for each rule that the scan uses under the answers given so far.
 pub fn pattern_steps_are_bounded()
     ensures from_start { PatternStepsBounded }
     ensures from_there { PatternStepsOnBounded }
@@ -60,8 +65,8 @@ pub fn literals_are_matched()
     ensures right { LiteralRunsRight }
 {}
 
-/// At each state of a match, further steps come to the events of the pattern's scan, to its first end if it is plain, and
-/// to a right answer if it is of literals, `|` and blank.
+/// At each state of a match, further steps come to the events of the pattern's scan, to its first end if it is plain,
+/// and to a right answer if it is of literals, `|` and blank.
 pub fn match_states_answer()
     ensures scan { StatesAnswerAsScan }
     ensures first_end { StatesAnswerFirstEnd }

@@ -5,6 +5,9 @@
 //! that does nothing; `agreement` is the main one: a program's meaning and the machine agree wherever its code is
 //! placed.
 //!
+//!     let id = PrimId::named(b"SIZE");
+//!
+//! Promised: the definitions are the language's, and the laws say of them what the layers above rest on.
 //! Whoever checks what is promised reads `specs/`; docs/language.md and docs/module-format.md lead to each file.
 #![tactic(auto)]
 

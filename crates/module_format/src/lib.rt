@@ -3,6 +3,9 @@
 //! `write_image(alloc, &image)` gives the bytes, `read_image(alloc, bytes)` the image or the first fault and its
 //! offset.
 //!
+//!     let bytes = write_image(alloc, &image)?;
+//!     let same = read_image(alloc, &bytes)?;
+//!
 //! Promised: what is written is the image's one spelling (`model`'s `Spelling`); bytes are read exactly where they
 //! spell an image, and else the defined fault F1 to F6 is told at its offset; F7 says that a growth of memory was
 //! refused. Nothing is reserved for a count before it is checked. Whether an image is well-formed is not asked here,

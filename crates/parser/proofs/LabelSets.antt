@@ -7,6 +7,7 @@ use Rattle.std.specs.Prelude.{Result, Ok, Err, OnOk}
 use Rattle.std.specs.declared.alloc.AllocError.{AllocError}
 use Rattle.std.proofs.lemmas.List.{map-append}
 use Rattle.std.proofs.lemmas.Slice.Eq.{bytes_eq-Decides}
+use Rattle.std.proofs.Math.Bool.{or-false, or_assoc}
 use Rattle.model.specs.declared.causes.Cause.{Cause}
 use Rattle.model.specs.Faults.{is_among, is_taken, entry_given, rule_broken, cause_of, returns, label_given, throughout, call_fits, keyword_known, targets_fit}
 use Rattle.model.specs.declared.causes.Cause.TheVariants as cause
@@ -31,23 +32,15 @@ key_put k keys =
       | false ↦ map-append (λ (x : Bor Bytes). x.now) keys (k ∷ [])
     ]
 
-or_assoc : (a b c : Bool) → ((a || b) || c) ≡ (a || (b || c))
-or_assoc true b c = refl
-or_assoc false b c = refl
-
 among_both : (l : Bytes) (xs ys : List Bytes) → is_among l (xs ++ ys) ≡ (is_among l xs || is_among l ys)
 among_both l [] ys = refl
 among_both l (x ∷ xs) ys = ap (λ b. bytes_eq l x || b) (among_both l xs ys) ∙ sym (or_assoc (bytes_eq l x) (is_among l xs) (is_among l ys))
-
-or_false : (b : Bool) → (b || false) ≡ b
-or_false true = refl
-or_false false = refl
 
 -- a label that is there changes nothing
 there_still : (x l : Bytes) (ls : List Bytes) → is_among l ls ≡ true → is_among x ls ≡ (is_among x ls || (bytes_eq x l || false))
 there_still x l ls there = elim (bytes_eq x l) as (λ b. (bytes_eq x l ≡ b) → is_among x ls ≡ (is_among x ls || (b || false))) [
   | true ↦ λ e. let same : x ≡ l = (bytes_eq-Decides x l).0 e in let among : is_among x ls ≡ true = ap (λ y. is_among y ls) same ∙ there in rw among refl
-  | false ↦ λ _. sym (or_false (is_among x ls))
+  | false ↦ λ _. sym (or-false (is_among x ls))
 ] refl
 
 pub put_same : (l : Bytes) (old ls : List Bytes) → AreSame old ls → AreSame (with_label old l) (ls ++ l ∷ [])

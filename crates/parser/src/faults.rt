@@ -43,7 +43,8 @@ fn tell(faults: &mut Seq<StmtFault>, number: u32, cause: Option<Cause>) -> Resul
 
 /// The faulty ones of these statements, in order.
 pub(crate) fn faults(alloc: Global, reads: &[Read]) -> Result<Seq<StmtFault>, AllocError>
-    ensures { IfOk result (λ fs. fs ≡ faults_of [] (labels_of (map shown reads.now)) (map shown reads.now)) }
+    ensures { IfOk result (λ fs.
+        fs ≡ faults_of [] (labels_of (map shown reads.now)) (map shown reads.now)) }
 {
     let all = labels(alloc, reads)?;
     let mut earlier = Labels::new(alloc);

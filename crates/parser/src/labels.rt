@@ -31,7 +31,8 @@ impl<'a> Model for Labels<'a> {
 
 /// The label that a statement gives.
 pub(crate) fn label_given(statement: &Stmt) -> Option<&[u8]>
-    ensures { option_to_list (option_map (λ l. l.now) result) ≡ faults.label_given (stmt_of statement.now) }
+    ensures { option_to_list (option_map (λ l. l.now) result)
+        ≡ faults.label_given (stmt_of statement.now) }
 {
     match statement {
         Stmt::Plain {
@@ -63,7 +64,9 @@ impl<'a> Labels<'a> {
 
     /// Puts the label that a statement with a tree gives.
     pub(crate) fn insert_given(&mut self, tree: &'a Result<Stmt, Cause>) -> Result<(), AllocError>
-        ensures { OnOk result ((ls : List Bytes) → AreSame self.old ls → AreSame self.new (ls ++ faults.labels_of_read (result_of tree.now))) }
+        ensures { OnOk result
+            ((ls : List Bytes) → AreSame self.old ls
+            → AreSame self.new (ls ++ faults.labels_of_read (result_of tree.now))) }
     {
         match tree {
             Ok(statement) => match label_given(statement) {

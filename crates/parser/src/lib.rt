@@ -3,6 +3,9 @@
 //! `parse_deck(alloc, &deck)` cuts each statement into tokens, reads its tree, and asks the rules of whole decks:
 //! labels, arguments, keywords, targets, the entry label.
 //!
+//!     let deck = read_deck(alloc, bytes)?;
+//!     let program = parse_deck(alloc, &deck)?;
+//!
 //! Promised: the trees exactly where the definitions accept the deck; else all faulty statements in order, each with
 //! its least cause, L1 to L5 or P1 to P6. Want of memory is an answer of its own.
 #![tactic(auto)]

@@ -103,7 +103,8 @@ fn is_return(label: &[u8]) -> bool
 
 // Whether a label is one that returns have, or an earlier statement gives it.
 fn is_taken(label: Option<&[u8]>, earlier: &Labels<'_>) -> bool
-    ensures { result ≡ faults.is_taken earlier.now (option_to_list (option_map (λ l. l.now) label.entry)) }
+    ensures { result ≡ faults.is_taken earlier.now
+        (option_to_list (option_map (λ l. l.now) label.entry)) }
 {
     match label {
         Some(label) => is_return(label) || earlier.contains(label),

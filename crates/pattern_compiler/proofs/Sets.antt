@@ -62,12 +62,12 @@ agrees a b e = grind (arith, nat_tests, e)
 pub first_of_byte : (a : ℕ) (xs : List ℕ) (o : Option ℕ) → IsFirstByte (is_byte a) xs o → number_or (length xs) o ≡ prefix_len (λ b. not (is_among (a ∷ []) b)) xs
 first_of_byte a xs (Some k) h =
     sym (prefix_len_is (λ b. not (is_among (a ∷ []) b)) xs k 0 (omega (arith, h.0.high))
-      (λ j lt. differs a (get_or xs j 0) (h.0.before j (omega arith) lt))
-      (λ lt. agrees a (get_or xs k 0) h.1))
+    (λ j lt. differs a (get_or xs j 0) (h.0.before j (omega arith) lt))
+    (λ lt. agrees a (get_or xs k 0) h.1))
 first_of_byte a xs None h =
     sym (prefix_len_is (λ b. not (is_among (a ∷ []) b)) xs (length xs) 0 (omega arith)
-      (λ j lt. differs a (get_or xs j 0) (h j (omega arith) lt))
-      (λ lt. absurd (omega arith)))
+    (λ j lt. differs a (get_or xs j 0) (h j (omega arith) lt))
+    (λ lt. absurd (omega arith)))
 
 pub at_some : {T : Type 0} (o : Option T) (t : T) (P : T → Type 0) → o ≡ Some t → IfSome o P → P t
 at_some o t P e h = subst (λ p. IfSome p P) e h

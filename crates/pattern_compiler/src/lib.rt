@@ -4,6 +4,9 @@
 //! and `imm` join codes, and `get` gives an instruction by its place.
 //! `Set` is a set of bytes: a table that is made once where the pattern is made, and that the clones of its code share.
 //!
+//!     let letter = PatCode::lit(alloc, &text)?;
+//!     let letters = PatCode::arbno(alloc, &letter)?;
+//!
 //! Promised: if the parts' code stands for their patterns (`model`'s `Stands`), the result stands for the joined
 //! pattern; refused by want of memory alone.
 #![tactic(auto)]

@@ -2,3 +2,4 @@ pub mod KindParts
 pub mod Order
 pub mod Arguments
 pub mod Values
+pub mod Associations

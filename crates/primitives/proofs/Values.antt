@@ -1,26 +1,20 @@
 -- The primitives that are there give values, or fail.
-use Rattle.std.proofs.Common.{◌≡◌, List, IsTrue, refl, sym, true≢false}
+use Rattle.std.proofs.Common.{◌≡◌, List, [], IsTrue, refl, sym, true≢false}
 use Rattle.model.specs.declared.primitives.PrimId.{PrimId}
 use Rattle.model.specs.declared.primitives.PrimId.TheVariants as p
-use Rattle.model.specs.Aggregates.{type_of}
+use Rattle.model.specs.Aggregates.{new_object, type_of}
 use Rattle.model.specs.Calls.{arg_at}
 use Rattle.model.specs.Conversions.{Op, Gives}
 use Rattle.model.specs.Machine.{MVal, MW, codes_of}
 use Rattle.model.specs.Primitives.{prim_op, returned}
-use Rattle.model.specs.Values.{Str}
+use Rattle.model.specs.Values.{Str, TableOf}
 use Rattle.primitives.specs.Answers.{is_there}
 
 pub gives_value : (id : PrimId) (vs : List MVal) (w : MW) → IsTrue (is_there id) → (o : Op MW MVal) × (prim_op codes_of id vs w ≡ returned o)
-gives_value p.Array vs w h = absurd (true≢false (sym h))
-gives_value p.Table vs w h = absurd (true≢false (sym h))
 gives_value p.Item vs w h = absurd (true≢false (sym h))
-gives_value p.Copy vs w h = absurd (true≢false (sym h))
-gives_value p.Convert vs w h = absurd (true≢false (sym h))
 gives_value p.Data vs w h = absurd (true≢false (sym h))
 gives_value p.Define vs w h = absurd (true≢false (sym h))
 gives_value p.Apply vs w h = absurd (true≢false (sym h))
-gives_value p.Input vs w h = absurd (true≢false (sym h))
-gives_value p.Output vs w h = absurd (true≢false (sym h))
-gives_value p.Detach vs w h = absurd (true≢false (sym h))
+gives_value p.Table vs w h = (new_object (TableOf []) w, refl)
 gives_value p.DataType vs w h = (Gives (Str (type_of w (arg_at vs 0))) w, refl)
 gives_value _ vs w h = (_, refl)

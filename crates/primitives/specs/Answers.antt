@@ -18,17 +18,10 @@ use Rattle.primitives.specs.declared.predicates.Comparison.TheVariants as compar
 
 -- the primitives that calls can run so far
 abbrev pub is_there : PrimId → Bool
-is_there p.Array = false
-is_there p.Table = false
 is_there p.Item = false
-is_there p.Copy = false
-is_there p.Convert = false
 is_there p.Data = false
 is_there p.Define = false
 is_there p.Apply = false
-is_there p.Input = false
-is_there p.Output = false
-is_there p.Detach = false
 is_there _ = true
 
 -- what an outcome is of an operation that leaves this world

@@ -13,9 +13,11 @@ ghost use Rattle.world.specs.Answers.{IfStopped};
 ghost use Rattle.primitives.specs.Answers.{ComesTo, is_there};
 
 use crate::functions::{data_type, dupl, remdr, replace, size, trim};
+use crate::objects::{array, convert, copy, table};
 use crate::outcome::Outcome;
 use crate::patterns::{arbno, fence_of, kind};
 use crate::predicates::{Comparison, compare, differ, ident, integer, lgt};
+use crate::units::{detach, input, output};
 use model::PrimId;
 use pattern_compiler::Kind;
 use std::alloc::Global;
@@ -52,18 +54,15 @@ pub fn is_there(id: PrimId) -> bool
         | PrimId::Replace
         | PrimId::Remdr
         | PrimId::DataType
-        | PrimId::Fence => true,
-        PrimId::Array
+        | PrimId::Array
         | PrimId::Table
-        | PrimId::Item
         | PrimId::Copy
         | PrimId::Convert
-        | PrimId::Data
-        | PrimId::Define
-        | PrimId::Apply
         | PrimId::Input
         | PrimId::Output
-        | PrimId::Detach => false,
+        | PrimId::Detach
+        | PrimId::Fence => true,
+        PrimId::Item | PrimId::Data | PrimId::Define | PrimId::Apply => false,
     }
 }
 
@@ -86,18 +85,19 @@ pub fn call_prim(
     call_with(alloc, id, first, second, third, world)
 }
 
-// Calls a primitive that doesn't change the world.
+// Calls a primitive that takes three arguments at most.
 fn call_with(
     alloc: Global,
     id: PrimId,
     first: &Value,
     second: &Value,
     third: &Value,
-    world: &World,
+    world: &mut World,
 ) -> Result<Outcome, Fault>
     requires there { IsTrue (is_there id) }
-    ensures answer { (io : Io) → ComesTo result (world_of world.now io) (prim_op codes_of id (value_of first.now ∷ value_of second.now ∷ value_of third.now ∷ []) (world_of world.now io)) }
+    ensures answer { (io : Io) → ComesTo result (world_of world.new io) (prim_op codes_of id (value_of first.now ∷ value_of second.now ∷ value_of third.now ∷ []) (world_of world.old io)) }
     ensures stop { IfStopped result (λ stop. stop ≡ NoMemory) }
+    ensures unchanged { OnErr result (world.new ≡ world.old) }
 {
     match id {
         PrimId::Len => kind(alloc, Kind::Len, first),
@@ -126,6 +126,13 @@ fn call_with(
         PrimId::Replace => replace(alloc, first, second, third),
         PrimId::Remdr => remdr(first, second),
         PrimId::DataType => data_type(alloc, first, world),
+        PrimId::Array => array(alloc, first, second, world),
+        PrimId::Table => table(alloc, world),
+        PrimId::Copy => copy(alloc, first, world),
+        PrimId::Convert => convert(alloc, first, second, world),
+        PrimId::Input => input(alloc, first, second, world),
+        PrimId::Output => output(alloc, first, second, world),
+        PrimId::Detach => detach(alloc, first, world),
         PrimId::Fence => fence_of(alloc, first),
         _ => unreachable!(),
     }

@@ -3,15 +3,19 @@
 //! `call_prim(alloc, id, &arguments, &mut world)` calls one that is there (`is_there`): LEN to DATATYPE, and FENCE. It
 //! comes to an `Outcome`, that is a value, a name, failure or a function to call, or to a `Fault`.
 //!
+//!     let outcome = call_prim(alloc, PrimId::Size, &arguments, &mut world)?;
+//!
 //! Promised: each is its row of the table, `prim_op` of `model`; a call that gives an error or stops changes nothing.
 //! CALLING.md says how another primitive is added.
 #![tactic(auto)]
 
 mod call;
 mod functions;
+mod objects;
 mod outcome;
 mod patterns;
 mod predicates;
+mod units;
 
 pub use call::{call_prim, is_there};
 pub use outcome::Outcome;

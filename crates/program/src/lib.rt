@@ -3,6 +3,8 @@
 //! `run(runtime, errors)` reads the words, does what they ask by the calls of `driver`, tells what is to be told as
 //! lines of `errors`, and gives the exit status. docs/program.md has the rules.
 //!
+//!     let status = run(&runtime, &mut errors);
+//!
 //! Nothing is proved of it but that it returns: what files and terminals hold and give isn't stated. Decks and commands
 //! of tests/ show the rest.
 #![tactic(auto)]

@@ -4,7 +4,6 @@ use Rattle.std.specs.Prelude.{OnOk}
 use Rattle.model.specs.declared.image.Image.{Image}
 use Rattle.model.specs.declared.instr.Instr.TheVariants as op
 use Rattle.model.specs.Io.{Io}
-use Rattle.model.specs.Told.{IfTold}
 use Rattle.model.specs.Conversions.{Op}
 use Rattle.model.specs.Operators.{assign_op, fetch_op, splice_op}
 use Rattle.model.specs.Machine as m
@@ -31,7 +30,6 @@ use Rattle.machine_laws.specs.Standing.{StateStands}
 use Rattle.statement_machine.proofs.Flowing.{seen, fetch_stands, fetch_above_stands, assign_stands, splice_stands}
 use Rattle.statement_machine.proofs.Operations.{some_answer, some_answer_or_failure}
 use Rattle.statement_machine.proofs.Telling.{no_records}
-use Rattle.world.proofs.Telling.{told_on}
 
 -- on from these operands and handlers after any operation that has this answer
 abbrev pub Goes : Image → List Frame → (q : ℕ) → Result (record {}) Fault → Held → List m.Operand → List m.Handler → List m.Frame → Result (Unit {0}) Exit → State → Type 0
@@ -58,11 +56,10 @@ module _ (im : Image) (frames : List Frame) (q : ℕ) (s new : State) (mid : Hel
 
   -- ---- fetching
 
-  pub fetched : (answer : Result (Option MVal) Fault) (a b : Option Io) → s.operands ≡ record rest { top = operand.Name n ∷ rest.top }
-      → IfTold a b (λ io io'. AnswersOrFails answer (world_of mid io') (fetch_op (name_of n) (world_of s.world io)))
+  pub fetched : (answer : Result (Option MVal) Fault) → s.operands ≡ record rest { top = operand.Name n ∷ rest.top }
       → GoesWith im frames q answer mid (operands_of rest.top) hs fs r new
-      → IfTold a b (λ io io'. Left im frames r new io' (after im op.Fetch q frames s io))
-  fetched answer a b e f g = told_on a b _ _ (λ io io' x. rw e (g io' (fetch_op (name_of n) (world_of s.world io)) x)) f
+      → (io io' : Io) → AnswersOrFails answer (world_of mid io') (fetch_op (name_of n) (world_of s.world io)) → Left im frames r new io' (after im op.Fetch q frames s io)
+  fetched answer e g io io' x = rw e (g io' (fetch_op (name_of n) (world_of s.world io)) x)
 
   pub fetch_sound : (answer : Result (Option MVal) Fault) → Meets im op.Fetch q frames s → s.operands ≡ record rest { top = operand.Name n ∷ rest.top } → GoesWith im frames q answer mid (operands_of rest.top) hs fs r new → OnOk r (IsSound im frames new)
   fetch_sound answer h e g =
@@ -70,14 +67,12 @@ module _ (im : Image) (frames : List Frame) (q : ℕ) (s new : State) (mid : Hel
       let stands : StateStands im (pop_name (operands_of s.operands.top) w0 (λ n rest. after_op o.0 hs rest (waiting im frames s) (λ v w. Run to (OV v ∷ rest) hs (waiting im frames s) w))) = fetch_stands im h.0 frames s q h.1 (λ n. o.0) w0 h.2 in
       seen im frames r new no_records _ (g no_records o.0 o.1) (rw e at stands)
 
-  pub fetched_above : (answer : Result (Option MVal) Fault) (a b : Option Io) → s.operands ≡ record rest { top = operand.Name n ∷ rest.top }
-      → IfTold a b (λ io io'. AnswersOrFails answer (world_of mid io') (fetch_op (name_of n) (world_of s.world io)))
+  pub fetched_above : (answer : Result (Option MVal) Fault) → s.operands ≡ record rest { top = operand.Name n ∷ rest.top }
       → GoesWith im frames q answer mid (operands_of s.operands.top) hs fs r new
-      → IfTold a b (λ io io'. Left im frames r new io' (after im op.FetchK q frames s io))
-  fetched_above answer a b e f g = told_on a b _ _ (λ io io' x. above io io' (g io' (fetch_op (name_of n) (world_of s.world io)) x)) f
-    where
-      above : (io io' : Io) → Left im frames r new io' (after_op (fetch_op (name_of n) (world_of s.world io)) hs (operands_of s.operands.top) fs (λ v w. Run to (OV v ∷ operands_of s.operands.top) hs fs w)) → Left im frames r new io' (after im op.FetchK q frames s io)
-      above io io' h = rw e (rw e at h)
+      → (io io' : Io) → AnswersOrFails answer (world_of mid io') (fetch_op (name_of n) (world_of s.world io)) → Left im frames r new io' (after im op.FetchK q frames s io)
+  fetched_above answer e g io io' x =
+      let h : Left im frames r new io' (after_op (fetch_op (name_of n) (world_of s.world io)) hs (operands_of s.operands.top) fs (λ v w. Run to (OV v ∷ operands_of s.operands.top) hs fs w)) = g io' (fetch_op (name_of n) (world_of s.world io)) x in
+      rw e (rw e at h)
 
   pub fetch_above_sound : (answer : Result (Option MVal) Fault) → Meets im op.FetchK q frames s → s.operands ≡ record rest { top = operand.Name n ∷ rest.top } → GoesWith im frames q answer mid (operands_of s.operands.top) hs fs r new → OnOk r (IsSound im frames new)
   fetch_above_sound answer h e g =
@@ -88,11 +83,10 @@ module _ (im : Image) (frames : List Frame) (q : ℕ) (s new : State) (mid : Hel
 
   -- ---- assigning
 
-  pub assigned : (v : Value) (answer : Result (record {}) Fault) (a b : Option Io) → s.operands ≡ record rest { top = operand.Value v ∷ operand.Name n ∷ rest.top }
-      → IfTold a b (λ io io'. Answers answer (world_of mid io') (assign_op (name_of n) (value_of v) (world_of s.world io)))
+  pub assigned : (v : Value) (answer : Result (record {}) Fault) → s.operands ≡ record rest { top = operand.Value v ∷ operand.Name n ∷ rest.top }
       → Goes im frames q answer mid (operands_of rest.top) hs fs r new
-      → IfTold a b (λ io io'. Left im frames r new io' (after im op.Assign q frames s io))
-  assigned v answer a b e f g = told_on a b _ _ (λ io io' x. rw e (g io' (assign_op (name_of n) (value_of v) (world_of s.world io)) x)) f
+      → (io io' : Io) → Answers answer (world_of mid io') (assign_op (name_of n) (value_of v) (world_of s.world io)) → Left im frames r new io' (after im op.Assign q frames s io)
+  assigned v answer e g io io' x = rw e (g io' (assign_op (name_of n) (value_of v) (world_of s.world io)) x)
 
   pub assign_sound : (v : Value) (answer : Result (record {}) Fault) → Meets im op.Assign q frames s → s.operands ≡ record rest { top = operand.Value v ∷ operand.Name n ∷ rest.top } → Goes im frames q answer mid (operands_of rest.top) hs fs r new → OnOk r (IsSound im frames new)
   assign_sound v answer h e g =
@@ -100,11 +94,10 @@ module _ (im : Image) (frames : List Frame) (q : ℕ) (s new : State) (mid : Hel
       let stands : StateStands im (pop (operands_of s.operands.top) w0 (λ v r1. pop_name r1 w0 (λ n rest. after_op o.0 hs rest (waiting im frames s) (λ u w. Run to rest hs (waiting im frames s) w)))) = assign_stands im h.0 frames s q h.1 (λ n v. o.0) w0 h.2 in
       seen im frames r new no_records _ (g no_records o.0 o.1) (rw e at stands)
 
-  pub spliced : (v : Value) (d : Span) (answer : Result (record {}) Fault) (a b : Option Io) → s.operands ≡ record rest { top = operand.Value v ∷ operand.Span d ∷ operand.Name n ∷ rest.top }
-      → IfTold a b (λ io io'. Answers answer (world_of mid io') (splice_op (name_of n) d.subject d.start d.end (value_of v) (world_of s.world io)))
+  pub spliced : (v : Value) (d : Span) (answer : Result (record {}) Fault) → s.operands ≡ record rest { top = operand.Value v ∷ operand.Span d ∷ operand.Name n ∷ rest.top }
       → Goes im frames q answer mid (operands_of rest.top) hs fs r new
-      → IfTold a b (λ io io'. Left im frames r new io' (after im op.Splice q frames s io))
-  spliced v d answer a b e f g = told_on a b _ _ (λ io io' x. rw e (g io' (splice_op (name_of n) d.subject d.start d.end (value_of v) (world_of s.world io)) x)) f
+      → (io io' : Io) → Answers answer (world_of mid io') (splice_op (name_of n) d.subject d.start d.end (value_of v) (world_of s.world io)) → Left im frames r new io' (after im op.Splice q frames s io)
+  spliced v d answer e g io io' x = rw e (g io' (splice_op (name_of n) d.subject d.start d.end (value_of v) (world_of s.world io)) x)
 
   pub splice_sound : (v : Value) (d : Span) (answer : Result (record {}) Fault) → Meets im op.Splice q frames s → s.operands ≡ record rest { top = operand.Value v ∷ operand.Span d ∷ operand.Name n ∷ rest.top } → Goes im frames q answer mid (operands_of rest.top) hs fs r new → OnOk r (IsSound im frames new)
   splice_sound v d answer h e g =

@@ -3,6 +3,9 @@
 //! `Machine::new(alloc, &module)` is a run before its first step, `run(units, bound)` makes at most `bound` steps more
 //! and gives the status; `run_from_entry` is both.
 //!
+//!     let module = load(alloc, &bytes)?;
+//!     let status = run_from_entry(alloc, &module, &mut units, 1_000);
+//!
 //! Promised: `run(b)` is the machine of the definitions, b steps further, matches included, unless a unit failed or
 //! memory was refused; no instruction lacks what it takes. A run that ended or stopped answers the same from then on.
 //! CALLING.md has the clauses, and how an instruction is added.

@@ -2,16 +2,14 @@
 
 ghost use Rattle.std.specs.Prelude.{◌≡◌, Option, Some, None, IfOk};
 ghost use Rattle.model.specs.Io.{Io};
-ghost use Rattle.model.specs.Told.{IfTold};
-ghost use Rattle.model.specs.Agreement.{first_m, mach};
-ghost use Rattle.model.specs.PrintedBefore.{after_s, seen_after};
+ghost use Rattle.model.specs.Agreement.{first_m};
+ghost use Rattle.model.specs.PrintedBefore.{after_s};
 ghost use Rattle.model.specs.Machine as m;
 ghost use Rattle.model.specs.Machine.{begun, steps};
 ghost use Rattle.model.specs.Modules.{module_of};
-ghost use Rattle.statement_machine.specs.Runs.{Holds, left_after};
-ghost use Rattle.statement_machine.specs.Stopped.{IfRan, IfStopped, ending_of, status_at};
-ghost use Rattle.unit_io.specs.Counts.{Same};
-ghost use Rattle.world.specs.Answers.{IsStop};
+ghost use Rattle.statement_machine.specs.Runs.{Holds, IsRun};
+ghost use Rattle.statement_machine.specs.Stopped.{IfRan, ending_of, status_at, stop_of_run, stopped_now};
+ghost use Rattle.unit_io.specs.Service.{Served};
 ghost use Rattle.statement_machine.specs.declared.status.Halt.{Halt as RustHalt};
 
 use crate::run::Run;
@@ -60,10 +58,8 @@ impl<'m> Machine<'m> {
     pub fn run<U: Units>(&mut self, units: &mut U, bound: u64) -> Status
         ensures image { self.new.image ≡ self.old.image }
         ensures status { result ≡ status_at self.new.halt }
-        ensures ran { IfRan result (IfTold (U.told units.old) (U.told units.new) (λ io io'.
-            (st : m.State) → Holds self.old io st → Holds self.new io' (steps (module_of self.old.image) bound st))) }
-        ensures kept { IfRan result (Same (U.failures units.old) (U.failures units.new)) }
-        ensures stop { self.old.halt ≡ None → IfStopped result (λ stop. IsStop stop (U.failures units.old) (U.failures units.new)) }
+        ensures served { Served U.Units (stopped_now self.old.halt result) units.old units.new (λ io io'.
+            IfRan result ((st : m.State) → Holds self.old io st → Holds self.new io' (steps (module_of self.old.image) bound st))) }
         ensures again { (halt : RustHalt) → self.old.halt ≡ Some halt → (self.new ≡ self.old) × (units.new ≡ units.old) }
     {
         if let Some(halt) = self.halt {
@@ -86,13 +82,9 @@ pub fn run_from_entry<U: Units>(
     units: &mut U,
     bound: u64,
 ) -> Status
-    // What was printed is what was printed before, followed by what the machine prints.
-    ensures run { IfRan result (IfTold (U.told units.old) (U.told units.new) (λ io io'.
-        record { ending = ending_of result; printed = io'.printed } ≡ seen_after io.printed (mach program.now io.left bound))) }
-    // What is left to be read on each unit is what the machine leaves there.
-    ensures left { IfRan result (IfTold (U.told units.old) (U.told units.new) (λ io io'. io'.left ≡ left_after program.now io.left bound)) }
-    ensures kept { IfRan result (Same (U.failures units.old) (U.failures units.new)) }
-    ensures stop { IfStopped result (λ stop. IsStop stop (U.failures units.old) (U.failures units.new)) }
+    // What was printed follows what was printed before.
+    ensures served { Served U.Units (stop_of_run result) units.old units.new (λ io io'.
+        IfRan result (IsRun program.now bound (ending_of result) io io')) }
 {
     match Machine::new(alloc, program) {
         Ok(mut machine) => machine.run(units, bound),

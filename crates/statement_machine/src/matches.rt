@@ -9,13 +9,13 @@ ghost use Rattle.model.specs.Machine.{on_event};
 ghost use Rattle.model.specs.Modules.{module_of};
 ghost use Rattle.model.specs.Operators.{assign_all, told_value};
 ghost use Rattle.model.specs.Pattern.{Matched};
-ghost use Rattle.model.specs.Told.{IfTold};
 ghost use Rattle.model.specs.declared.image.Image.{Image};
 ghost use Rattle.model.specs.declared.run.Stop.TheVariants.{NoMemory};
 ghost use Rattle.statement_machine.specs.Held.{Left, waiting};
 ghost use Rattle.statement_machine.specs.Runs.{found_kinds, matching_in};
-ghost use Rattle.statement_machine.specs.Stopped.{StepKeepsCounts};
-ghost use Rattle.world.specs.Answers.{Answers, KeepsCounts, done};
+ghost use Rattle.statement_machine.specs.Stopped.{halted_by};
+ghost use Rattle.unit_io.specs.Service.{Served};
+ghost use Rattle.world.specs.Answers.{Answers, done, stopped_by};
 ghost use Rattle.world.specs.Held.{world_of};
 ghost use Rattle.world.specs.Values.{value_of};
 
@@ -34,9 +34,8 @@ fn assign_all<U: Units>(
     units: &mut U,
     pending: &[Assignment],
 ) -> Result<(), Fault>
-    ensures assigned { IfTold (U.told units.old) (U.told units.new) (λ io io'.
-        Answers (done result) (world_of world.new io') (assign_all (pending_of pending.now) (world_of world.old io))) }
-    ensures counts { KeepsCounts result (U.failures units.old) (U.failures units.new) }
+    ensures served { Served U.Units (stopped_by result) units.old units.new (λ io io'.
+            Answers (done result) (world_of world.new io') (assign_all (pending_of pending.now) (world_of world.old io))) }
 {
     for assignment in pending {
         let value = Value::String(assignment.value.clone()?);
@@ -68,11 +67,11 @@ impl State {
         end: usize,
         pending: Vec<Assignment>,
     ) -> Result<(), Exit>
-        ensures left { (im : Image) (fs : List Frame) → IfTold (U.told units.old) (U.told units.new) (λ io io'. Left im fs result self.new io'
+        ensures served { Served U.Units (halted_by result) units.old units.new (λ io io'.
+            (im : Image) (fs : List Frame) → Left im fs result self.new io'
             (on_event (module_of im) (Matched start end (pending_of pending.items)) (matching_in im matching self.old) matching.search.state (waiting im fs self.old) (world_of self.old.world io))) }
         ensures shape { OnOk result ((self.new.place ≡ matching.place) × (self.new.handlers ≡ self.old.handlers) × (self.new.operands.under ≡ self.old.operands.under)
             × (kinds_of self.new.operands.top ≡ found_kinds matching.keep (kinds_of self.old.operands.top))) }
-        ensures counts { StepKeepsCounts result (U.failures units.old) (U.failures units.new) }
     {
         if let Err(fault) = assign_all(self.alloc, &mut self.world, units, pending.as_slice()) {
             return Err(self.halted(fault));

@@ -49,7 +49,7 @@ impl State {
     {
         let right = pop_value(&mut self.operands);
         let left = pop_value(&mut self.operands);
-        match self.world.cat(self.alloc, &left, &right) {
+        match self.world.cat(self.alloc, left, right) {
             Ok(value) => self.put(value, next),
             Err(fault) => Err(self.halted(fault)),
         }

@@ -5,17 +5,17 @@ ghost use Rattle.model.specs.Conversions.{Op};
 ghost use Rattle.model.specs.Flow.{V, N, R};
 ghost use Rattle.model.specs.Io.{Io};
 ghost use Rattle.model.specs.Machine.{MVal, MW, OV, Run, after_op};
-ghost use Rattle.model.specs.Told.{IfTold};
 ghost use Rattle.model.specs.declared.image.Image.{Image};
 ghost use Rattle.frames.specs.Kinds.{AreOnTop};
 ghost use Rattle.loader.specs.Places.{offset_at};
 ghost use Rattle.frames.specs.View.{operands_of};
 ghost use Rattle.frames.specs.declared.frame.Frame.{Frame};
-ghost use Rattle.world.specs.Answers.{Answers, AnswersOrFails, KeepsCounts, answer_map, done};
+ghost use Rattle.world.specs.Answers.{Answers, AnswersOrFails, answer_map, done, stopped_by};
 ghost use Rattle.world.specs.Held.{world_of};
 ghost use Rattle.world.specs.Values.{value_of};
 ghost use Rattle.statement_machine.specs.Held.{IsSound, Left, Meets, after, handlers_in, waiting};
-ghost use Rattle.statement_machine.specs.Stopped.{StepKeepsCounts};
+ghost use Rattle.statement_machine.specs.Stopped.{halted_by};
+ghost use Rattle.unit_io.specs.Service.{KeepsCounts, Served};
 
 use crate::state::State;
 use crate::status::Exit;
@@ -30,7 +30,7 @@ impl State {
         ensures left { (im : Image) (fs : List Frame) (io : Io) (o : Op MW (record {})) → Answers (done answer) (world_of self.old.world io) o →
             Left im fs result self.new io (after_op o (handlers_in im self.old) (operands_of self.old.operands.top) (waiting im fs self.old)
             (λ _ w. Run (offset_at im.code next) (operands_of self.old.operands.top) (handlers_in im self.old) (waiting im fs self.old) w)) }
-        ensures counts { (old new : ℕ → ℕ) → KeepsCounts answer old new → StepKeepsCounts result old new }
+        ensures counts { (old new : ℕ → ℕ) → KeepsCounts (stopped_by answer) old new → KeepsCounts (halted_by result) old new }
     {
         match answer {
             Ok(()) => {
@@ -46,7 +46,7 @@ impl State {
         ensures left { (im : Image) (fs : List Frame) (io : Io) (o : Op MW MVal) → AnswersOrFails (answer_map (option_map value_of) answer) (world_of self.old.world io) o →
             Left im fs result self.new io (after_op o (handlers_in im self.old) (operands_of self.old.operands.top) (waiting im fs self.old)
             (λ v w. Run (offset_at im.code next) (OV v ∷ operands_of self.old.operands.top) (handlers_in im self.old) (waiting im fs self.old) w)) }
-        ensures counts { (old new : ℕ → ℕ) → KeepsCounts answer old new → StepKeepsCounts result old new }
+        ensures counts { (old new : ℕ → ℕ) → KeepsCounts (stopped_by answer) old new → KeepsCounts (halted_by result) old new }
     {
         match answer {
             Ok(Some(value)) => self.put(value, next),
@@ -58,10 +58,9 @@ impl State {
     /// The value goes to the name, and to the unit that its variable writes to.
     pub(crate) fn assign<U: Units>(&mut self, units: &mut U, next: usize) -> Result<(), Exit>
         requires { AreOnTop (V ∷ N ∷ []) self.old.operands.top }
-        ensures left { (im : Image) (fs : List Frame) → IfTold (U.told units.old) (U.told units.new) (λ io io'.
-            Left im fs result self.new io' (after im Instr.Assign next fs self.old io)) }
+        ensures served { Served U.Units (halted_by result) units.old units.new (λ io io'.
+            (im : Image) (fs : List Frame) → Left im fs result self.new io' (after im Instr.Assign next fs self.old io)) }
         ensures sound { (im : Image) (fs : List Frame) → Meets im Instr.Assign next fs self.old → OnOk result (IsSound im fs self.new) }
-        ensures counts { StepKeepsCounts result (U.failures units.old) (U.failures units.new) }
     {
         let value = pop_value(&mut self.operands);
         let name = pop_name(&mut self.operands);
@@ -72,10 +71,9 @@ impl State {
     /// The value of the name, in its place. At the end of the unit that its variable reads from that fails.
     pub(crate) fn fetch<U: Units>(&mut self, units: &mut U, next: usize) -> Result<(), Exit>
         requires { AreOnTop (N ∷ []) self.old.operands.top }
-        ensures left { (im : Image) (fs : List Frame) → IfTold (U.told units.old) (U.told units.new) (λ io io'.
-            Left im fs result self.new io' (after im Instr.Fetch next fs self.old io)) }
+        ensures served { Served U.Units (halted_by result) units.old units.new (λ io io'.
+            (im : Image) (fs : List Frame) → Left im fs result self.new io' (after im Instr.Fetch next fs self.old io)) }
         ensures sound { (im : Image) (fs : List Frame) → Meets im Instr.Fetch next fs self.old → OnOk result (IsSound im fs self.new) }
-        ensures counts { StepKeepsCounts result (U.failures units.old) (U.failures units.new) }
     {
         let name = pop_name(&mut self.operands);
         let answer = self.world.fetch(units, &name);
@@ -85,10 +83,9 @@ impl State {
     /// The value of the name, above the name.
     pub(crate) fn fetch_above<U: Units>(&mut self, units: &mut U, next: usize) -> Result<(), Exit>
         requires { AreOnTop (N ∷ []) self.old.operands.top }
-        ensures left { (im : Image) (fs : List Frame) → IfTold (U.told units.old) (U.told units.new) (λ io io'.
-            Left im fs result self.new io' (after im Instr.FetchK next fs self.old io)) }
+        ensures served { Served U.Units (halted_by result) units.old units.new (λ io io'.
+            (im : Image) (fs : List Frame) → Left im fs result self.new io' (after im Instr.FetchK next fs self.old io)) }
         ensures sound { (im : Image) (fs : List Frame) → Meets im Instr.FetchK next fs self.old → OnOk result (IsSound im fs self.new) }
-        ensures counts { StepKeepsCounts result (U.failures units.old) (U.failures units.new) }
     {
         let answer = self.world.fetch(units, top_name(&self.operands));
         self.gave(answer, next)
@@ -97,10 +94,9 @@ impl State {
     /// The value goes into the place of what a match found, and the whole to the name.
     pub(crate) fn splice<U: Units>(&mut self, units: &mut U, next: usize) -> Result<(), Exit>
         requires { AreOnTop (V ∷ R ∷ N ∷ []) self.old.operands.top }
-        ensures left { (im : Image) (fs : List Frame) → IfTold (U.told units.old) (U.told units.new) (λ io io'.
-            Left im fs result self.new io' (after im Instr.Splice next fs self.old io)) }
+        ensures served { Served U.Units (halted_by result) units.old units.new (λ io io'.
+            (im : Image) (fs : List Frame) → Left im fs result self.new io' (after im Instr.Splice next fs self.old io)) }
         ensures sound { (im : Image) (fs : List Frame) → Meets im Instr.Splice next fs self.old → OnOk result (IsSound im fs self.new) }
-        ensures counts { StepKeepsCounts result (U.failures units.old) (U.failures units.new) }
     {
         let value = pop_value(&mut self.operands);
         let span = pop_span(&mut self.operands);

@@ -2,6 +2,7 @@
 use Rattle.std.proofs.Common.{◌≡◌, refl, ap, ℕ, zero, suc, ◌+◌, ◌-◌, ◌*◌, ◌<◌, ◌≤◌, ◌&&◌, ◌||◌, ◌==◌, Bool, true, false, List, [], ◌∷◌, ◌++◌, length, drop, get_or, arith}
 use Rattle.std.proofs.lemmas.Bool.Decides.{nat_tests}
 use Rattle.std.specs.Prelude.{nat_le, if◌then◌else◌}
+use Rattle.std.proofs.lemmas.Bool.{and_parts}
 use Rattle.model.specs.declared.tokens.TokenKind.TheVariants as kind
 use Rattle.model.specs.Cut.{Class, Space, Letter, Digit, class, class_of_sign, digital, is_digit, all, IsToken}
 use Rattle.model.specs.Digits.{value_from}
@@ -35,11 +36,7 @@ value_least n [] = omega arith
 value_least n (d ∷ ds) = let more = value_least (10 * n + (d - 48)) ds in omega arith
 
 front_digit : (d : ℕ) (ds : List ℕ) → all is_digit (d ∷ ds) ≡ true → is_digit d ≡ true
-front_digit d ds h = first (is_digit d) (all is_digit ds) h
-  where
-    first : (a b : Bool) → (a && b) ≡ true → a ≡ true
-    first true b h = refl
-    first false b h = absurd (cc)
+front_digit d ds h = (and_parts (is_digit d) (all is_digit ds) h).0
 
 -- the digit at a place is one, and the number up to there and with it is no larger than the whole
 pub turn : (ds : List ℕ) (n i : ℕ) → i < length ds → all is_digit (drop i ds) ≡ true → (48 ≤ get_or ds i 0) × (10 * n + (get_or ds i 0 - 48) ≤ value_from n (drop i ds))

@@ -30,7 +30,8 @@ fn after_subject(
     depth: usize,
     subject: Expr,
 ) -> Result<Body, Stop>
-    ensures { Reads body_of (spec.after_subject depth (expr_of subject) cursor.old) result cursor.new }
+    ensures { Reads body_of
+        (spec.after_subject depth (expr_of subject) cursor.old) result cursor.new }
 {
     if cursor.eat_spaced(Mark::Equal) {
         return match object(alloc, cursor, depth) {
@@ -61,7 +62,9 @@ fn after_pattern(
     subject: Expr,
     pattern: Expr,
 ) -> Result<Body, Stop>
-    ensures { Reads body_of (spec.after_pattern depth (expr_of subject) (expr_of pattern) cursor.old) result cursor.new }
+    ensures { Reads body_of
+        (spec.after_pattern depth (expr_of subject)
+        (expr_of pattern) cursor.old) result cursor.new }
 {
     if !cursor.eat_spaced(Mark::Equal) {
         return Ok(Body::Match(subject, pattern));

@@ -47,7 +47,9 @@ fn lefts(
     mut found: Expr,
 ) -> Result<Expr, Stop>
     requires { 0 < grade }
-    ensures { Reads expr_of (spec.lefts (spec.graded (spec.element depth) (grade - 1)) grade (length cursor.old) (expr_of found) cursor.old) result cursor.new }
+    ensures { Reads expr_of
+        (spec.lefts (spec.graded (spec.element depth) (grade - 1)) grade (length cursor.old)
+        (expr_of found) cursor.old) result cursor.new }
 {
     for _turn in 0..cursor.len() {
         let Some(op) = cursor.operator(grade) else {
@@ -68,7 +70,9 @@ fn lefts(
 #[cycle(expr)]
 #[tactic(auto, unfolding(model::specs::Parse::rights, model::specs::Parse::bind, model::specs::Parse::on))]
 fn rights(alloc: Global, cursor: &mut Cursor<'_>, depth: usize) -> Result<Expr, Stop>
-    ensures { Reads expr_of (spec.rights (spec.graded (spec.element depth) 1) 2 (length cursor.old) cursor.old) result cursor.new }
+    ensures { Reads expr_of
+        (spec.rights (spec.graded (spec.element depth) 1) 2
+        (length cursor.old) cursor.old) result cursor.new }
 {
     let mut operands = Vec::new(alloc);
     for _turn in 0..cursor.len() {
@@ -179,7 +183,8 @@ fn several(
     depth: usize,
     turns: usize,
 ) -> Result<Vec<Argument>, Stop>
-    ensures { Reads arguments_of (spec.several (spec.whole depth) turns cursor.old) result cursor.new }
+    ensures { Reads arguments_of
+        (spec.several (spec.whole depth) turns cursor.old) result cursor.new }
 {
     let mut found = Vec::new(alloc);
     for _turn in 0..turns {

@@ -2,6 +2,9 @@
 //!
 //! `parse_statement(alloc, &tokens)` gives the tree of one statement.
 //!
+//!     let tokens = lex(alloc, b"N = N + 1")?;
+//!     let tree = parse_statement(alloc, &tokens)?;
+//!
 //! Promised: the one tree that has these tokens by the grammar (`Tree` of `model`'s `Statements`), or P1 exactly where
 //! none has; want of memory is an answer of its own. It asks for tokens as `lexer` cuts them (`Lexed`).
 #![tactic(auto)]

@@ -21,7 +21,8 @@ pub fn parse_statement(alloc: Global, tokens: &[Token<'_>]) -> Result<Stmt, Caus
     requires { Lexed tokens.now }
     ensures tree { IfOk result (λ s. Tree (stmt_of s) (toks tokens.now)) }
     // No other cause than that there is none, or no memory.
-    ensures cause { IfErr result (λ c. (c ≡ cause.Memory) ⊎ ((c ≡ cause.NoTree) × HasNoTree (toks tokens.now))) }
+    ensures cause { IfErr result (λ c.
+        (c ≡ cause.Memory) ⊎ ((c ≡ cause.NoTree) × HasNoTree (toks tokens.now))) }
 {
     match all(alloc, tokens) {
         Ok(statement) => Ok(statement),

@@ -1,5 +1,5 @@
 use Rattle.std.proofs.Common.{◌≡◌, ℕ, zero, suc, ◌+◌, ◌-◌, ◌≤◌, List, [], ◌∷◌, ◌++◌, length, take, drop, refl, sym, ap, ◌∙◌, arith, append_assoc, add-one}
-use Rattle.std.proofs.lemmas.List.{drop-take, append-nil, take-take, drop-drop, length-append, length-take}
+use Rattle.std.proofs.lemmas.List.{drop-take, drop-append-le, append-nil, take-take, take_all, drop-drop, length-append, length-drop, length-take, length-take-le}
 use Rattle.std.specs.List.{repeat, slice_range}
 use Rattle.std.specs.Prelude.{◌==◌, if◌then◌else◌}
 use Rattle.model.specs.Strings.{replaced_or}
@@ -52,3 +52,15 @@ joined_in_front xs ys before after =
     ∙ ap (λ zs. take (length xs + length ys) zs) (sym (append_assoc xs ys after))
     ∙ ap (λ n. take n ((xs ++ ys) ++ after)) (sym (length-append xs ys))
     ∙ front_of (xs ++ ys) after
+
+-- the rest from a place on
+pub slice_range_to_end : (xs : List ℕ) (a : ℕ) → slice_range xs a (length xs) ≡ drop a xs
+slice_range_to_end xs a = take_all (length xs - a) (drop a xs) (simp length-drop (omega arith))
+
+-- a part with others after it
+pub drop_part : (xs ys : List ℕ) (a b : ℕ) → a ≤ b → b ≤ length xs → drop a (take b xs ++ ys) ≡ slice_range xs a b ++ ys
+drop_part xs ys a b le within =
+    let count : b ≡ a + (b - a) = omega arith in
+    drop-append-le a (take b xs) ys (rw (length-take-le b xs within) le)
+    ∙ ap (λ n. drop a (take n xs) ++ ys) count
+    ∙ ap (λ zs. zs ++ ys) (drop-take a (b - a) xs)

@@ -8,5 +8,5 @@ bytes_of (Own len array) = take len array
 bytes_of (Shared start end shared) = slice_range (shared.value.items) start end
 
 abbrev pub AreWithin : Bytes → Type 0
-AreWithin (Own len array) = (len ≤ 23) × (length array ≡ 23)
+AreWithin (Own len array) = (len ≤ 22) × (length array ≡ 22)
 AreWithin (Shared start end shared) = (start ≤ end) × (end ≤ length (shared.value.items))

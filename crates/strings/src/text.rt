@@ -1,6 +1,7 @@
 //! A text: a few bytes of its own, or many that are shared by its clones and by the parts cut from it.
 
-ghost use Rattle.std.specs.Prelude.{◌≡◌, ◌+◌, ◌*◌, ◌^◌, ◌<◌, ◌≤◌, ℕ, [], ◌++◌, length, map, IfOk, IfErr, IsTrue, Err, ◌↔◌, slice_range, slice_index};
+ghost use Rattle.std.specs.Prelude.{◌≡◌, ◌+◌, ◌*◌, ◌^◌, ◌<◌, ◌≤◌, ℕ, [], ◌++◌, length, drop, map, IfOk, IfErr};
+ghost use Rattle.std.specs.Prelude.{IsTrue, Err, ◌↔◌, slice_range, slice_index};
 ghost use Rattle.std.specs.Fmt.{signed_decimal};
 ghost use Rattle.std.specs.List.{repeat};
 ghost use Rattle.model.specs.Strings.{replaced};
@@ -13,7 +14,7 @@ use std::marker::Model;
 use std::rc::Rc;
 
 // How many bytes a text has at most that are its own.
-const FEW: usize = 23;
+const FEW: usize = 22;
 
 // Where the bytes are.
 #[derive(Drop)]
@@ -25,8 +26,8 @@ enum Bytes {
     },
     // Those between two places.
     Shared {
-        start: usize,
-        end: usize,
+        start: u32,
+        end: u32,
         shared: Rc<Vec<u8>>,
     },
 }
@@ -42,7 +43,7 @@ impl Drop for Text {
     }
 }
 
-const _: () = prove!(size_of::<Text>() <= 32);
+const _: () = prove!(size_of::<Text>() <= 24);
 
 impl Model for Text {
     ghost use Rattle.std.specs.Prelude.{List, ℕ};
@@ -71,7 +72,7 @@ impl Text {
 
     // The text of a few bytes, which are copied. Takes no memory.
     fn few(bytes: &[u8]) -> Text
-        requires { length bytes.now ≤ 23 }
+        requires { length bytes.now ≤ 22 }
         ensures { result ≡ bytes.now }
     {
         let len = bytes.len();
@@ -87,7 +88,7 @@ impl Text {
 
     // Two texts in one of a few bytes.
     fn few_joined(left: &[u8], right: &[u8]) -> Text
-        requires { length left.now + length right.now ≤ 23 }
+        requires { length left.now + length right.now ≤ 22 }
         ensures { result ≡ left.now ++ right.now }
     {
         let front = left.len();
@@ -108,18 +109,11 @@ impl Text {
         ensures ok { IfOk result (λ text. text ≡ bytes.now) }
         ensures err { IfErr result (λ fault. fault ≡ StrFault.Memory) }
     {
-        let end = bytes.len();
-        if end <= FEW {
+        if bytes.len() <= FEW {
             return Ok(Text::few(bytes));
         }
-        let shared = Rc::new(alloc, Vec::from_slice(alloc, bytes)?)?;
-        Ok(Text {
-            bytes: Bytes::Shared {
-                start: 0,
-                end,
-                shared,
-            },
-        })
+        let all = Vec::from_slice(alloc, bytes)?;
+        shared_from(0, all)
     }
 
     /// The text of a vector's bytes, which are copied only if they are few.
@@ -127,24 +121,17 @@ impl Text {
         ensures ok { IfOk result (λ text. text ≡ bytes.items) }
         ensures err { IfErr result (λ fault. fault ≡ StrFault.Memory) }
     {
-        let end = bytes.len();
-        if end <= FEW {
+        if bytes.len() <= FEW {
             return Ok(Text::few(bytes.as_slice()));
         }
-        let shared = Rc::new(*bytes.allocator(), bytes)?;
-        Ok(Text {
-            bytes: Bytes::Shared {
-                start: 0,
-                end,
-                shared,
-            },
-        })
+        shared_from(0, bytes)
     }
 
     /// One text and then the other; if one of them is null, the other is shared.
     pub fn concat(alloc: Global, left: &Text, right: &Text, limit: usize) -> Result<Text, StrFault>
         ensures ok { IfOk result (λ text. text ≡ left.now ++ right.now) }
-        ensures too_long { (result ≡ Err StrFault.TooLong) ↔ (limit < length left.now + length right.now) }
+        ensures too_long { (result ≡ Err StrFault.TooLong)
+            ↔ (limit < length left.now + length right.now) }
     {
         let front = left.len();
         let back = right.len();
@@ -166,7 +153,8 @@ impl Text {
     /// One text and then the other. Bytes of the first that nothing else shares aren't copied while they have room.
     pub fn append(alloc: Global, left: Text, right: &Text, limit: usize) -> Result<Text, StrFault>
         ensures ok { IfOk result (λ text. text ≡ left ++ right.now) }
-        ensures too_long { (result ≡ Err StrFault.TooLong) ↔ (limit < length left + length right.now) }
+        ensures too_long { (result ≡ Err StrFault.TooLong)
+            ↔ (limit < length left + length right.now) }
     {
         let front = left.len();
         let back = right.len();
@@ -183,10 +171,10 @@ impl Text {
         match bytes {
             Bytes::Own { len, array } => joined(alloc, &array[..len as usize], right.as_slice()),
             Bytes::Shared { start, end, shared } => match Rc::try_unwrap(shared) {
-                Ok(all) => lengthened(alloc, all, start, end, right.as_slice()),
+                Ok(all) => lengthened(all, start, end, right.as_slice()),
                 Err(shared) => joined(
                     alloc,
-                    &shared.as_ref().as_slice()[start..end],
+                    &shared.as_ref().as_slice()[start as usize..end as usize],
                     right.as_slice(),
                 ),
             },
@@ -245,7 +233,7 @@ impl Text {
             Bytes::Own { len, array } => &array[..*len as usize],
             Bytes::Shared { start, end, shared } => {
                 let all = shared.as_ref().as_slice();
-                &all[*start..*end]
+                &all[*start as usize..*end as usize]
             }
         }
     }
@@ -257,7 +245,7 @@ impl Text {
     {
         match &self.bytes {
             Bytes::Own { len, .. } => *len as usize,
-            Bytes::Shared { start, end, .. } => *end - *start,
+            Bytes::Shared { start, end, .. } => (*end - *start) as usize,
         }
     }
 
@@ -281,12 +269,14 @@ impl Text {
             return Ok(Text::few(&bytes[from..to]));
         }
         match &self.bytes {
-            Bytes::Shared { start, shared, .. } => {
+            Bytes::Shared { start, end, shared } => {
+                let len = (*end - *start) as usize;
+                prove!(to <= len);
                 let shared = shared.clone()?;
                 Ok(Text {
                     bytes: Bytes::Shared {
-                        start: *start + from,
-                        end: *start + to,
+                        start: *start + from as u32,
+                        end: *start + to as u32,
                         shared,
                     },
                 })
@@ -335,23 +325,30 @@ fn joined(alloc: Global, left: &[u8], right: &[u8]) -> Result<Text, StrFault>
 }
 
 // The bytes between two places, and then others; the vector is kept.
-fn lengthened(
-    alloc: Global,
-    all: Vec<u8>,
-    start: usize,
-    end: usize,
-    right: &[u8],
-) -> Result<Text, StrFault>
+#[tactic(auto, using(crate::proofs::Lists::drop_part))]
+fn lengthened(all: Vec<u8>, start: u32, end: u32, right: &[u8]) -> Result<Text, StrFault>
     requires ordered { start ≤ end }
     requires within { end ≤ length all.items }
     ensures ok { IfOk result (λ text. text ≡ slice_range all.items start end ++ right.now) }
     ensures err { IfErr result (λ fault. fault ≡ StrFault.Memory) }
 {
     let mut all = all;
-    all.truncate(end);
+    all.truncate(end as usize);
     all.extend_from_slice(right)?;
-    let end = all.len();
-    let shared = Rc::new(alloc, all)?;
+    shared_from(start, all)
+}
+
+// The bytes from a place on. More than a place can tell are refused as too many for memory.
+#[tactic(auto, using(crate::proofs::Lists::slice_range_to_end))]
+fn shared_from(start: u32, all: Vec<u8>) -> Result<Text, StrFault>
+    requires { start ≤ length all.items }
+    ensures ok { IfOk result (λ text. text ≡ drop start all.items) }
+    ensures err { IfErr result (λ fault. fault ≡ StrFault.Memory) }
+{
+    let Ok(end) = u32::try_from(all.len()) else {
+        return Err(StrFault::Memory);
+    };
+    let shared = Rc::new(*all.allocator(), all)?;
     Ok(Text {
         bytes: Bytes::Shared { start, end, shared },
     })

@@ -74,8 +74,9 @@ fn next(alloc: Global, sign: u8, parts: &mut Vec<PatCode>) -> Result<PatCode, St
 }
 
 /// The code of a pattern that stands with each sign behind its parts: `&` for one part behind another, `|` for one or
-/// the other, `*` for ARBNO, `!` for FENCE of a pattern, `$` for an assignment to X. `@` is the cursor to X, `?` is `*P`,
-/// `#` is LEN(*E), `%` is SPAN(*E); a small letter is ARB, FAIL, LEN(1), RPOS(0) or SUCCEED, and another byte is itself.
+/// the other, `*` for ARBNO, `!` for FENCE of a pattern, `$` for an assignment to X. `@` is the cursor to X, `?` is
+/// `*P`, `#` is LEN(*E), `%` is SPAN(*E); a small letter is ARB, FAIL, LEN(1), RPOS(0) or SUCCEED, and another byte is
+/// itself.
 pub fn pattern(alloc: Global, signs: &str) -> Result<PatCode, StrFault> {
     let mut parts = Vec::new(alloc);
     for sign in signs.as_bytes() {

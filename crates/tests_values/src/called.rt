@@ -122,7 +122,7 @@ fn in_world(
             let begun = world.begin_match(alloc, left, right)?;
             Ok(Some(Value::Pattern(begun.pattern)))
         }
-        _ => Ok(Some(world.cat(alloc, left, right)?)),
+        _ => Ok(Some(world.cat(alloc, left.clone()?, right.clone()?)?)),
     }
 }
 

@@ -30,8 +30,8 @@ fn conversions(rt: HostRuntime) {
     }
 }
 
-// The code of an alternative is a choice, the one, a jump past the other, the other; that of an assignment is the cursor
-// noted, the part, the assignment.
+// The code of an alternative is a choice, the one, a jump past the other, the other; that of an assignment is the
+// cursor noted, the part, the assignment.
 #[test]
 fn operators(rt: HostRuntime) {
     for (call, left, right, want) in [

@@ -1,6 +1,7 @@
+pub mod Appended
+pub mod Calls
+pub mod Feeds
 pub mod FirstLine
 pub mod OpenSides
-pub mod Calls
+pub mod Serving
 pub mod Untold
-pub mod Feeds
-pub mod Appended

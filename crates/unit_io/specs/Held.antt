@@ -60,6 +60,10 @@ with_side unit side (o ∷ os) = if nat_eq unit o.unit then record { unit = o.un
 
 -- ---- what calls do
 
+-- one more unit was opened
+abbrev pub with_unit : ℕ → Side → Held → Held
+with_unit unit side h = record h { opened = h.opened ++ record { unit = unit; side = side } ∷ [] }
+
 -- the first record left on the unit was taken
 abbrev pub IsRead : ℕ → Option (List ℕ) → Held → Held → Type 0
 IsRead unit got old new =

@@ -1,4 +1,5 @@
 pub mod Counts
 pub mod Failing
 pub mod Held
+pub mod Service
 pub mod Streams

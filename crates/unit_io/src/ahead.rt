@@ -1,6 +1,7 @@
 //! The bytes that were read and aren't told yet.
 
-ghost use Rattle.std.specs.Prelude.{◌≡◌, ◌+◌, ◌≤◌, [], ◌++◌, length, take, drop, vec_len, vec_capacity, Ok, false, IfOk, IfErr, IfSome, ◌<◌, ◌^◌};
+ghost use Rattle.std.specs.Prelude.{◌≡◌, ◌+◌, ◌≤◌, [], ◌++◌, length, take, drop, vec_len, vec_capacity};
+ghost use Rattle.std.specs.Prelude.{Ok, false, IfOk, IfErr, IfSome, ◌<◌, ◌^◌};
 ghost use Rattle.std.specs.Io.KnownBytes.{Keeps, IsAtEnd};
 ghost use Rattle.memchr.specs.Find.{IsFirstByte, is_byte};
 ghost use Rattle.unit_io.specs.Streams.{Took, IsOfReader};
@@ -34,7 +35,9 @@ impl Model for Ahead {
 
     ghost view = { λ a. drop a.start a.bytes.items };
 
-    ghost invariant = { λ a. (a.start ≤ a.searched) × (a.searched ≤ length a.bytes.items) × Nowhere (Passes (is_byte 10) a.bytes.items) a.start a.searched };
+    ghost invariant = { λ a.
+        (a.start ≤ a.searched) × (a.searched ≤ length a.bytes.items)
+        × Nowhere (Passes (is_byte 10) a.bytes.items) a.start a.searched };
 }
 
 impl Ahead {
@@ -80,7 +83,8 @@ impl Ahead {
     pub(crate) fn take(&mut self, alloc: Global, end: usize, next: usize) -> Result<Text, UnitFault>
         requires ordered { end ≤ next }
         requires within { next ≤ length self.old }
-        ensures ok { IfOk result (λ text. (text ≡ take end self.old) × (self.new ≡ drop next self.old)) }
+        ensures ok { IfOk result (λ text.
+            (text ≡ take end self.old) × (self.new ≡ drop next self.old)) }
         ensures err { IfErr result (λ fault. (fault ≡ UnitFault.Memory) × (self.new ≡ self.old)) }
     {
         let start = self.start;
@@ -106,9 +110,12 @@ impl Ahead {
 
     /// Reads once. It's false at the end; a read that was interrupted gives no byte.
     pub(crate) fn read<R: Read>(&mut self, source: &mut R) -> Result<bool, UnitFault>
-        ensures more { IfOk result (λ more. Took (R.remaining source.old) (R.remaining source.new) self.old self.new) }
+        ensures more { IfOk result (λ more.
+            Took (R.remaining source.old) (R.remaining source.new) self.old self.new) }
         ensures end { result ≡ Ok false → (self.new ≡ self.old) × IsAtEnd (R.remaining source.new) }
-        ensures err { IfErr result (λ fault. IsOfReader fault × Keeps (R.remaining source.old) (R.remaining source.new) × (self.new ≡ self.old)) }
+        ensures err { IfErr result (λ fault.
+            IsOfReader fault × Keeps (R.remaining source.old) (R.remaining source.new)
+            × (self.new ≡ self.old)) }
     {
         self.move_to_front();
         self.bytes.reserve(PIECE)?;

@@ -3,7 +3,7 @@
 ghost use Rattle.std.specs.Prelude.{◌≡◌, ◌≢◌, ◌↔◌, ◌≤◌, ◌-◌, ℕ, IsTrue, Err, IfErr, IfOk, OnOk, OnErr, replicate};
 ghost use Rattle.model.specs.Units.{Reads, Writes, IsCounted, HasGrown};
 ghost use Rattle.unit_io.specs.Counts.{count_of, one_more, Same, SameBut, IfNoneFailed};
-ghost use Rattle.unit_io.specs.Failing.{failures_with, failures_in};
+ghost use Rattle.unit_io.specs.Failing.{failures_in};
 
 use crate::counts::Counts;
 use crate::units::Units;
@@ -44,7 +44,8 @@ impl<U: Units> FailAt<U> {
         ensures units { self.new.units ≡ self.old.units }
         ensures left { self.new.left ≡ self.old.left - 1 }
         ensures which { IsTrue result ↔ (self.old.left ≡ 1) }
-        ensures counted { IsTrue result → HasGrown (count_of self.old.counts unit) (count_of self.new.counts unit) }
+        ensures counted { IsTrue result
+            → HasGrown (count_of self.old.counts unit) (count_of self.new.counts unit) }
         ensures grows { (u : ℕ) → count_of self.old.counts u ≤ count_of self.new.counts u }
         ensures spared { self.old.left ≢ 1 → self.new.counts ≡ self.old.counts }
         ensures others { SameBut unit (count_of self.old.counts) (count_of self.new.counts) }
@@ -70,10 +71,15 @@ impl<U: Units> Units for FailAt<U> {
     ghost failures = { λ f unit. failures_with (U.failures f.units unit) (count_of f.counts unit) };
 
     fn read_record(&mut self, unit: u8) -> Result<Option<Text>, UnitFault>
-        ensures ok { IfOk result (λ got. Reads unit got (U.told self.old.units) (U.told self.new.units)) }
+        ensures ok { IfOk result (λ got.
+            Reads unit got (U.told self.old.units) (U.told self.new.units)) }
         ensures err { OnErr result (U.told self.new.units ≡ U.told self.old.units) }
-        ensures counted { IfErr result (λ fault. IsCounted fault (failures_with (U.failures self.old.units unit) (count_of self.old.counts unit)) (failures_with (U.failures self.new.units unit) (count_of self.new.counts unit))) }
-        ensures grows { (u : ℕ) → failures_with (U.failures self.old.units u) (count_of self.old.counts u) ≤ failures_with (U.failures self.new.units u) (count_of self.new.counts u) }
+        ensures counted { IfErr result (λ fault.
+            IsCounted fault (failures_in (U.failures self.old.units) self.old.counts unit)
+            (failures_in (U.failures self.new.units) self.new.counts unit)) }
+        ensures grows { (u : ℕ)
+            → failures_in (U.failures self.old.units) self.old.counts u
+            ≤ failures_in (U.failures self.new.units) self.new.counts u }
         ensures kept { IfNoneFailed result (Same
             (failures_in (U.failures self.old.units) self.old.counts)
             (failures_in (U.failures self.new.units) self.new.counts)) }
@@ -81,8 +87,11 @@ impl<U: Units> Units for FailAt<U> {
             (failures_in (U.failures self.old.units) self.old.counts)
             (failures_in (U.failures self.new.units) self.new.counts) }
         ensures left { self.new.left ≡ self.old.left - 1 }
-        ensures fails { self.old.left ≡ 1 → (result ≡ Err UnitFault.ReadFailed) × (self.new.units ≡ self.old.units) }
-        ensures spared { self.old.left ≢ 1 → (self.new.counts ≡ self.old.counts) × IfErr result (λ fault. IsCounted fault (U.failures self.old.units unit) (U.failures self.new.units unit)) }
+        ensures fails { self.old.left ≡ 1 → (result ≡ Err UnitFault.ReadFailed)
+            × (self.new.units ≡ self.old.units) }
+        ensures spared { self.old.left ≢ 1 → (self.new.counts ≡ self.old.counts)
+            × IfErr result (λ fault.
+            IsCounted fault (U.failures self.old.units unit) (U.failures self.new.units unit)) }
     {
         if self.fails(unit) {
             return Err(UnitFault::ReadFailed);
@@ -91,10 +100,15 @@ impl<U: Units> Units for FailAt<U> {
     }
 
     fn write_record(&mut self, unit: u8, bytes: &[u8]) -> Result<(), UnitFault>
-        ensures ok { OnOk result (Writes unit bytes.now (U.told self.old.units) (U.told self.new.units)) }
+        ensures ok { OnOk result
+            (Writes unit bytes.now (U.told self.old.units) (U.told self.new.units)) }
         ensures err { OnErr result (U.told self.new.units ≡ U.told self.old.units) }
-        ensures counted { IfErr result (λ fault. IsCounted fault (failures_with (U.failures self.old.units unit) (count_of self.old.counts unit)) (failures_with (U.failures self.new.units unit) (count_of self.new.counts unit))) }
-        ensures grows { (u : ℕ) → failures_with (U.failures self.old.units u) (count_of self.old.counts u) ≤ failures_with (U.failures self.new.units u) (count_of self.new.counts u) }
+        ensures counted { IfErr result (λ fault.
+            IsCounted fault (failures_in (U.failures self.old.units) self.old.counts unit)
+            (failures_in (U.failures self.new.units) self.new.counts unit)) }
+        ensures grows { (u : ℕ)
+            → failures_in (U.failures self.old.units) self.old.counts u
+            ≤ failures_in (U.failures self.new.units) self.new.counts u }
         ensures kept { IfNoneFailed result (Same
             (failures_in (U.failures self.old.units) self.old.counts)
             (failures_in (U.failures self.new.units) self.new.counts)) }
@@ -102,8 +116,11 @@ impl<U: Units> Units for FailAt<U> {
             (failures_in (U.failures self.old.units) self.old.counts)
             (failures_in (U.failures self.new.units) self.new.counts) }
         ensures left { self.new.left ≡ self.old.left - 1 }
-        ensures fails { self.old.left ≡ 1 → (result ≡ Err UnitFault.WriteFailed) × (self.new.units ≡ self.old.units) }
-        ensures spared { self.old.left ≢ 1 → (self.new.counts ≡ self.old.counts) × IfErr result (λ fault. IsCounted fault (U.failures self.old.units unit) (U.failures self.new.units unit)) }
+        ensures fails { self.old.left ≡ 1 → (result ≡ Err UnitFault.WriteFailed)
+            × (self.new.units ≡ self.old.units) }
+        ensures spared { self.old.left ≢ 1 → (self.new.counts ≡ self.old.counts)
+            × IfErr result (λ fault.
+            IsCounted fault (U.failures self.old.units unit) (U.failures self.new.units unit)) }
     {
         if self.fails(unit) {
             return Err(UnitFault::WriteFailed);

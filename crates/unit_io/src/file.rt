@@ -67,7 +67,9 @@ impl<'a, R: Files + Input + Print> FileUnits<'a, R> {
 
     /// Writes what was kept back, or tells the unit that could not be written, the first of them.
     pub fn flush(&mut self) -> Result<(), u8>
-        ensures counted { IfErr result (λ unit. IsCounted UnitFault.WriteFailed (count_of self.old.counts unit) (count_of self.new.counts unit)) }
+        ensures counted { IfErr result (λ unit.
+            IsCounted UnitFault.WriteFailed (count_of self.old.counts unit)
+            (count_of self.new.counts unit)) }
         ensures grows { (u : ℕ) → count_of self.old.counts u ≤ count_of self.new.counts u }
     {
         let mut failed = None;
@@ -91,7 +93,8 @@ impl<'a, R: Files + Input + Print> FileUnits<'a, R> {
     // Counts a fault of a unit, unless it is want of memory.
     fn counted(&mut self, unit: u8, fault: UnitFault) -> UnitFault
         ensures same { result ≡ fault }
-        ensures counted { IsCounted fault (count_of self.old.counts unit) (count_of self.new.counts unit) }
+        ensures counted { IsCounted fault (count_of self.old.counts unit)
+            (count_of self.new.counts unit) }
         ensures grows { (u : ℕ) → count_of self.old.counts u ≤ count_of self.new.counts u }
         ensures kept { IfMemory fault (Same (count_of self.old.counts) (count_of self.new.counts)) }
         ensures others { SameBut unit (count_of self.old.counts) (count_of self.new.counts) }

@@ -3,6 +3,10 @@
 //! The trait `Units` has two calls, `read_record(unit)` and `write_record(unit, bytes)`. `MemUnits` are units in
 //! memory, `FileUnits` standard input, standard output and files; `FailAt` lets one call of other units fail.
 //!
+//!     let mut units = MemUnits::new(alloc);
+//!     units.open_input(5, b"first\nsecond\n")?;
+//!     let record = units.read_record(5)?;
+//!
 //! Promised: a read takes the first record that is left, a write adds one behind those written, and a fault U1 to U3
 //! grows that unit's count of failures alone. `MemUnits` keeps all of it; of files and terminals it isn't stated what
 //! they hold. `LineReader` and `LineWriter` are proved over any reader and writer.

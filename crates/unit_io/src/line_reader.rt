@@ -36,7 +36,8 @@ impl<R: Read> LineReader<R> {
     /// Tells the next record, without its line feed; `None` at the end. After a fault nothing is told and nothing is
     /// lost, and the next call goes on.
     pub fn next_record(&mut self) -> Result<Option<Text>, UnitFault>
-        ensures { TellsNext result (R.remaining self.old.source) (R.remaining self.new.source) self.old.held self.new.held }
+        ensures { TellsNext result (R.remaining self.old.source)
+            (R.remaining self.new.source) self.old.held self.new.held }
     {
         // The bound is there so that each call returns, also where each read is interrupted.
         'turns: for _ in 0..u64::MAX {

@@ -23,8 +23,12 @@ impl<W: Write> LineWriter<W> {
 
     /// Writes a record, and a line feed after it. After a fault a beginning of them was written.
     pub fn write_record(&mut self, bytes: &[u8]) -> Result<(), UnitFault>
-        ensures ok { OnOk result (Appends (W.contents self.old.target) (W.contents self.new.target) (bytes.now ++ 10 ∷ [])) }
-        ensures err { OnErr result (AppendsBeginning (W.contents self.old.target) (W.contents self.new.target) (bytes.now ++ 10 ∷ [])) }
+        ensures ok { OnOk result
+            (Appends (W.contents self.old.target) (W.contents self.new.target)
+            (bytes.now ++ 10 ∷ [])) }
+        ensures err { OnErr result
+            (AppendsBeginning (W.contents self.old.target) (W.contents self.new.target)
+            (bytes.now ++ 10 ∷ [])) }
         ensures fault { IfErr result (λ fault. fault ≡ UnitFault.WriteFailed) }
     {
         match write_whole(&mut self.target, bytes) {
@@ -48,7 +52,8 @@ impl<W: Write> LineWriter<W> {
 // Writes bytes until none is left.
 fn write_whole<W: Write>(target: &mut W, bytes: &[u8]) -> Result<(), UnitFault>
     ensures ok { OnOk result (Appends (W.contents target.old) (W.contents target.new) bytes.now) }
-    ensures err { OnErr result (AppendsBeginning (W.contents target.old) (W.contents target.new) bytes.now) }
+    ensures err { OnErr result
+        (AppendsBeginning (W.contents target.old) (W.contents target.new) bytes.now) }
     ensures fault { IfErr result (λ fault. fault ≡ UnitFault.WriteFailed) }
 {
     let mut at = 0;

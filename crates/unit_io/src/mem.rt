@@ -1,9 +1,11 @@
 //! Units in memory.
 
-ghost use Rattle.std.specs.Prelude.{◌≡◌, ◌↔◌, ◌≤◌, ◌⊎◌, ℕ, [], ◌∷◌, ◌++◌, Some, None, Err, replicate, option_copied, set, IfOk, OnOk, IfErr, OnErr};
+ghost use Rattle.std.specs.Prelude.{◌≡◌, ◌↔◌, ◌≤◌, ◌⊎◌, ℕ, [], ◌∷◌, ◌++◌, Some, None, Err, replicate};
+ghost use Rattle.std.specs.Prelude.{option_copied, set, IfOk, OnOk, IfErr, OnErr};
 ghost use Rattle.model.specs.Units.{records_of, Reads, Writes, IsCounted};
 ghost use Rattle.unit_io.specs.Counts.{Same, SameBut, IfNoneFailed};
-ghost use Rattle.unit_io.specs.Held.{side_at, output_of, place_of, written_to, io_of, failures_of, refused, IsRead, IsWritten, IsReadable, IsWritable, IsOfMemUnits};
+ghost use Rattle.unit_io.specs.Held.{side_at, output_of, place_of, written_to, io_of, failures_of, refused};
+ghost use Rattle.unit_io.specs.Held.{IsRead, IsWritten, IsReadable, IsWritable, IsOfMemUnits, with_unit};
 ghost use Rattle.unit_io.specs.declared.mem.Side.TheVariants.{Input, Output};
 
 use crate::counts::Counts;
@@ -50,9 +52,18 @@ impl Model for MemUnits {
 
     ghost Value = { Held };
 
-    ghost view = { λ m. record { opened = m.opened.items; printed = m.printed.items; failures = m.failures } };
+    ghost view = { λ m. record {
+      opened = m.opened.items;
+      printed = m.printed.items;
+      failures = m.failures;
+    } };
 
-    ghost invariant = { λ m. IsKept (record { opened = m.opened.items; printed = m.printed.items; failures = m.failures }) };
+    ghost invariant = { λ m.
+        IsKept (record {
+          opened = m.opened.items;
+          printed = m.printed.items;
+          failures = m.failures;
+        }) };
 }
 
 impl MemUnits {
@@ -71,7 +82,8 @@ impl MemUnits {
     /// Opens a unit for input; its records are the lines of the bytes.
     pub fn open_input(&mut self, unit: u8, bytes: &[u8]) -> Result<(), UnitFault>
         requires { side_at unit self.old.opened ≡ None }
-        ensures ok { OnOk result (self.new ≡ record self.old { opened = self.old.opened ++ record { unit = unit; side = Input (records_of bytes.now) } ∷ [] }) }
+        ensures ok { OnOk result
+            (self.new ≡ with_unit unit (Input (records_of bytes.now)) self.old) }
         ensures err { OnErr result (self.new ≡ self.old) }
         ensures memory { IfErr result (λ fault. fault ≡ UnitFault.Memory) }
     {
@@ -85,7 +97,7 @@ impl MemUnits {
     /// Opens a unit for output.
     pub fn open_output(&mut self, unit: u8) -> Result<(), UnitFault>
         requires { side_at unit self.old.opened ≡ None }
-        ensures ok { OnOk result (self.new ≡ record self.old { opened = self.old.opened ++ record { unit = unit; side = Output [] } ∷ [] }) }
+        ensures ok { OnOk result (self.new ≡ with_unit unit (Output []) self.old) }
         ensures err { OnErr result (self.new ≡ self.old) }
         ensures memory { IfErr result (λ fault. fault ≡ UnitFault.Memory) }
     {
@@ -95,7 +107,7 @@ impl MemUnits {
 
     fn open(&mut self, unit: u8, side: Side) -> Result<(), UnitFault>
         requires { output_of (Some side) ≡ [] }
-        ensures ok { OnOk result (self.new ≡ record self.old { opened = self.old.opened ++ record { unit = unit; side = side } ∷ [] }) }
+        ensures ok { OnOk result (self.new ≡ with_unit unit side self.old) }
         ensures err { OnErr result (self.new ≡ self.old) }
         ensures memory { IfErr result (λ fault. fault ≡ UnitFault.Memory) }
     {
@@ -142,15 +154,18 @@ impl Units for MemUnits {
     ghost failures = { failures_of };
 
     fn read_record(&mut self, unit: u8) -> Result<Option<Text>, UnitFault>
-        ensures ok { IfOk result (λ got. Reads unit got (Some (io_of self.old)) (Some (io_of self.new))) }
+        ensures ok { IfOk result (λ got.
+            Reads unit got (Some (io_of self.old)) (Some (io_of self.new))) }
         ensures err { OnErr result (Some (io_of self.new) ≡ Some (io_of self.old)) }
-        ensures counted { IfErr result (λ fault. IsCounted fault (failures_of self.old unit) (failures_of self.new unit)) }
+        ensures counted { IfErr result (λ fault.
+            IsCounted fault (failures_of self.old unit) (failures_of self.new unit)) }
         ensures grows { (u : ℕ) → failures_of self.old u ≤ failures_of self.new u }
         ensures kept { IfNoneFailed result (Same (failures_of self.old) (failures_of self.new)) }
         ensures others { SameBut unit (failures_of self.old) (failures_of self.new) }
         ensures read { IfOk result (λ got. IsRead unit got self.old self.new) }
         ensures refused { IfErr result (λ fault. self.new ≡ refused fault unit self.old) }
-        ensures unopened { (result ≡ Err UnitFault.NotOpen) ↔ ¬ IsReadable (side_at unit self.old.opened) }
+        ensures unopened { (result ≡ Err UnitFault.NotOpen)
+            ↔ ¬ IsReadable (side_at unit self.old.opened) }
         ensures never { IfErr result IsOfMemUnits }
     {
         let Some(k) = place(&self.opened, unit) else {
@@ -167,15 +182,18 @@ impl Units for MemUnits {
     }
 
     fn write_record(&mut self, unit: u8, bytes: &[u8]) -> Result<(), UnitFault>
-        ensures ok { OnOk result (Writes unit bytes.now (Some (io_of self.old)) (Some (io_of self.new))) }
+        ensures ok { OnOk result
+            (Writes unit bytes.now (Some (io_of self.old)) (Some (io_of self.new))) }
         ensures err { OnErr result (Some (io_of self.new) ≡ Some (io_of self.old)) }
-        ensures counted { IfErr result (λ fault. IsCounted fault (failures_of self.old unit) (failures_of self.new unit)) }
+        ensures counted { IfErr result (λ fault.
+            IsCounted fault (failures_of self.old unit) (failures_of self.new unit)) }
         ensures grows { (u : ℕ) → failures_of self.old u ≤ failures_of self.new u }
         ensures kept { IfNoneFailed result (Same (failures_of self.old) (failures_of self.new)) }
         ensures others { SameBut unit (failures_of self.old) (failures_of self.new) }
         ensures written { OnOk result (IsWritten unit bytes.now self.old self.new) }
         ensures refused { IfErr result (λ fault. self.new ≡ refused fault unit self.old) }
-        ensures unopened { (result ≡ Err UnitFault.NotOpen) ↔ ¬ IsWritable (side_at unit self.old.opened) }
+        ensures unopened { (result ≡ Err UnitFault.NotOpen)
+            ↔ ¬ IsWritable (side_at unit self.old.opened) }
         ensures never { IfErr result IsOfMemUnits }
     {
         let Some(k) = place(&self.opened, unit) else {
@@ -200,7 +218,8 @@ fn put(
     unit: u8,
     bytes: &[u8],
 ) -> Result<(), AllocError>
-    ensures printed { OnOk result (printed.new.items ≡ printed.old.items ++ record { unit = unit; bytes = bytes.now } ∷ []) }
+    ensures printed { OnOk result
+        (printed.new.items ≡ printed.old.items ++ record { unit = unit; bytes = bytes.now } ∷ []) }
     ensures lines { OnOk result (lines.new ≡ lines.old ++ bytes.now ++ 10 ∷ []) }
     ensures err { OnErr result ((printed.new.items ≡ printed.old.items) × (lines.new ≡ lines.old)) }
 {

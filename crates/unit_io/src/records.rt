@@ -36,7 +36,8 @@ impl Records {
 
     /// Takes the first record that is left, if there is one.
     pub fn take_first(&mut self) -> Result<Option<Text>, UnitFault>
-        ensures ok { IfOk result (λ got. (got ≡ first_of self.old) × (self.new ≡ rest_of self.old)) }
+        ensures ok { IfOk result (λ got.
+            (got ≡ first_of self.old) × (self.new ≡ rest_of self.old)) }
         ensures err { OnErr result (self.new ≡ self.old) }
         ensures memory { IfErr result (λ fault. fault ≡ UnitFault.Memory) }
     {

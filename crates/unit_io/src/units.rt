@@ -22,7 +22,8 @@ pub trait Units {
     fn read_record(&mut self, unit: u8) -> Result<Option<Text>, UnitFault>
         ensures ok { IfOk result (λ got. Reads unit got (told self.old) (told self.new)) }
         ensures err { OnErr result (told self.new ≡ told self.old) }
-        ensures counted { IfErr result (λ fault. IsCounted fault (failures self.old unit) (failures self.new unit)) }
+        ensures counted { IfErr result (λ fault.
+            IsCounted fault (failures self.old unit) (failures self.new unit)) }
         ensures grows { (u : ℕ) → failures self.old u ≤ failures self.new u }
         ensures kept { IfNoneFailed result (Same (failures self.old) (failures self.new)) }
         ensures others { SameBut unit (failures self.old) (failures self.new) };
@@ -31,7 +32,8 @@ pub trait Units {
     fn write_record(&mut self, unit: u8, bytes: &[u8]) -> Result<(), UnitFault>
         ensures ok { OnOk result (Writes unit bytes.now (told self.old) (told self.new)) }
         ensures err { OnErr result (told self.new ≡ told self.old) }
-        ensures counted { IfErr result (λ fault. IsCounted fault (failures self.old unit) (failures self.new unit)) }
+        ensures counted { IfErr result (λ fault.
+            IsCounted fault (failures self.old unit) (failures self.new unit)) }
         ensures grows { (u : ℕ) → failures self.old u ≤ failures self.new u }
         ensures kept { IfNoneFailed result (Same (failures self.old) (failures self.new)) }
         ensures others { SameBut unit (failures self.old) (failures self.new) };

@@ -5,3 +5,6 @@ pub mod Powers
 pub mod Keywords
 pub mod Telling
 pub mod UnitCalls
+pub mod Objects
+pub mod Made
+pub mod Named

@@ -6,17 +6,7 @@ use Rattle.model.specs.Trees.{Bytes}
 use Rattle.model.specs.Io.{Io}
 use Rattle.model.specs.Told.{IfTold}
 use Rattle.model.specs.Units.{Reads, after_read, first_of, rest_of}
-
-pub told_same : (o : Option Io) (P : Io → Io → Type 0) → ((io : Io) → P io io) → IfTold o o P
-told_same None P h = tt
-told_same (Some io) P h = h io
-
-pub told_on : (o n : Option Io) (P Q : Io → Io → Type 0) → ((a b : Io) → P a b → Q a b) → IfTold o n P → IfTold o n Q
-told_on None n P Q f h = tt
-told_on (Some a) None P Q f h = absurd h
-told_on (Some a) (Some b) P Q f h = f a b h
-
--- ---- after a read
+pub use Rattle.unit_io.proofs.Serving.{told_on, told_same}
 
 pub told_read : (o n : Option Io) (u : ℕ) (got : Option Bytes) (P : Io → Io → Type 0) → Reads u got o n → ((io : Io) → got ≡ first_of (io.left u) → P io (after_read u io)) → IfTold o n P
 told_read None n u got P h f = tt

@@ -1,6 +1,7 @@
 -- Fetching from units and assigning to them.
-use Rattle.std.proofs.Common.{◌≡◌, ◌<◌, ◌≤◌, ℕ, List, [], ◌∷◌, length, pos, Bool, true, false, T, leb→le, le→leb, int_le, Option, Some, None, Result, nat_eq, bytes_eq, refl, sym, ap, ◌∙◌, subst, arith, Ok, Err, ◌⊎◌, inl, inr}
-use Rattle.std.specs.Prelude.{OnErr, OnOk, if◌then◌else◌}
+use Rattle.std.proofs.Common.{◌≡◌, ◌<◌, ◌≤◌, ℕ, ℤ, List, [], ◌∷◌, length, pos, Bool, true, false, T, leb→le, le→leb, int_le, Option, Some, None, Result, nat_eq, bytes_eq, refl, sym, ap, ◌∙◌, subst, arith, Ok, Err, ◌⊎◌, inl, inr}
+use Rattle.std.specs.Prelude.{OnErr, OnOk, IsErrAnd, if◌then◌else◌}
+use Rattle.std.proofs.lemmas.Result.{err_from_is_err_and}
 use Rattle.std.proofs.lemmas.Slice.Eq.{bytes_eq-Decides}
 use Rattle.model.specs.declared.run.ErrorCode.TheVariants as error
 use Rattle.model.specs.Trees.{Bytes}
@@ -8,6 +9,7 @@ use Rattle.model.specs.Io.{Io}
 use Rattle.model.specs.Told.{IfTold}
 use Rattle.model.specs.Units.{Reads, after_read, first_of, rest_of}
 use Rattle.model.specs.Keywords.{IsInteger, KeyValue, is_zero}
+use Rattle.model.specs.Target.{Variable, IntegerKey}
 use Rattle.model.specs.Values.{Str, set_var, keys_of}
 use Rattle.model.specs.Conversions.{Op, Gives, Refuses, Faults, to_text}
 use Rattle.model.specs.Operators.{as_read, take_record, fetch_var, fetch_op, assign_op, write_var, print_text}
@@ -17,12 +19,12 @@ use Rattle.pattern_compiler.specs.View.{name_of}
 use Rattle.pattern_compiler.specs.declared.instr.Name.{Name}
 use Rattle.pattern_compiler.specs.declared.instr.Name.TheVariants as name
 use Rattle.world.specs.Values.{value_of}
-use Rattle.world.specs.Answers.{Answers, AnswersOrFails}
-use Rattle.world.specs.Held.{Held, IsSet, IsSetOrKept, world_of, variable_at, value_in, output_in, taken, fetched_from}
+use Rattle.world.specs.Answers.{Answers, AnswersOrFails, LeadsTo, done}
+use Rattle.world.specs.Held.{Held, IsSet, IsSetOrKept, world_of, variable_at, value_in, input_in, output_in, taken}
 use Rattle.world.specs.declared.fault.Fault.{Fault}
+use Rattle.world.specs.declared.fault.Fault.TheVariants as fault
 use Rattle.world.specs.declared.value.Value.{Value}
-use Rattle.world.specs.declared.world.Source.{Source}
-use Rattle.world.specs.declared.world.Source.TheVariants as source
+use Rattle.world.specs.declared.world.Variable as var
 use Rattle.world.proofs.Telling.{told_same, told_on, told_read, end_stays}
 
 -- ---- a record as a value
@@ -89,21 +91,46 @@ read_ends x u got h o n is reads =
 
 -- ---- fetching
 
-abbrev pub Sources : Source → Bytes → Held → Type 0
-Sources s x h = (io : Io) → fetch_var x ((world_of h io).plain.reads x) (world_of h io) ≡ fetched_from s x (world_of h io)
+value_unread : (b : Bool) (x : Bytes) (i : Option ℕ) (w : MW) → is_zero (keys_of w).input ≡ b → (if b then None else i) ≡ None → fetch_var x i w ≡ Gives (w.vars x) w
+value_unread b x None w on e = refl
+value_unread true x (Some u) w on e = ap (λ c. if c then Gives (w.vars x) w else take_record x u (w.io.left u) w) on
+value_unread false x (Some u) w on e = absurd (cc)
 
-pub fetched_value : (n : Name) (x : Bytes) (h : Held) (s : Source) (v : Value) (o : Option Io) → n ≡ name.Variable x → s ≡ source.Value v → Sources s x h
-    → IfTold o o (λ io io'. fetch_op (name_of n) (world_of h io) ≡ Gives (value_of v) (world_of h io'))
-fetched_value n x h s v o is from f =
-    told_same o _ (λ io. ap (λ z. fetch_op (name_of z) (world_of h io)) is ∙ f io ∙ ap (λ z. fetched_from z x (world_of h io)) from)
+record_read : (b : Bool) (x : Bytes) (i : Option ℕ) (u : ℕ) (w : MW) → is_zero (keys_of w).input ≡ b → (if b then None else i) ≡ Some u → fetch_var x i w ≡ take_record x u (w.io.left u) w
+record_read true x i u w on e = absurd (cc)
+record_read false x None u w on e = absurd (cc)
+record_read false x (Some k) u w on e =
+    let same : k ≡ u = cc in
+    ap (λ c. if c then Gives (w.vars x) w else take_record x k (w.io.left k) w) on ∙ ap (λ n. take_record x n (w.io.left n) w) same
 
-pub fetched_unit : (n : Name) (x : Bytes) (u : ℕ) (h new : Held) (s : Source) (r : Result (Option MVal) Fault) (o m : Option Io) → n ≡ name.Variable x → s ≡ source.Unit u → Sources s x h
+-- no variable
+pub fetched_null : (x : Bytes) (h : Held) (v : Value) (o : Option Io) → variable_at x h.variables ≡ None → value_of v ≡ Str []
+    → IfTold o o (λ io io'. fetch_op (Variable x) (world_of h io) ≡ Gives (value_of v) (world_of h io'))
+fetched_null x h v o none null =
+    told_same o _
+    (λ io. ap (λ z. fetch_var x (input_in z) (world_of h io)) none
+    ∙ ap (λ z. Gives (value_in z) (world_of h io)) none
+    ∙ ap (λ z. Gives z (world_of h io)) (sym null))
+
+-- a variable's own value
+pub fetched_value : (x : Bytes) (h : Held) (variable : var.Variable) (v : Value) (i : Option ℕ) (o : Option Io) → variable_at x h.variables ≡ Some variable → i ≡ (if is_zero h.keys.input then None else variable.input) → i ≡ None → v ≡ variable.value
+    → IfTold o o (λ io io'. fetch_op (Variable x) (world_of h io) ≡ Gives (value_of v) (world_of h io'))
+fetched_value x h variable v i o at reads none same =
+    told_same o _
+    (λ io. ap (λ z. fetch_var x (input_in z) (world_of h io)) at
+    ∙ value_unread (is_zero h.keys.input) x variable.input (world_of h io) refl (sym reads ∙ none)
+    ∙ ap (λ z. Gives (value_in z) (world_of h io)) at
+    ∙ ap (λ z. Gives (value_of z) (world_of h io)) (sym same))
+
+-- a record of the unit that a variable reads from
+pub fetched_unit : (x : Bytes) (u : ℕ) (h new : Held) (variable : var.Variable) (i : Option ℕ) (r : Result (Option MVal) Fault) (o m : Option Io) → variable_at x h.variables ≡ Some variable → i ≡ (if is_zero h.keys.input then None else variable.input) → i ≡ Some u
     → IfTold o m (λ io io'. AnswersOrFails r (world_of new io') (take_record x u (io.left u) (world_of h io)))
-    → IfTold o m (λ io io'. AnswersOrFails r (world_of new io') (fetch_op (name_of n) (world_of h io)))
-fetched_unit n x u h new s r o m is from f reads =
+    → IfTold o m (λ io io'. AnswersOrFails r (world_of new io') (fetch_op (Variable x) (world_of h io)))
+fetched_unit x u h new variable i r o m at reads unit records =
     told_on o m _ _
-    (λ io io' a. subst (λ p. AnswersOrFails r (world_of new io') p) (sym (ap (λ z. fetch_op (name_of z) (world_of h io)) is ∙ f io ∙ ap (λ z. fetched_from z x (world_of h io)) from)) a)
-    reads
+    (λ io io' a. subst (λ p. AnswersOrFails r (world_of new io') p)
+    (sym (ap (λ z. fetch_var x (input_in z) (world_of h io)) at ∙ record_read (is_zero h.keys.input) x variable.input u (world_of h io) refl (sym reads ∙ unit))) a)
+    records
 
 -- ---- assigning
 
@@ -121,25 +148,77 @@ written u v v' h r o n same on prints =
 if_same : (x : Bytes) (v w : MVal) → (if bytes_eq x x then v else w) ≡ v
 if_same x v w = ap (λ b. if b then v else w) ((bytes_eq-Decides x x).1 refl)
 
-pub assigned_to_unit : (n : Name) (x : Bytes) (u : ℕ) (v : MVal) (h new : Held) (r : Result (record {}) Fault) (o m : Option Io) → n ≡ name.Variable x → Some u ≡ output_in (variable_at x h.variables)
+pub assigned_to_unit : (x : Bytes) (u : ℕ) (v : MVal) (h new : Held) (r : Result (record {}) Fault) (o m : Option Io) → Some u ≡ output_in (variable_at x h.variables)
     → ((io : Io) → world_of new io ≡ set_var x v (world_of h io))
     → IfTold o m (λ io io'. Answers r (world_of new io') (write_var (Some u) (value_in (variable_at x new.variables)) (world_of new io)))
-    → IfTold o m (λ io io'. Answers r (world_of new io') (assign_op (name_of n) v (world_of h io)))
-assigned_to_unit n x u v h new r o m is out set writes =
+    → IfTold o m (λ io io'. Answers r (world_of new io') (assign_op (Variable x) v (world_of h io)))
+assigned_to_unit x u v h new r o m out set writes =
     told_on o m _ _
     (λ io io' a. subst (λ p. Answers r (world_of new io') p)
     (ap (λ z. write_var (Some u) z (world_of new io)) (ap (λ w. w.vars x) (set io) ∙ if_same x v ((world_of h io).vars x))
     ∙ ap (λ w. write_var (Some u) v w) (set io)
-    ∙ ap (λ z. write_var z v (set_var x v (world_of h io))) out
-    ∙ sym (ap (λ z. assign_op (name_of z) v (world_of h io)) is)) a)
+    ∙ ap (λ z. write_var z v (set_var x v (world_of h io))) out) a)
     writes
 
-pub assigned_alone : (n : Name) (x : Bytes) (v : MVal) (h new : Held) (o : Option Io) → n ≡ name.Variable x → None ≡ output_in (variable_at x h.variables)
+pub assigned_alone : (x : Bytes) (v : MVal) (h new : Held) (o : Option Io) → None ≡ output_in (variable_at x h.variables)
     → ((io : Io) → world_of new io ≡ set_var x v (world_of h io))
-    → IfTold o o (λ io io'. assign_op (name_of n) v (world_of h io) ≡ Gives (record {}) (world_of new io'))
-assigned_alone n x v h new o is out set =
+    → IfTold o o (λ io io'. assign_op (Variable x) v (world_of h io) ≡ Gives (record {}) (world_of new io'))
+assigned_alone x v h new o out set =
     told_same o _
-    (λ io. ap (λ z. assign_op (name_of z) v (world_of h io)) is ∙ ap (λ z. write_var z v (set_var x v (world_of h io))) (sym out) ∙ ap (λ w. Gives (record {}) w) (sym (set io)))
+    (λ io. ap (λ z. write_var z v (set_var x v (world_of h io))) (sym out) ∙ ap (λ w. Gives (record {}) w) (sym (set io)))
+
+-- ---- names of elements
+
+pub fetched_there : (n m : Name) (h : Held) (r : Result (Option MVal) Fault) (o : Option Io) → n ≡ m
+    → ((io : Io) → AnswersOrFails r (world_of h io) (fetch_op (name_of m) (world_of h io)))
+    → IfTold o o (λ io io'. AnswersOrFails r (world_of h io') (fetch_op (name_of n) (world_of h io)))
+fetched_there n m h r o is f = told_same o _ (λ io. subst (λ z. AnswersOrFails r (world_of h io) (fetch_op (name_of z) (world_of h io))) (sym is) (f io))
+
+-- a key that went through 64 bits
+pub fetched_key : (n : Name) (k : ℕ) (z z' : ℤ) (h : Held) (r : Result (Option MVal) Fault) (o : Option Io) → n ≡ name.IntegerKey k z → z' ≡ z
+    → ((io : Io) → AnswersOrFails r (world_of h io) (fetch_op (IntegerKey k z') (world_of h io)))
+    → IfTold o o (λ io io'. AnswersOrFails r (world_of h io') (fetch_op (name_of n) (world_of h io)))
+fetched_key n k z z' h r o is same f = fetched_there n (name.IntegerKey k z') h r o (is ∙ ap (name.IntegerKey k) (sym same)) f
+
+pub assigned_there : (n m : Name) (v : MVal) (h new : Held) (r : Result (record {}) Fault) (o : Option Io) → n ≡ m
+    → ((io : Io) → Answers r (world_of new io) (assign_op (name_of m) v (world_of h io)))
+    → IfTold o o (λ io io'. Answers r (world_of new io') (assign_op (name_of n) v (world_of h io)))
+assigned_there n m v h new r o is f = told_same o _ (λ io. subst (λ z. Answers r (world_of new io) (assign_op (name_of z) v (world_of h io))) (sym is) (f io))
+
+-- a name that is set by an assignment is set by this one
+pub set_there : (n m : Name) (v : MVal) (h new : Held) (r : Result (Unit {0}) Fault) → n ≡ m
+    → (((io : Io) → assign_op (name_of m) v (world_of h io) ≡ Gives (record {}) (world_of new io)) → IsSet (name_of m) v h new)
+    → ((io : Io) → Answers (done r) (world_of new io) (assign_op (name_of m) v (world_of h io)))
+    → OnOk r (IsSet (name_of n) v h new)
+set_there n m v h new (Ok u) is f g = subst (λ z. IsSet (name_of z) v h new) (sym is) (f g)
+set_there n m v h new (Err e) is f g = tt
+
+module _ (n : Name) (k : ℕ) (z z' : ℤ) (v : MVal) (h new : Held) (r : Result (Unit {0}) Fault) (is : n ≡ name.IntegerKey k z) (same : z' ≡ z)
+    (f : (io : Io) → Answers (done r) (world_of new io) (assign_op (IntegerKey k z') v (world_of h io))) where
+  pub assigned_key : (o : Option Io) → IfTold o o (λ io io'. Answers (done r) (world_of new io') (assign_op (name_of n) v (world_of h io)))
+  assigned_key o = assigned_there n (name.IntegerKey k z') v h new (done r) o (is ∙ ap (name.IntegerKey k) (sym same)) f
+
+  pub set_key : OnOk r (IsSet (name_of n) v h new)
+  set_key = set_there n (name.IntegerKey k z') v h new r (is ∙ ap (name.IntegerKey k) (sym same)) (λ g. g) f
+
+-- ---- replacing
+
+answers_by : (e : Fault) (w : MW) (k : MVal → Op MW (record {})) (o : Op MW (record {})) → LeadsTo (Err e) w k o → Answers (Err e) w o
+answers_by (fault.Error e) w k o h = h
+answers_by (fault.Stop s) w k o h = tt
+
+pub not_replaced : (e : Fault) (r : Result (Unit {0}) Fault) (h : Held) (k : MVal → MW → Op MW (record {})) (op : MW → Op MW (record {})) (o : Option Io) → IsErrAnd r (λ x. x ≡ e)
+    → ((io : Io) → LeadsTo (Err e) (world_of h io) (λ v. k v (world_of h io)) (op (world_of h io)))
+    → IfTold o o (λ io io'. Answers (done r) (world_of h io') (op (world_of h io)))
+not_replaced e r h k op o is f =
+    let p = err_from_is_err_and r is in
+    told_same o _ (λ io. subst (λ x. Answers (done x) (world_of h io) (op (world_of h io))) (sym (p.1 ∙ ap Err p.2)) (answers_by e (world_of h io) (λ v. k v (world_of h io)) (op (world_of h io)) (f io)))
+
+pub replaced_by : (h new : Held) (k op : MW → Op MW (record {})) (r : Result (record {}) Fault) (o n : Option Io)
+    → ((io : Io) → op (world_of h io) ≡ k (world_of h io))
+    → IfTold o n (λ io io'. Answers r (world_of new io') (k (world_of h io)))
+    → IfTold o n (λ io io'. Answers r (world_of new io') (op (world_of h io)))
+replaced_by h new k op r o n f a = told_on o n _ _ (λ io io' x. subst (λ p. Answers r (world_of new io') p) (sym (f io)) x) a
 
 -- whatever an assignment answers, it changes no more than the variable
 pub no_more : {A E : Type 0} (r : Result A E) (n : p.Name) (v : MVal) (old new : Held) → OnOk r (IsSet n v old new) → OnErr r (IsSetOrKept n v old new) → (new ≡ old) ⊎ ((x : MVal) × IsSet n x old new)

@@ -1,14 +1,24 @@
 -- A world whose variables were changed at one name.
-use Rattle.std.proofs.Common.{◌≡◌, List, [], Bool, true, false, cond, Option, Some, None, refl, sym, ap, ◌∙◌, bytes_eq}
-use Rattle.std.specs.Prelude.{if◌then◌else◌}
+use Rattle.std.proofs.Common.{◌≡◌, ℕ, List, [], ◌∷◌, ◌++◌, length, map, Bool, true, false, cond, Option, Some, None, option_map, position, Result, Ok, Err, refl, sym, ap, ◌∙◌, is_some, bytes_eq, slice_get, get_or}
+use Rattle.std.specs.Prelude.{IfSome, OnOk, if◌then◌else◌}
 use Rattle.std.proofs.lemmas.Slice.Eq.{bytes_eq-Decides}
+use Rattle.std.proofs.lemmas.List.Quantifiers.{position-Some}
+use Rattle.std.proofs.lemmas.Option.{slice_get-map, slice_get-get_or}
+use Rattle.std.specs.Map.{keys_of, values_of}
+use Rattle.std.specs.Cmp.Lexicographic.{nat_list_eq_equiv}
+use Rattle.indexmap.specs.IndexMap.{IndexMap, IsUnique, insert_entry, with_value_at}
+use Rattle.indexmap.proofs.CallerLemmas.{updates-with_value_at}
+use Rattle.indexmap.proofs.MapLemmas.{absent_from_lookup, insert_entry-absent}
 use Rattle.model.specs.Trees.{Bytes}
 use Rattle.model.specs.Io.{Io}
 use Rattle.model.specs.Keywords.{Keys}
-use Rattle.model.specs.Values.{set_var}
+use Rattle.model.specs.Values.{Object, Str, set_var, set_plain}
+use Rattle.model.specs.Primitives.{set_reads, set_writes}
 use Rattle.world.specs.Values.{value_of}
+use Rattle.world.specs.Objects.{object_map}
 use Rattle.world.specs.declared.value.Value.{Value}
-use Rattle.world.specs.Held.{Held, variable_at, value_in, input_in, output_in, world_of}
+use Rattle.world.specs.declared.value.Value.TheVariants.{String}
+use Rattle.world.specs.Held.{Held, variable_at, name_at, value_in, input_in, output_in, world_of}
 use Rattle.world.specs.declared.world.Variable.{Variable}
 
 -- the variable of one name is this, and all others stay
@@ -27,11 +37,11 @@ stays {A} f old new x v h same y = ap f (h y) ∙ go (bytes_eq x y) refl
     go true q = same ∙ ap (λ z. f (variable_at z old)) ((bytes_eq-Decides x y).0 q)
     go false q = refl
 
-pub puts_var : (old new : List (Bytes × Variable)) (ks : Keys) (x : Bytes) (v : Variable) → Puts old new x v → v.input ≡ input_in (variable_at x old) → v.output ≡ output_in (variable_at x old)
-    → (io : Io) → world_of (record { variables = new; keys = ks }) io ≡ set_var x (value_of v.value) (world_of (record { variables = old; keys = ks }) io)
-puts_var old new ks x v h reads writes io = λ i. record {
+pub puts_var : (old new : List (Bytes × Variable)) (os : List (Object Value)) (ks : Keys) (x : Bytes) (v : Variable) → Puts old new x v → v.input ≡ input_in (variable_at x old) → v.output ≡ output_in (variable_at x old)
+    → (io : Io) → world_of (record { variables = new; objects = os; keys = ks }) io ≡ set_var x (value_of v.value) (world_of (record { variables = old; objects = os; keys = ks }) io)
+puts_var old new os ks x v h reads writes io = λ i. record {
   vars = λ y. (ap value_in (h y) ∙ value_by (bytes_eq x y) v (variable_at y old)) i;
-  objects = [];
+  objects = map (object_map value_of) os;
   plain = record {
     functions = λ f. None;
     keys = ks;
@@ -42,16 +52,155 @@ puts_var old new ks x v h reads writes io = λ i. record {
 }
 
 -- a variable that is there takes another value
-pub put_there : (vs new : List (Bytes × Variable)) (ks : Keys) (held : Held) (x : Bytes) (old v : Variable) (value : Value) → record { variables = vs; keys = ks } ≡ held → v ≡ record old { value = value } → variable_at x vs ≡ Some old → Puts vs new x v
-    → (io : Io) → world_of (record { variables = new; keys = ks }) io ≡ set_var x (value_of value) (world_of held io)
-put_there vs new ks held x old v value is e at h io =
-    puts_var vs new ks x v h (ap (λ z. z.input) e ∙ sym (ap input_in at)) (ap (λ z. z.output) e ∙ sym (ap output_in at)) io
-    ∙ ap (λ z. set_var x (value_of z.value) (world_of (record { variables = vs; keys = ks }) io)) e
+pub put_there : (vs new : List (Bytes × Variable)) (os : List (Object Value)) (ks : Keys) (held : Held) (x : Bytes) (old v : Variable) (value : Value) → record { variables = vs; objects = os; keys = ks } ≡ held → v ≡ record old { value = value } → variable_at x vs ≡ Some old → Puts vs new x v
+    → (io : Io) → world_of (record { variables = new; objects = os; keys = ks }) io ≡ set_var x (value_of value) (world_of held io)
+put_there vs new os ks held x old v value is e at h io =
+    puts_var vs new os ks x v h (ap (λ z. z.input) e ∙ sym (ap input_in at)) (ap (λ z. z.output) e ∙ sym (ap output_in at)) io
+    ∙ ap (λ z. set_var x (value_of z.value) (world_of (record { variables = vs; objects = os; keys = ks }) io)) e
     ∙ ap (λ z. set_var x (value_of value) (world_of z io)) is
 
 -- a variable that isn't there is put there
-pub put_new : (vs new : List (Bytes × Variable)) (ks : Keys) (held : Held) (x : Bytes) (value : Value) → record { variables = vs; keys = ks } ≡ held → variable_at x vs ≡ None → Puts vs new x (record { value = value; input = None; output = None })
-    → (io : Io) → world_of (record { variables = new; keys = ks }) io ≡ set_var x (value_of value) (world_of held io)
-put_new vs new ks held x value is at h io =
-    puts_var vs new ks x (record { value = value; input = None; output = None }) h (sym (ap input_in at)) (sym (ap output_in at)) io
+pub put_new : (vs new : List (Bytes × Variable)) (os : List (Object Value)) (ks : Keys) (held : Held) (x : Bytes) (value : Value) → record { variables = vs; objects = os; keys = ks } ≡ held → variable_at x vs ≡ None → Puts vs new x (record { value = value; input = None; output = None })
+    → (io : Io) → world_of (record { variables = new; objects = os; keys = ks }) io ≡ set_var x (value_of value) (world_of held io)
+put_new vs new os ks held x value is at h io =
+    puts_var vs new os ks x (record { value = value; input = None; output = None }) h (sym (ap input_in at)) (sym (ap output_in at)) io
     ∙ ap (λ z. set_var x (value_of value) (world_of z io)) is
+
+-- ---- units
+
+reads_by : (b : Bool) (v : Variable) (o : Option Variable) → input_in (cond b (Some v) o) ≡ (if b then v.input else input_in o)
+reads_by true v o = refl
+reads_by false v o = refl
+
+writes_by : (b : Bool) (v : Variable) (o : Option Variable) → output_in (cond b (Some v) o) ≡ (if b then v.output else output_in o)
+writes_by true v o = refl
+writes_by false v o = refl
+
+pub puts_units : (old new : List (Bytes × Variable)) (os : List (Object Value)) (ks : Keys) (x : Bytes) (v : Variable) → Puts old new x v → value_of v.value ≡ value_in (variable_at x old)
+    → (io : Io) → world_of (record { variables = new; objects = os; keys = ks }) io ≡ set_writes x v.output (set_reads x v.input (world_of (record { variables = old; objects = os; keys = ks }) io))
+puts_units old new os ks x v h same io = λ i. record {
+  vars = λ y. stays value_in old new x v h same y i;
+  objects = map (object_map value_of) os;
+  plain = record {
+    functions = λ f. None;
+    keys = ks;
+    reads = λ y. (ap input_in (h y) ∙ reads_by (bytes_eq x y) v (variable_at y old)) i;
+    writes = λ y. (ap output_in (h y) ∙ writes_by (bytes_eq x y) v (variable_at y old)) i;
+  };
+  io = io;
+}
+
+-- a variable that is there takes other units
+pub units_there : (vs new : List (Bytes × Variable)) (os : List (Object Value)) (ks : Keys) (held : Held) (x : Bytes) (old v : Variable) (input output : Option ℕ) → record { variables = vs; objects = os; keys = ks } ≡ held
+    → v ≡ record old { input = input; output = output } → variable_at x vs ≡ Some old → Puts vs new x v
+    → (io : Io) → world_of (record { variables = new; objects = os; keys = ks }) io ≡ set_writes x output (set_reads x input (world_of held io))
+units_there vs new os ks held x old v input output is e at h io =
+    puts_units vs new os ks x v h (ap (λ z. value_of z.value) e ∙ sym (ap value_in at)) io
+    ∙ ap (λ z. set_writes x z.output (set_reads x z.input (world_of (record { variables = vs; objects = os; keys = ks }) io))) e
+    ∙ ap (λ z. set_writes x output (set_reads x input (world_of z io))) is
+
+-- a variable that isn't there is put there, with units
+pub units_new : (vs new : List (Bytes × Variable)) (os : List (Object Value)) (ks : Keys) (held : Held) (x : Bytes) (v : Variable) (input output : Option ℕ) → record { variables = vs; objects = os; keys = ks } ≡ held
+    → v ≡ record { value = String []; input = input; output = output } → variable_at x vs ≡ None → Puts vs new x v
+    → (io : Io) → world_of (record { variables = new; objects = os; keys = ks }) io ≡ set_writes x output (set_reads x input (world_of held io))
+units_new vs new os ks held x v input output is e at h io =
+    puts_units vs new os ks x v h (ap (λ z. value_of z.value) e ∙ sym (ap value_in at)) io
+    ∙ ap (λ z. set_writes x z.output (set_reads x z.input (world_of (record { variables = vs; objects = os; keys = ks }) io))) e
+    ∙ ap (λ z. set_writes x output (set_reads x input (world_of z io))) is
+
+-- the same at one name is the same everywhere
+same_at : {A : Type 0} (f : Bytes → A) (x y : Bytes) → (if bytes_eq x y then f x else f y) ≡ f y
+same_at f x y = go (bytes_eq x y) refl
+  where
+    go : (b : Bool) → bytes_eq x y ≡ b → (if b then f x else f y) ≡ f y
+    go true q = ap f ((bytes_eq-Decides x y).0 q)
+    go false q = refl
+
+output_stays : (h : Held) (x : Bytes) (u : Option ℕ) (io : Io) → set_writes x (output_in (variable_at x h.variables)) (set_reads x u (world_of h io)) ≡ set_reads x u (world_of h io)
+output_stays h x u io = λ i. set_plain (record (set_reads x u (world_of h io)).plain { writes = λ y. same_at (λ z. output_in (variable_at z h.variables)) x y i }) (world_of h io)
+
+input_stays : (h : Held) (x : Bytes) (u : Option ℕ) (io : Io) → set_writes x u (set_reads x (input_in (variable_at x h.variables)) (world_of h io)) ≡ set_writes x u (world_of h io)
+input_stays h x u io = λ i. set_writes x u (set_plain (record (world_of h io).plain { reads = λ y. same_at (λ z. input_in (variable_at z h.variables)) x y i }) (world_of h io))
+
+-- a unit is read from, and the other stays
+pub reads_set : {A E : Type 0} (h new : Held) (x : Bytes) (u : ℕ) (output : Option ℕ) (r : Result A E) → output ≡ output_in (variable_at x h.variables)
+    → OnOk r ((io : Io) → world_of new io ≡ set_writes x output (set_reads x (Some u) (world_of h io))) → OnOk r ((io : Io) → world_of new io ≡ set_reads x (Some u) (world_of h io))
+reads_set h new x u output (Ok a) is f = λ io. f io ∙ ap (λ z. set_writes x z (set_reads x (Some u) (world_of h io))) is ∙ output_stays h x (Some u) io
+reads_set h new x u output (Err e) is f = tt
+
+pub writes_set : {A E : Type 0} (h new : Held) (x : Bytes) (u : ℕ) (input : Option ℕ) (r : Result A E) → input ≡ input_in (variable_at x h.variables)
+    → OnOk r ((io : Io) → world_of new io ≡ set_writes x (Some u) (set_reads x input (world_of h io))) → OnOk r ((io : Io) → world_of new io ≡ set_writes x (Some u) (world_of h io))
+writes_set h new x u input (Ok a) is f = λ io. f io ∙ ap (λ z. set_writes x (Some u) (set_reads x z (world_of h io))) is ∙ input_stays h x (Some u) io
+writes_set h new x u input (Err e) is f = tt
+
+-- a variable that isn't there is put there with a null value
+pub put_unseen : (vs new : List (Bytes × Variable)) (os : List (Object Value)) (ks : Keys) (held : Held) (x : Bytes) (value : Value) → record { variables = vs; objects = os; keys = ks } ≡ held → variable_at x vs ≡ None → value_of value ≡ Str [] → Puts vs new x (record { value = value; input = None; output = None })
+    → (io : Io) → world_of (record { variables = new; objects = os; keys = ks }) io ≡ world_of held io
+put_unseen vs new os ks held x value is at null h io =
+    let v : Variable = record { value = value; input = None; output = None } in
+    let same : world_of (record { variables = new; objects = os; keys = ks }) io ≡ world_of (record { variables = vs; objects = os; keys = ks }) io = λ i. record {
+      vars = λ y. stays value_in vs new x v h (null ∙ ap value_in (sym at)) y i;
+      objects = map (object_map value_of) os;
+      plain = record {
+        functions = λ f. None;
+        keys = ks;
+        reads = λ y. stays input_in vs new x v h (ap input_in (sym at)) y i;
+        writes = λ y. stays output_in vs new x v h (ap output_in (sym at)) y i;
+      };
+      io = io;
+    } in
+    same ∙ ap (λ z. world_of z io) is
+
+-- ---- slots
+
+last_name : (vs : List (Bytes × Variable)) (x : Bytes) (v : Variable) → name_at (length vs) (vs ++ (x, v) ∷ []) ≡ Some x
+last_name [] x v = refl
+last_name (e ∷ vs) x v = last_name vs x v
+
+none_there : (o : Option Variable) → is_some o ≡ false → o ≡ None
+none_there None e = refl
+none_there (Some v) e = absurd (cc)
+
+-- a variable that isn't there is put in the next slot
+pub put_last : (vs held new : List (Bytes × Variable)) (x key : Bytes) (v : Variable) (n : ℕ) → vs ≡ held → is_some (variable_at x held) ≡ false → key ≡ x → new ≡ insert_entry bytes_eq vs key v → n ≡ length vs → name_at n new ≡ Some x
+put_last vs held new x key v n same absent is put at =
+    let none : variable_at key vs ≡ None = ap (λ k. variable_at k vs) is ∙ ap (variable_at x) same ∙ none_there (variable_at x held) absent in
+    ap (name_at n) (put ∙ insert_entry-absent bytes_eq key v vs (absent_from_lookup (bytes_eq key) vs none))
+    ∙ ap (λ k. name_at k (vs ++ (key, v) ∷ [])) at
+    ∙ last_name vs key v
+    ∙ ap Some is
+
+-- a variable of this name stands in this slot
+abbrev pub Stands : Bytes → ℕ → List (Bytes × Variable) → Type 0
+Stands x k vs = (v : Variable) × (slice_get vs k ≡ Some (x, v)) × (variable_at x vs ≡ Some v)
+
+pair_at : (o : Option (Bytes × Variable)) (x : Bytes) (w : Option Variable) → option_map (λ e. e.0) o ≡ Some x → option_map (λ e. e.1) o ≡ w → (v : Variable) × (o ≡ Some (x, v)) × (w ≡ Some v)
+pair_at None x w name there = absurd (cc)
+pair_at (Some e) x w name there = let same : e.0 ≡ x = cc in (e.1, ap (λ z. Some (z, e.1)) same, sym there)
+
+-- the variable in a slot, where its name is the one that is looked for
+pub stands_there : (vs : List (Bytes × Variable)) (k : ℕ) (x y : Bytes) (v : Variable) → Some (y, v) ≡ slice_get vs k → variable_at y vs ≡ Some v → bytes_eq y x ≡ true → Stands x k vs
+stands_there vs k x y v at found e =
+    let same : y ≡ x = (bytes_eq-Decides y x).0 e in
+    (v, sym at ∙ ap (λ z. Some (z, v)) same, ap (λ z. variable_at z vs) (sym same) ∙ found)
+
+-- the variable that a look-up finds
+pub stands_found : (vs : List (Bytes × Variable)) (x : Bytes) (r : Option ℕ) → r ≡ position (bytes_eq x) (keys_of vs) → IfSome r (λ k. slice_get (values_of vs) k ≡ variable_at x vs) → IfSome r (λ k. Stands x k vs)
+stands_found vs x None place at = tt
+stands_found vs x (Some k) place at =
+    let found = position-Some (bytes_eq x) (keys_of vs) k [] (sym place) in
+    let same : x ≡ get_or (keys_of vs) k [] = (bytes_eq-Decides x (get_or (keys_of vs) k [])).0 found.1 in
+    pair_at (slice_get vs k) x (variable_at x vs)
+    (sym (slice_get-map (λ e. e.0) vs k) ∙ slice_get-get_or (keys_of vs) k [] found.0 ∙ ap Some (sym same))
+    (sym (slice_get-map (λ e. e.1) vs k) ∙ at)
+
+-- the variable that stands in a slot is the one of that name
+pub held_there : (vs : List (Bytes × Variable)) (x : Bytes) (k : ℕ) (v : Variable) → Stands x k vs → Some v ≡ slice_get (values_of vs) k → variable_at x vs ≡ Some v
+held_there vs x k v (w, is, found) there = found ∙ sym (slice_get-map (λ e. e.1) vs k ∙ ap (λ o. option_map (λ e. e.1) o) is) ∙ sym there
+
+-- the variable in a slot takes another value
+pub put_in_slot : {S : Type 0} (m : IndexMap Bytes Variable S) (os : List (Object Value)) (ks : Keys) (held : Held) (x : Bytes) (k : ℕ) (old v : Variable) (value : Value) → record { variables = m.entries; objects = os; keys = ks } ≡ held → IsUnique bytes_eq m → Stands x k m.entries → Some old ≡ slice_get (values_of m.entries) k → v ≡ record old { value = value }
+    → (io : Io) → world_of (record { variables = (with_value_at m k v).entries; objects = os; keys = ks }) io ≡ set_var x (value_of value) (world_of held io)
+put_in_slot m os ks held x k old v value is unique stands there e io =
+    put_there m.entries (with_value_at m k v).entries os ks held x old v value is e (held_there m.entries x k old stands there)
+    ((updates-with_value_at m k v nat_list_eq_equiv unique x stands.0 stands.1).0) io

@@ -1,16 +1,14 @@
 -- What calls answer, as the definitions see it.
-use Rattle.std.specs.Prelude.{◌≡◌, ◌≢◌, ℕ, Option, Some, None, Result, Ok, Err}
+use Rattle.std.specs.Prelude.{◌≡◌, ℕ, Option, Some, None, Result, Ok, Err}
 use Rattle.model.specs.declared.run.ErrorCode.{ErrorCode}
 use Rattle.model.specs.declared.run.ErrorCode.TheVariants as error
 use Rattle.model.specs.declared.run.Stop.{Stop}
 use Rattle.model.specs.declared.run.Stop.TheVariants as stop
 use Rattle.model.specs.declared.run.UnitFault.{UnitFault}
 use Rattle.model.specs.declared.run.UnitFault.TheVariants as unit
-use Rattle.model.specs.Units.{IsCounted}
 use Rattle.model.specs.Conversions.{Conv, Got, Bad, Op, Gives, Refuses, Faults}
 use Rattle.strings.specs.declared.fault.StrFault.{StrFault}
 use Rattle.strings.specs.declared.fault.StrFault.TheVariants as text
-use Rattle.unit_io.specs.Counts.{Same, SameBut}
 use Rattle.world.specs.declared.fault.Fault.{Fault}
 use Rattle.world.specs.declared.fault.Fault.TheVariants as fault
 
@@ -74,16 +72,10 @@ IfStopped _ P = Unit {0}
 
 -- ---- units
 
--- a unit's failure was counted there and nowhere else, and it isn't one of memory; for want of memory none was counted
-abbrev pub IsStop : Stop → (ℕ → ℕ) → (ℕ → ℕ) → Type 0
-IsStop stop.NoMemory old new = Same old new
-IsStop (stop.Unit u cause) old new = (cause ≢ unit.Memory) × IsCounted cause (old u) (new u) × SameBut u old new
-
--- the counts of failures are what they were, but where a unit stopped the call
-abbrev pub KeepsCounts : {A : Type 0} → Result A Fault → (ℕ → ℕ) → (ℕ → ℕ) → Type 0
-KeepsCounts (Ok a) old new = Same old new
-KeepsCounts (Err (fault.Error e)) old new = Same old new
-KeepsCounts (Err (fault.Stop s)) old new = IsStop s old new
+-- why a call stopped, if it did
+abbrev pub stopped_by : {A : Type 0} → Result A Fault → Option Stop
+stopped_by (Err (fault.Stop why)) = Some why
+stopped_by _ = None
 
 -- why a run stops where a unit refuses a call
 abbrev pub stop_of : ℕ → UnitFault → Stop

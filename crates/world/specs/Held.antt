@@ -1,30 +1,36 @@
 -- The world as it is held, and as the definitions see it.
-use Rattle.std.specs.Prelude.{◌≡◌, ◌⊎◌, ℕ, List, [], ◌∷◌, ◌++◌, Option, Some, None, bytes_eq, codes, Bool, false}
-use Rattle.std.specs.Map.{lookup}
+use Rattle.std.specs.Prelude.{◌≡◌, ◌⊎◌, ℕ, List, [], ◌∷◌, ◌++◌, map, Option, Some, None, bytes_eq, codes, slice_get, Bool, false}
+use Rattle.std.specs.Map.{lookup, keys_of}
 use Rattle.model.specs.Trees.{Bytes}
 use Rattle.model.specs.Io.{Io}
 use Rattle.model.specs.Keywords.{Keys, KeyValue, IsInteger, IsText, is_zero}
 use Rattle.model.specs.Conversions.{Op, Gives}
-use Rattle.model.specs.Operators.{take_record, as_read, limited}
-use Rattle.model.specs.Values.{Str, set_var}
+use Rattle.model.specs.Operators.{as_read, limited, assign_op}
+use Rattle.model.specs.Values.{Object, Str, set_var}
 use Rattle.indexmap.specs.IndexMap.{insert_entry}
 use Rattle.model.specs.Pattern as p
 use Rattle.model.specs.Target as target
 use Rattle.model.specs.Steps.{Code}
 use Rattle.model.specs.Machine.{MVal, MW, codes_of}
 use Rattle.world.specs.Values.{value_of}
+use Rattle.world.specs.Objects.{object_map}
+use Rattle.world.specs.declared.value.Value.{Value}
 use Rattle.world.specs.declared.value.Value.TheVariants as v
 use Rattle.world.specs.declared.world.Variable.{Variable}
-use Rattle.world.specs.declared.world.Source.{Source}
-use Rattle.world.specs.declared.world.Source.TheVariants as source
 
 pub record Held : Type 0 where
   -- in the order of first assignment
   pub variables : List (Bytes × Variable)
+  -- arrays, tables and records, in the order of making
+  pub objects : List (Object Value)
   pub keys : Keys
 
 abbrev pub variable_at : Bytes → List (Bytes × Variable) → Option Variable
 variable_at x vs = lookup (bytes_eq x) vs
+
+-- the name of the variable in a slot
+abbrev pub name_at : ℕ → List (Bytes × Variable) → Option Bytes
+name_at slot vs = slice_get (keys_of vs) slot
 
 -- what isn't there has the null string, and no unit
 abbrev pub value_in : Option Variable → MVal
@@ -43,7 +49,7 @@ output_in (Some v) = v.output
 abbrev pub world_of : Held → Io → MW
 world_of h io = record {
   vars = λ x. value_in (variable_at x h.variables);
-  objects = [];
+  objects = map (object_map value_of) h.objects;
   plain = record {
     functions = λ f. None;
     keys = h.keys;
@@ -55,19 +61,14 @@ world_of h io = record {
 
 -- ---- fetching and assigning
 
--- what fetching comes to from here
-abbrev pub fetched_from : Source → Bytes → MW → Op MW MVal
-fetched_from (source.Value v) x w = Gives (value_of v) w
-fetched_from (source.Unit u) x w = take_record x u (w.io.left u) w
-
 -- a variable takes a record as its value
 abbrev pub taken : (name bytes : Bytes) → MW → Op MW MVal
 taken x r w = let s : Bytes = as_read r w in limited s w (Gives (Str s) (set_var x (Str s) w))
 
--- the variable of this name has this value, and nothing else changed
+-- a name has this value, and nothing else changed
 abbrev pub IsSet : p.Name → MVal → Held → Held → Type 0
 IsSet (target.Variable x) v old new = (io : Io) → world_of new io ≡ set_var x v (world_of old io)
-IsSet _ v old new = ⊥
+IsSet n v old new = (io : Io) → assign_op n v (world_of old io) ≡ Gives (record {}) (world_of new io)
 
 abbrev pub IsSetOrKept : p.Name → MVal → Held → Held → Type 0
 IsSetOrKept n v old new = (new ≡ old) ⊎ IsSet n v old new

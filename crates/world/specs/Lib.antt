@@ -1,4 +1,5 @@
 pub mod Values
+pub mod Objects
 pub mod Answers
 pub mod Held
 pub mod Counts

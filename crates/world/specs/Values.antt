@@ -1,7 +1,7 @@
 -- Values at run time, as the definitions see them.
 use Rattle.std.specs.Prelude.{length, Bool, true, false, if◌then◌else◌}
 use Rattle.model.specs.Operators as o
-use Rattle.model.specs.Values.{Str, Int, Pat, Nam, Exp, Obj}
+use Rattle.model.specs.Values.{Str, Int, Pat, Nam, Exp, Obj, Key, IntegerAt, StringAt}
 use Rattle.model.specs.Machine.{MVal, PCode}
 use Rattle.pattern_compiler.specs.View.{name_of}
 use Rattle.world.specs.declared.value.Value.{Value}
@@ -15,6 +15,11 @@ value_of (v.Pattern c) = Pat c
 value_of (v.Name n) = Nam (name_of n)
 value_of (v.Expression e) = Exp e
 value_of (v.Object k) = Obj k
+
+-- the value that a key is
+abbrev pub held_key : Key → Value
+held_key (IntegerAt z) = v.Integer z
+held_key (StringAt s) = v.String s
 
 -- a match that is anchored has no start to come after the first
 abbrev pub begun_of : Begun → o.Begun PCode

@@ -4,14 +4,22 @@
 //! `assign` and `splice` go through the units where a variable is associated with one. `arith`, `cat`, `alt`, .. are
 //! the operators.
 //!
+//!     let mut world = World::new(alloc)?;
+//!     world.assign(alloc, &mut units, &name, value)?;
+//!     let fetched = world.fetch(&mut units, &name)?;
+//!
 //! Promised: each is its definition in `model` (`Conversions`, `Operators`, `Io`), errors and failures included.
 //! CALLING.md tells how answers are stated.
 #![tactic(auto)]
 
 mod arithmetic;
+mod associations;
 mod conversions;
 mod counts;
+mod elements;
 mod fault;
+mod items;
+mod making;
 mod operators;
 mod unit_calls;
 mod value;

@@ -2,7 +2,7 @@
 
 ghost use Rattle.std.specs.Prelude.{◌≡◌, ◌≢◌, ◌⊎◌, Some, None, Ok, length, option_map, IfOk, IfErr, OnOk, OnErr};
 ghost use Rattle.model.specs.Io.{Io};
-ghost use Rattle.model.specs.Told.{IfTold};
+ghost use Rattle.model.specs.Target.{Variable};
 ghost use Rattle.model.specs.Operators.{fetch_op, take_record, as_read, assign_op, splice_op, write_var, print_text};
 ghost use Rattle.model.specs.Conversions.{to_text};
 ghost use Rattle.model.specs.Machine.{MVal};
@@ -10,12 +10,14 @@ ghost use Rattle.model.specs.declared.run.Stop.TheVariants.{NoMemory};
 ghost use Rattle.pattern_compiler.specs.View.{name_of};
 ghost use Rattle.world.specs.Values.{value_of};
 ghost use Rattle.world.specs.Held.{Held, IsSet, IsSetOrKept, world_of, taken, variable_at, value_in};
-ghost use Rattle.world.specs.Answers.{answer_map, Answers, AnswersOrFails, done, IfStopped, KeepsCounts, stop_of};
+ghost use Rattle.world.specs.Answers.{answer_map, Answers, AnswersOrFails, done, IfStopped, stop_of, stopped_by};
+ghost use Rattle.unit_io.specs.Service.{Served};
 
 use crate::fault::Fault;
 use crate::value::Value;
-use crate::world::{Source, World, is_zero};
+use crate::world::{NO_SLOT, World, is_zero};
 use crate::world_operators::Span;
+use aggregates::{Key, Place};
 use model::{ErrorCode, KeyId, Stop, UnitFault};
 use pattern_compiler::Name;
 use std::alloc::Global;
@@ -26,43 +28,79 @@ impl World {
     /// The value of a name. A variable that has a unit reads a record; at the unit's end that fails. A fault leaves the
     /// world, and so does the end of a unit.
     pub fn fetch<U: Units>(&mut self, units: &mut U, name: &Name) -> Result<Option<Value>, Fault>
-        ensures fetched { IfTold (U.told units.old) (U.told units.new) (λ io io'.
+        ensures served { Served U.Units (stopped_by result) units.old units.new (λ io io'.
             AnswersOrFails (answer_map (option_map value_of) result) (world_of self.new io') (fetch_op (name_of name.now) (world_of self.old io))) }
-        ensures counts { KeepsCounts result (U.failures units.old) (U.failures units.new) }
         ensures err { OnErr result (self.new ≡ self.old) }
         ensures end { result ≡ Ok None → self.new ≡ self.old }
     {
-        let Name::Variable(name) = name else {
-            return Err(Fault::Error(ErrorCode::WrongType));
-        };
-        match self.source(name)? {
-            Source::Value(value) => Ok(Some(value)),
-            Source::Unit(unit) => self.read(units, name, unit),
+        self.fetch_at(units, name, NO_SLOT)
+    }
+
+    /// `fetch`, at once if the name is that of the variable in this slot.
+    pub fn fetch_at<U: Units>(
+        &mut self,
+        units: &mut U,
+        name: &Name,
+        slot: u32,
+    ) -> Result<Option<Value>, Fault>
+        ensures served { Served U.Units (stopped_by result) units.old units.new (λ io io'.
+            AnswersOrFails (answer_map (option_map value_of) result) (world_of self.new io') (fetch_op (name_of name.now) (world_of self.old io))) }
+        ensures err { OnErr result (self.new ≡ self.old) }
+        ensures end { result ≡ Ok None → self.new ≡ self.old }
+    {
+        match name {
+            Name::Variable(name) => self.fetch_variable(units, name, slot),
+            Name::Element { object, index } => self.element(*object, *index),
+            Name::IntegerKey { object, key } => self.entry(*object, Key::Integer(*key)),
+            Name::StringKey { object, key } => self.entry(*object, Key::String(key.clone()?)),
         }
     }
 
+    // The value of a variable, or the next record of the unit that it reads from.
+    fn fetch_variable<U: Units>(
+        &mut self,
+        units: &mut U,
+        name: &Text,
+        slot: u32,
+    ) -> Result<Option<Value>, Fault>
+        ensures served { Served U.Units (stopped_by result) units.old units.new (λ io io'.
+            AnswersOrFails (answer_map (option_map value_of) result) (world_of self.new io') (fetch_op (Variable name.now) (world_of self.old io))) }
+        ensures err { OnErr result (self.new ≡ self.old) }
+        ensures end { result ≡ Ok None → self.new ≡ self.old }
+    {
+        let unit = match self.variable(name, slot) {
+            None => return Ok(Some(Value::null())),
+            Some(variable) => match self.reads(variable) {
+                None => return Ok(Some(variable.value.clone()?)),
+                Some(unit) => unit,
+            },
+        };
+        self.read(units, name, slot, unit)
+    }
+
     // A unit's next record, which a variable takes as its value.
+    #[inline(never)]
     fn read<U: Units>(
         &mut self,
         units: &mut U,
         name: &Text,
+        slot: u32,
         unit: u8,
     ) -> Result<Option<Value>, Fault>
-        ensures fetched { IfTold (U.told units.old) (U.told units.new) (λ io io'.
+        ensures served { Served U.Units (stopped_by result) units.old units.new (λ io io'.
             AnswersOrFails (answer_map (option_map value_of) result) (world_of self.new io') (take_record name.now unit (io.left unit) (world_of self.old io))) }
-        ensures counts { KeepsCounts result (U.failures units.old) (U.failures units.new) }
         ensures err { OnErr result (self.new ≡ self.old) }
         ensures end { result ≡ Ok None → self.new ≡ self.old }
     {
         match units.read_record(unit) {
-            Ok(Some(line)) => self.take(name, line),
+            Ok(Some(line)) => self.take(name, slot, line),
             Ok(None) => Ok(None),
             Err(cause) => Err(Fault::Stop(stop_of(unit, cause))),
         }
     }
 
     // A variable takes a record as its value.
-    fn take(&mut self, name: &Text, line: Text) -> Result<Option<Value>, Fault>
+    fn take(&mut self, name: &Text, slot: u32, line: Text) -> Result<Option<Value>, Fault>
         ensures taken { (io : Io) → AnswersOrFails (answer_map (option_map value_of) result) (world_of self.new io) (taken name.now line (world_of self.old io)) }
         ensures stop { IfStopped result (λ stop. stop ≡ NoMemory) }
         ensures err { OnErr result (self.new ≡ self.old) }
@@ -73,7 +111,7 @@ impl World {
             return Err(Fault::Error(ErrorCode::StringTooLong));
         }
         let copy = text.clone()?;
-        let _unit = self.set(name, Value::String(text))?;
+        let _unit = self.set(name, slot, Value::String(text))?;
         Ok(Some(Value::String(copy)))
     }
 
@@ -98,17 +136,57 @@ impl World {
         name: &Name,
         value: Value,
     ) -> Result<(), Fault>
-        ensures assigned { IfTold (U.told units.old) (U.told units.new) (λ io io'.
+        ensures served { Served U.Units (stopped_by result) units.old units.new (λ io io'.
             Answers (done result) (world_of self.new io') (assign_op (name_of name.now) (value_of value) (world_of self.old io))) }
-        ensures counts { KeepsCounts result (U.failures units.old) (U.failures units.new) }
         ensures ok { OnOk result (IsSet (name_of name.now) (value_of value) self.old self.new) }
         ensures err { OnErr result (IsSetOrKept (name_of name.now) (value_of value) self.old self.new) }
     {
-        let Name::Variable(name) = name else {
-            return Err(Fault::Error(ErrorCode::WrongType));
-        };
-        match self.set(name, value)? {
-            Some(unit) => self.write(alloc, units, name, unit),
+        self.assign_at(alloc, units, name, NO_SLOT, value)
+    }
+
+    /// `assign`, at once if the name is that of the variable in this slot.
+    pub fn assign_at<U: Units>(
+        &mut self,
+        alloc: Global,
+        units: &mut U,
+        name: &Name,
+        slot: u32,
+        value: Value,
+    ) -> Result<(), Fault>
+        ensures served { Served U.Units (stopped_by result) units.old units.new (λ io io'.
+            Answers (done result) (world_of self.new io') (assign_op (name_of name.now) (value_of value) (world_of self.old io))) }
+        ensures ok { OnOk result (IsSet (name_of name.now) (value_of value) self.old self.new) }
+        ensures err { OnErr result (IsSetOrKept (name_of name.now) (value_of value) self.old self.new) }
+    {
+        match name {
+            Name::Variable(name) => self.assign_variable(alloc, units, name, slot, value),
+            Name::Element { object, index } => self.store(*object, Place::Element(*index), value),
+            Name::IntegerKey { object, key } => {
+                self.store(*object, Place::Key(Key::Integer(*key)), value)
+            }
+            Name::StringKey { object, key } => {
+                let key = Key::String(key.clone()?);
+                self.store(*object, Place::Key(key), value)
+            }
+        }
+    }
+
+    // Assigns a value to a variable, and writes it where the variable has a unit.
+    fn assign_variable<U: Units>(
+        &mut self,
+        alloc: Global,
+        units: &mut U,
+        name: &Text,
+        slot: u32,
+        value: Value,
+    ) -> Result<(), Fault>
+        ensures served { Served U.Units (stopped_by result) units.old units.new (λ io io'.
+            Answers (done result) (world_of self.new io') (assign_op (Variable name.now) (value_of value) (world_of self.old io))) }
+        ensures ok { OnOk result (IsSet (Variable name.now) (value_of value) self.old self.new) }
+        ensures err { OnErr result (IsSetOrKept (Variable name.now) (value_of value) self.old self.new) }
+    {
+        match self.set(name, slot, value)? {
+            Some(unit) => self.write(alloc, units, name, slot, unit),
             None => Ok(()),
         }
     }
@@ -122,40 +200,58 @@ impl World {
         span: &Span,
         value: &Value,
     ) -> Result<(), Fault>
-        ensures assigned { IfTold (U.told units.old) (U.told units.new) (λ io io'.
+        ensures served { Served U.Units (stopped_by result) units.old units.new (λ io io'.
             Answers (done result) (world_of self.new io') (splice_op (name_of name.now) span.now.subject span.now.start span.now.end (value_of value.now) (world_of self.old io))) }
-        ensures counts { KeepsCounts result (U.failures units.old) (U.failures units.new) }
+        ensures only { (self.new ≡ self.old) ⊎ ((v : MVal) × IsSet (name_of name.now) v self.old self.new) }
+    {
+        self.splice_at(alloc, units, name, NO_SLOT, span, value)
+    }
+
+    /// `splice`, at once if the name is that of the variable in this slot.
+    pub fn splice_at<U: Units>(
+        &mut self,
+        alloc: Global,
+        units: &mut U,
+        name: &Name,
+        slot: u32,
+        span: &Span,
+        value: &Value,
+    ) -> Result<(), Fault>
+        ensures served { Served U.Units (stopped_by result) units.old units.new (λ io io'.
+            Answers (done result) (world_of self.new io') (splice_op (name_of name.now) span.now.subject span.now.start span.now.end (value_of value.now) (world_of self.old io))) }
         ensures only { (self.new ≡ self.old) ⊎ ((v : MVal) × IsSet (name_of name.now) v self.old self.new) }
     {
         let whole = self.replaced(alloc, span, value)?;
-        self.assign(alloc, units, name, whole)
+        self.assign_at(alloc, units, name, slot, whole)
     }
 
     // Writes a variable's value, unless `&OUTPUT` is 0.
+    #[inline(never)]
     fn write<U: Units>(
         &self,
         alloc: Global,
         units: &mut U,
         name: &Text,
+        slot: u32,
         unit: u8,
     ) -> Result<(), Fault>
-        ensures written { IfTold (U.told units.old) (U.told units.new) (λ io io'.
+        ensures served { Served U.Units (stopped_by result) units.old units.new (λ io io'.
             Answers (done result) (world_of self.now io') (write_var (Some unit) (value_in (variable_at name.now self.now.variables)) (world_of self.now io))) }
-        ensures counts { KeepsCounts result (U.failures units.old) (U.failures units.new) }
     {
         if is_zero(&self.keywords, KeyId::Output) {
             return Ok(());
         }
-        let value = self.value(name)?;
-        print(alloc, units, unit, &value)
+        match self.variable(name, slot) {
+            Some(variable) => print(alloc, units, unit, &variable.value),
+            None => print(alloc, units, unit, &Value::null()),
+        }
     }
 }
 
 // Writes a value as a record.
 fn print<U: Units>(alloc: Global, units: &mut U, unit: u8, value: &Value) -> Result<(), Fault>
-    ensures printed { IfTold (U.told units.old) (U.told units.new) (λ io io'.
+    ensures served { Served U.Units (stopped_by result) units.old units.new (λ io io'.
         (h : Held) → Answers (done result) (world_of h io') (print_text unit (to_text (value_of value.now)) (world_of h io))) }
-    ensures counts { KeepsCounts result (U.failures units.old) (U.failures units.new) }
 {
     let text = match value.to_text(alloc) {
         Ok(text) => text,

@@ -2,11 +2,16 @@
 
 ghost use Rattle.std.specs.Prelude.{◌≡◌, []};
 ghost use Rattle.model.specs.Values.{Str};
-ghost use Rattle.model.specs.Conversions.{is_null};
+ghost use Rattle.model.specs.Conversions.{is_null, to_text};
+ghost use Rattle.model.specs.declared.run.Stop.TheVariants.{NoMemory};
+ghost use Rattle.world.specs.Answers.{Converts, IfStopped};
 ghost use Rattle.world.specs.Values.{value_of, has_text};
 
+use crate::fault::Fault;
+use aggregates::{Element, Key};
+use model::ErrorCode;
 use pattern_compiler::{Name, PatCode};
-use std::alloc::AllocError;
+use std::alloc::{AllocError, Global};
 use strings::Text;
 
 /// A value. Its clones share its bytes and its code.
@@ -47,6 +52,31 @@ impl Clone for Value {
     }
 }
 
+impl Element for Value {
+    ghost use Rattle.model.specs.Conversions.{is_null};
+    ghost use Rattle.world.specs.Values.{value_of, held_key};
+
+    ghost null_test = { λ v. is_null (value_of v) };
+
+    ghost key_value = { held_key };
+
+    fn is_null(&self) -> bool {
+        match self {
+            Value::String(text) => text.is_empty(),
+            _ => false,
+        }
+    }
+
+    fn from_key(key: &Key) -> Result<Value, AllocError> {
+        match key {
+            Key::Integer(n) => Ok(Value::Integer(*n)),
+            Key::String(text) => Ok(Value::String(text.clone()?)),
+        }
+    }
+
+    ghost clones = { λ value copy h. h };
+}
+
 impl Value {
     /// The null string. Takes no memory.
     pub fn null() -> Value
@@ -73,6 +103,20 @@ impl Value {
             Value::String(_) => true,
             Value::Integer(_) => true,
             _ => false,
+        }
+    }
+
+    /// `to_text` of a value that isn't needed any more, whose string isn't copied.
+    pub fn into_text(self, alloc: Global) -> Result<Text, Fault>
+        ensures text { Converts result (to_text (value_of self)) }
+        ensures stop { IfStopped result (λ stop. stop ≡ NoMemory) }
+    {
+        match self {
+            Value::String(text) => Ok(text),
+            Value::Integer(n) => Ok(Text::int_text(alloc, n)?),
+            Value::Pattern(_) | Value::Name(_) | Value::Expression(_) | Value::Object(_) => {
+                Err(Fault::Error(ErrorCode::WrongType))
+            }
         }
     }
 }

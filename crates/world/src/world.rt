@@ -1,17 +1,19 @@
 //! The world of a run.
 
-ghost use Rattle.std.specs.Prelude.{◌≡◌, [], pos, None, IfOk, IfErr, OnOk, OnErr};
+ghost use Rattle.std.specs.Prelude.{◌≡◌, [], pos, Some, None, is_some, option_copied, slice_get, IfOk, IfSome, OnOk, OnErr, if◌then◌else◌};
 ghost use Rattle.model.specs.Io.{Io};
 ghost use Rattle.model.specs.Values.{set_var};
-ghost use Rattle.model.specs.Operators.{fetch_var};
+ghost use Rattle.model.specs.Primitives.{set_reads, set_writes};
 ghost use Rattle.model.specs.Keywords.{key_value};
 ghost use Rattle.model.specs.Agreement.{first_m};
 ghost use Rattle.model.specs.PrintedBefore.{after_w};
 ghost use Rattle.world.specs.Values.{value_of};
-ghost use Rattle.world.specs.Held.{world_of, fetched_from, zero_in, variable_at, value_in, output_in, with_variable, pattern_variable, first_patterns, first_variables};
+ghost use Rattle.world.specs.Held.{world_of, name_at, zero_in, variable_at, input_in, output_in, with_variable, pattern_variable, first_patterns, first_variables};
 ghost use Rattle.world.specs.declared.value.Value.TheVariants.{String};
+ghost use Rattle.world.specs.declared.world.Variable.{Variable};
 
 use crate::value::Value;
+use aggregates::Heap;
 use indexmap::IndexMap;
 use keywords::{KeyValue, Keywords};
 use model::KeyId;
@@ -20,22 +22,17 @@ use std::alloc::{AllocError, Global};
 use std::marker::Model;
 use strings::Text;
 
+/// Where a look-up begins that knows of no slot.
+pub(crate) const NO_SLOT: u32 = u32::MAX;
+
 /// A variable that was assigned to, or that a unit is associated with.
 #[derive(Drop)]
-struct Variable {
-    value: Value,
+pub(crate) struct Variable {
+    pub(crate) value: Value,
     /// The unit that it reads from.
     input: Option<u8>,
     /// The unit that it writes to.
     output: Option<u8>,
-}
-
-/// Where the value of a variable comes from.
-#[derive(Drop)]
-pub(crate) enum Source {
-    Value(Value),
-    /// The next record of a unit.
-    Unit(u8),
 }
 
 impl Variable {
@@ -66,11 +63,19 @@ impl Variable {
     {
         self.value = value;
     }
+
+    fn set_units(&mut self, input: Option<u8>, output: Option<u8>)
+        ensures { self.new ≡ record self.old { input = input; output = output } }
+    {
+        self.input = input;
+        self.output = output;
+    }
 }
 
 /// What a run holds besides what stands on its units.
 pub struct World {
     variables: IndexMap<Text, Variable>,
+    pub(crate) heap: Heap<Value>,
     pub(crate) keywords: Keywords,
 }
 
@@ -78,6 +83,7 @@ impl Drop for World {
     fn drop(self) {
         let World {
             variables: _,
+            heap: _,
             keywords: _,
         } = self;
     }
@@ -88,7 +94,7 @@ impl Model for World {
 
     ghost Value = { Held };
 
-    ghost view = { λ w. record { variables = w.variables.entries; keys = w.keywords } };
+    ghost view = { λ w. record { variables = w.variables.entries; objects = w.heap; keys = w.keywords } };
 }
 
 impl World {
@@ -101,6 +107,7 @@ impl World {
         };
         let mut world = World {
             variables: IndexMap::new(alloc),
+            heap: Heap::new(alloc),
             keywords,
         };
         world.put_patterns(alloc)?;
@@ -155,45 +162,119 @@ impl World {
         Ok(())
     }
 
-    /// Where the value of a variable comes from.
-    pub(crate) fn source(&self, name: &Text) -> Result<Source, AllocError>
-        ensures { IfOk result (λ source. (io : Io) →
-            fetch_var name.now ((world_of self.now io).plain.reads name.now) (world_of self.now io) ≡ fetched_from source name.now (world_of self.now io)) }
+    /// Puts a variable in with a null value, unless it is there; no meaning sees that. Gives its slot, which it keeps.
+    pub fn enter(&mut self, name: &Text) -> Result<u32, AllocError>
+        ensures slot { IfOk result (λ slot. name_at slot self.new.variables ≡ Some name.now) }
+        ensures unseen { (io : Io) → world_of self.new io ≡ world_of self.old io }
+        ensures err { OnErr result (self.new ≡ self.old) }
     {
-        let Some(variable) = self.variables.get(name) else {
-            return Ok(Source::Value(Value::null()));
-        };
-        if let Some(unit) = variable.input {
-            if !is_zero(&self.keywords, KeyId::Input) {
-                return Ok(Source::Unit(unit));
-            }
+        if let Some(slot) = self.slot(name, NO_SLOT) {
+            let Ok(slot) = u32::try_from(slot) else {
+                return Err(AllocError);
+            };
+            return Ok(slot);
         }
-        Ok(Source::Value(variable.value.clone()?))
+        let Ok(slot) = u32::try_from(self.variables.len()) else {
+            return Err(AllocError);
+        };
+        let variable = Variable::holding(Value::null());
+        let _none = self.variables.insert(name.clone()?, variable)?;
+        Ok(slot)
     }
 
-    /// A variable's value, which is null at first.
-    pub(crate) fn value(&self, name: &Text) -> Result<Value, AllocError>
-        ensures { IfOk result (λ value. value_of value ≡ value_in (variable_at name.now self.now.variables)) }
+    // Where a variable stands, which is its slot or else what the look-up finds.
+    #[inline]
+    fn slot(&self, name: &Text, slot: u32) -> Option<usize>
+        ensures there { is_some result ≡ is_some (variable_at name.now self.now.variables) }
+        ensures entry { IfSome result (λ at. (v : Variable) × (slice_get self.now.variables at ≡ Some (name.now, v)) × (variable_at name.now self.now.variables ≡ Some v)) }
     {
-        match self.variables.get(name) {
-            Some(variable) => variable.value.clone(),
-            None => Ok(Value::null()),
+        let slot = slot as usize;
+        if let Some((key, _variable)) = self.variables.get_index(slot) {
+            if key == name {
+                return Some(slot);
+            }
+        }
+        self.variables.get_index_of(name)
+    }
+
+    /// A variable, which stands in its slot or else where the look-up finds it.
+    #[inline]
+    pub(crate) fn variable(&self, name: &Text, slot: u32) -> Option<&Variable>
+        ensures { option_copied result ≡ variable_at name.now self.now.variables }
+    {
+        if let Some((key, variable)) = self.variables.get_index(slot as usize) {
+            if key == name {
+                return Some(variable);
+            }
+        }
+        self.variables.get(name)
+    }
+
+    /// The unit that a variable reads from, unless `&INPUT` is 0.
+    #[inline]
+    pub(crate) fn reads(&self, variable: &Variable) -> Option<u8>
+        ensures { result ≡ (if zero_in (key_value KeyId.Input self.now.keys) then None else variable.now.input) }
+    {
+        let unit = variable.input?;
+        if is_zero(&self.keywords, KeyId::Input) {
+            None
+        } else {
+            Some(unit)
         }
     }
 
     /// Gives a variable another value, and tells the unit that it writes to.
-    pub(crate) fn set(&mut self, name: &Text, value: Value) -> Result<Option<u8>, AllocError>
+    pub(crate) fn set(
+        &mut self,
+        name: &Text,
+        slot: u32,
+        value: Value,
+    ) -> Result<Option<u8>, AllocError>
         ensures set { OnOk result ((io : Io) → world_of self.new io ≡ set_var name.now (value_of value) (world_of self.old io)) }
         ensures output { IfOk result (λ unit. unit ≡ output_in (variable_at name.now self.old.variables)) }
         ensures err { OnErr result (self.new ≡ self.old) }
     {
-        if let Some(variable) = self.variables.get_mut(name) {
-            variable.set(value);
-            return Ok(variable.output);
+        let Some(at) = self.slot(name, slot) else {
+            let variable = Variable::holding(value);
+            let _none = self.variables.insert(name.clone()?, variable)?;
+            return Ok(None);
+        };
+        match self.variables.get_index_mut(at) {
+            Some(variable) => {
+                variable.set(value);
+                Ok(variable.output)
+            }
+            None => unreachable!(),
         }
-        let variable = Variable::holding(value);
+    }
+
+    /// The units that a variable reads from and writes to.
+    pub(crate) fn units(&self, name: &Text) -> (Option<u8>, Option<u8>)
+        ensures { result ≡ (input_in (variable_at name.now self.now.variables), output_in (variable_at name.now self.now.variables)) }
+    {
+        match self.variables.get(name) {
+            Some(variable) => (variable.input, variable.output),
+            None => (None, None),
+        }
+    }
+
+    /// Gives a variable other units.
+    pub(crate) fn set_units(
+        &mut self,
+        name: &Text,
+        input: Option<u8>,
+        output: Option<u8>,
+    ) -> Result<(), AllocError>
+        ensures set { OnOk result ((io : Io) → world_of self.new io ≡ set_writes name.now output (set_reads name.now input (world_of self.old io))) }
+        ensures err { OnErr result (self.new ≡ self.old) }
+    {
+        if let Some(variable) = self.variables.get_mut(name) {
+            variable.set_units(input, output);
+            return Ok(());
+        }
+        let variable = Variable::on_units(input, output);
         let _none = self.variables.insert(name.clone()?, variable)?;
-        Ok(None)
+        Ok(())
     }
 }
 

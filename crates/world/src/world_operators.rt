@@ -84,21 +84,22 @@ impl World {
         Ok(Value::String(whole))
     }
 
-    /// Two values one after the other. The null string gives the other, unconverted.
-    pub fn cat(&self, alloc: Global, left: &Value, right: &Value) -> Result<Value, Fault>
-        ensures value { (io : Io) → Answers (answer_map value_of result) (world_of self.now io) (cat_op codes_of (value_of left.now) (value_of right.now) (world_of self.now io)) }
+    /// Two values one after the other. The null string gives the other, unconverted. Bytes of the left one that nothing
+    /// else shares aren't copied while they have room.
+    pub fn cat(&self, alloc: Global, left: Value, right: Value) -> Result<Value, Fault>
+        ensures value { (io : Io) → Answers (answer_map value_of result) (world_of self.now io) (cat_op codes_of (value_of left) (value_of right) (world_of self.now io)) }
         ensures stop { IfStopped result (λ stop. stop ≡ NoMemory) }
     {
         if left.is_null() {
-            return Ok(right.clone()?);
+            return Ok(right);
         }
         if right.is_null() {
-            return Ok(left.clone()?);
+            return Ok(left);
         }
         if left.has_text() && right.has_text() {
-            let front = left.to_text(alloc)?;
-            let back = right.to_text(alloc)?;
-            let text = Text::concat(alloc, &front, &back, self.keywords.longest())?;
+            let front = left.into_text(alloc)?;
+            let back = right.into_text(alloc)?;
+            let text = Text::append(alloc, front, &back, self.keywords.longest())?;
             return Ok(Value::String(text));
         }
         let first = left.to_pattern(alloc)?;

@@ -17,3 +17,15 @@ returns-in-Fence-clause-answer c io =
     let w = world_of c.args.world.now io in
     let vs = value_of c.args.first.now ∷ value_of c.args.second.now ∷ value_of c.args.third.now ∷ [] in
     subst (λ id. ComesTo c.fence_of.result w (prim_op codes_of id vs w)) (sym c.in-Fence.is) (c.fence_of.ensures.answer w)
+
+pub returns-in-Array-clause-answer : goal.returns-in-Array-clause-answer
+returns-in-Array-clause-answer c io =
+    let w = world_of c.args.world.now io in
+    let vs = value_of c.args.first.now ∷ value_of c.args.second.now ∷ value_of c.args.third.now ∷ [] in
+    subst (λ id. ComesTo c.array.result (world_of c.array.new.world io) (prim_op codes_of id vs w)) (sym c.in-Array.is) (c.array.ensures.answer io)
+
+pub returns-in-Convert-clause-answer : goal.returns-in-Convert-clause-answer
+returns-in-Convert-clause-answer c io =
+    let w = world_of c.args.world.now io in
+    let vs = value_of c.args.first.now ∷ value_of c.args.second.now ∷ value_of c.args.third.now ∷ [] in
+    subst (λ id. ComesTo c.convert.result (world_of c.convert.new.world io) (prim_op codes_of id vs w)) (sym c.in-Convert.is) (c.convert.ensures.answer io)

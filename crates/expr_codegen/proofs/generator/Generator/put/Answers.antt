@@ -7,4 +7,4 @@ pub invariant_of-self-2-clause-counted : goal.invariant_of-self-2-clause-counted
 invariant_of-self-2-clause-counted c =
     let s = total_snoc c.args.self.now.code.items c.args.i in
     let e = ap total c.in_ok-push.ensures.items in
-    omega (arith, s, e, c.args.self.now.counted, c.length_of.ensures)
+    omega (arith, s, e, c.args.self.now.counted, c.size.ensures)

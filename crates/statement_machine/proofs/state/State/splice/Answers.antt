@@ -3,14 +3,16 @@ use Rattle.frames.specs.Stacked.{Stacked}
 use Rattle.frames.specs.declared.operand.Operand.{Operand}
 use Rattle.frames.specs.declared.operand.Operand.TheVariants as operand
 use Rattle.world.specs.Answers.{done}
+use Rattle.unit_io.proofs.Serving.{served_for}
 use Rattle.statement_machine.proofs.Fetching.{spliced, splice_sound}
 use Rattle.statement_machine.proofs.state.State.splice.Goals as goal
 
-pub returns-clause-left : goal.returns-clause-left
-returns-clause-left g c im fs =
-    spliced im fs c.args.next c.args.self.now c.went.new.self c.splice-answer.new.self c.went.result c.pop_name-name.new.operands c.pop_name-name.result
-    c.pop_value-value.result c.pop_span-span.result (done c.splice-answer.result) (g.U.Units.told c.args.units.now) (g.U.Units.told c.splice-answer.new.units)
-    (c.pop_value-value.ensures ∙ ap (λ (l : Stacked Operand). record l { top = operand.Value c.pop_value-value.result ∷ l.top }) (c.pop_span-span.ensures ∙ ap (λ (l : Stacked Operand). record l { top = operand.Span c.pop_span-span.result ∷ l.top }) c.pop_name-name.ensures)) c.splice-answer.ensures.assigned (c.went.ensures.left im fs)
+pub returns-clause-served : goal.returns-clause-served
+returns-clause-served g c =
+    served_for c.splice-answer.ensures.served (c.went.ensures.counts _ _)
+    (λ io io' x im fs. spliced im fs c.args.next c.args.self.now c.went.new.self c.splice-answer.new.self c.went.result c.pop_name-name.new.operands c.pop_name-name.result
+    c.pop_value-value.result c.pop_span-span.result (done c.splice-answer.result)
+    (c.pop_value-value.ensures ∙ ap (λ (l : Stacked Operand). record l { top = operand.Value c.pop_value-value.result ∷ l.top }) (c.pop_span-span.ensures ∙ ap (λ (l : Stacked Operand). record l { top = operand.Span c.pop_span-span.result ∷ l.top }) c.pop_name-name.ensures)) (c.went.ensures.left im fs) io io' x)
 
 pub returns-clause-sound : goal.returns-clause-sound
 returns-clause-sound g c im fs h =

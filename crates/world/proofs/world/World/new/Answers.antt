@@ -1,8 +1,11 @@
 use Rattle.std.proofs.Common.{ap, ◌∙◌}
-use Rattle.world.specs.Held.{first_variables}
+use Rattle.world.specs.Held.{Held, first_variables}
 use Rattle.world.proofs.FirstWorld.{first_holds}
 use Rattle.world.proofs.world.World.new.Goals as goal
 
 pub returns : goal.returns
 returns c io =
-    first_holds c.put_units.new.self io (c.in_ok-put_units.ensures ∙ ap (λ ks. record { variables = first_variables; keys = ks }) (ap (λ h. h.keys) c.in_ok-put_patterns.ensures ∙ c.in-Ok.ensures.ok))
+    first_holds c.put_units.new.self io
+    (c.in_ok-put_units.ensures
+    ∙ ap {A = Held} (λ h. record { variables = first_variables; objects = h.objects; keys = h.keys }) c.in_ok-put_patterns.ensures
+    ∙ (λ i. record { variables = first_variables; objects = c.new-3.ensures i; keys = c.in-Ok.ensures.ok i }))

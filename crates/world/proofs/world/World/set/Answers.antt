@@ -1,9 +1,18 @@
-use Rattle.std.proofs.Common.{ap, sym, is_some}
-use Rattle.world.proofs.Variables.{put_there}
+use Rattle.std.proofs.Common.{◌≡◌, Some, ap, subst, sym, slice_get, ◌∙◌}
+use Rattle.std.specs.Map.{values_of}
+use Rattle.world.specs.Held.{Held, output_in}
+use Rattle.world.proofs.Variables.{Stands, held_there, put_in_slot}
 use Rattle.world.proofs.world.World.set.Goals as goal
 
-pub returns-in-Some-clause-set : goal.returns-in-Some-clause-set
-returns-in-Some-clause-set c io =
-    let at = sym c.in-Some.ensures.value in
-    let written = c.get_mut.follows.holds c.set.new.self in
-    put_there c.self.inside.variables.entries _ c.self.inside.keywords c.args.self.now c.args.name.now c.in-Some.variable.now c.set.new.self c.args.value c.self.view_is c.set.ensures at ((written.3 (ap is_some at)).0) io
+pub returns-clause-set : goal.returns-clause-set
+returns-clause-set c io =
+    let stands = subst (Stands c.args.name.now c.in-Some.at) (sym (ap {A = Held} (λ h. h.variables) c.self.view_is)) c.in-Some.ensures.entry in
+    let found = c.in-Some-get_index_mut in
+    put_in_slot c.self.inside.variables c.self.inside.heap c.self.inside.keywords c.args.self.now c.args.name.now c.in-Some.at found.variable.now c.set.new.self c.args.value c.self.view_is c.get_index_mut.ensures.unique stands found.ensures.value c.set.ensures io
+
+pub returns-clause-output : goal.returns-clause-output
+returns-clause-output c =
+    let same = ap {A = Held} (λ h. h.variables) c.self.view_is in
+    let there = subst (λ vs. Some c.in-Some-get_index_mut.variable.now ≡ slice_get (values_of vs) c.in-Some.at) same c.in-Some-get_index_mut.ensures.value in
+    ap (λ v. v.output) c.set.ensures
+    ∙ sym (ap output_in (held_there c.args.self.now.variables c.args.name.now c.in-Some.at c.in-Some-get_index_mut.variable.now c.in-Some.ensures.entry there))

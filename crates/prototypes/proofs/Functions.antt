@@ -1,0 +1,50 @@
+-- The parts of a function's prototype.
+use Rattle.std.proofs.Common.{◌≡◌, ℕ, suc, ◌+◌, ◌-◌, List, [], ◌∷◌, ◌++◌, length, take, drop, ◌<◌, Option, Some, None, refl, sym, ap, ◌∙◌, arith, get_or}
+use Rattle.std.proofs.lemmas.List.{take-append-drop}
+use Rattle.model.specs.Trees.{Bytes}
+use Rattle.model.specs.Prototypes.{FunctionPrototype, cut_at, function_cut, function_rest, listed}
+use Rattle.prototypes.specs.Views.{function_of, names_of}
+
+take_front : {A : Type 0} (xs ys : List A) → take (length xs) (xs ++ ys) ≡ xs
+take_front [] ys = refl
+take_front (x ∷ xs) ys = ap (λ zs. x ∷ zs) (take_front xs ys)
+
+drop_front : {A : Type 0} (xs ys : List A) → drop (length xs) (xs ++ ys) ≡ ys
+drop_front [] ys = refl
+drop_front (x ∷ xs) ys = drop_front xs ys
+
+next : (n : ℕ) → n + 1 ≡ suc n
+next n = omega arith
+
+-- a name, arguments and locals one behind the other
+pub joined_parts : (name : Bytes) (xs ys : List Bytes) → function_of ((name ∷ [] ++ xs) ++ ys) (length xs) ≡ record { name = name; arguments = xs; locals = ys }
+joined_parts name xs ys = λ i. record {
+  name = name;
+  arguments = take_front xs ys i;
+  locals = (ap (λ n. drop n (name ∷ (xs ++ ys))) (next (length xs)) ∙ drop_front xs ys) i;
+}
+
+-- by what was put there
+pub parts_are : (name : Bytes) (xs ys a b c d held : List Bytes) (count : ℕ) → a ≡ [] → b ≡ a ++ name ∷ [] → c ≡ b ++ xs → count ≡ length c → d ≡ c ++ ys → held ≡ d
+    → function_of held (count - 1) ≡ record { name = name; arguments = xs; locals = ys }
+parts_are name xs ys a b c d held count none first more many all is =
+    let here : c ≡ name ∷ [] ++ xs = more ∙ ap (λ ns. ns ++ xs) (first ∙ ap (λ ns. ns ++ name ∷ []) none) in
+    let size : count ≡ length (name ∷ [] ++ xs) = many ∙ ap length here in
+    let arity : count - 1 ≡ length xs = omega (arith, size) in
+    ap (λ ns. function_of ns (count - 1)) (is ∙ all ∙ ap (λ ns. ns ++ ys) here)
+    ∙ ap (function_of ((name ∷ [] ++ xs) ++ ys)) arity
+    ∙ joined_parts name xs ys
+
+-- by both cuts
+pub cut_twice : (text name inner arguments locals : Bytes) → cut_at 40 text ≡ Some (record { before = name; after = inner }) → cut_at 41 inner ≡ Some (record { before = arguments; after = locals })
+    → Some (record { name = name; arguments = listed arguments; locals = listed locals }) ≡ function_cut (cut_at 40 text)
+cut_twice text name inner arguments locals first second = ap (function_rest name) (sym second) ∙ ap function_cut (sym first)
+
+pub cut_once : (text name inner : Bytes) → cut_at 40 text ≡ Some (record { before = name; after = inner }) → cut_at 41 inner ≡ None → None ≡ function_cut (cut_at 40 text)
+cut_once text name inner first second = ap (function_rest name) (sym second) ∙ ap function_cut (sym first)
+
+-- a function's names are at least its own
+pub whole_names : (names : List Bytes) (arity : ℕ) → arity < length names → names ≡ names_of (function_of names arity)
+whole_names [] arity h = absurd (omega arith)
+whole_names (x ∷ xs) arity h =
+    ap (λ ys. x ∷ ys) (sym (take-append-drop arity xs)) ∙ ap (λ n. x ∷ (take arity xs ++ drop n (x ∷ xs))) (sym (next arity))

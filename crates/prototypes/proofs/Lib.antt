@@ -1,0 +1,4 @@
+pub mod Cuts
+pub mod Distinct
+pub mod Functions
+pub mod Bounds

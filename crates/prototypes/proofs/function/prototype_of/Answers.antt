@@ -1,0 +1,8 @@
+use Rattle.std.proofs.Common.{rules}
+use Rattle.prototypes.proofs.Functions.{parts_are}
+use Rattle.prototypes.proofs.function.prototype_of.Goals as goal
+
+pub returns : goal.returns
+returns c =
+    parts_are c.args.name.now _ _ c.new-names.result.items c.push_name.new.names.items c.push_listed.new.names.items c.push_listed-2.new.names.items c.in_ok-new.field-0 c.len-count.result
+    c.new-names.ensures.items c.in_ok-push_name.ensures c.in_ok-push_listed.ensures (search rules) c.in_ok-push_listed-2.ensures c.in_ok-new.ensures

@@ -1,0 +1,17 @@
+-- Prototypes as they are held.
+use Rattle.std.specs.Prelude.{◌≡◌, ℕ, ◌+◌, ◌<◌, List, [], ◌∷◌, ◌++◌, length, take, drop, get_or, Option, Some, None}
+use Rattle.std.specs.Borrow.{Bor}
+use Rattle.model.specs.Trees.{Bytes}
+use Rattle.model.specs.Prototypes.{Cut, cut_at, FunctionPrototype}
+
+-- the text is cut so at the first such byte, which is gone
+abbrev pub IsCut : ℕ → Bytes → Option (Bor Bytes × Bor Bytes) → Type 0
+IsCut mark text None = cut_at mark text ≡ None
+IsCut mark text (Some p) = (cut_at mark text ≡ Some (record { before = p.0.now; after = p.1.now })) × (length p.1.now < length text)
+
+-- a function's name, its arguments and its locals
+abbrev pub function_of : List Bytes → (arity : ℕ) → FunctionPrototype
+function_of names arity = record { name = get_or names 0 []; arguments = take arity (drop 1 names); locals = drop (arity + 1) names }
+
+abbrev pub names_of : FunctionPrototype → List Bytes
+names_of f = f.name ∷ (f.arguments ++ f.locals)

@@ -1,0 +1,20 @@
+//! Prototypes: the texts by which DEFINE, DATA and ARRAY are told what to make.
+//!
+//! `function_prototype(alloc, text)` reads `NAME(ARGUMENT,..)LOCAL,..`, `dimensions` what ARRAY takes, as `0:9,20`.
+//! `Names` is a list of names that clones share.
+//!
+//!     let bounds = dimensions(alloc, &text)?;
+//!
+//! Promised: each is its definition in `model`'s `Prototypes`, for every text; only a refused growth of memory gives
+//! another answer.
+#![tactic(auto)]
+
+mod array;
+mod function;
+mod listed;
+mod names;
+mod parts;
+
+pub use array::dimensions;
+pub use function::{FunctionPrototype, function_prototype};
+pub use listed::Names;

@@ -1,0 +1,52 @@
+-- What units did for one call carries over to the call around it.
+use Rattle.std.proofs.Common.{ℕ, ◌∙◌, refl, subst, Option, Some, None}
+use Rattle.model.specs.Io.{Io}
+use Rattle.model.specs.Told.{IfTold}
+use Rattle.model.specs.Units.{IsCounted}
+use Rattle.model.specs.declared.run.Stop.{Stop}
+use Rattle.model.specs.declared.run.Stop.TheVariants as stop
+use Rattle.unit_io.specs.Counts.{Same}
+use Rattle.unit_io.specs.Service.{IsStop, KeepsCounts, Served}
+use Rattle.unit_io.specs.declared.units.Units.{Ghosts as Units}
+
+pub told_same : (o : Option Io) (P : Io → Io → Type 0) → ((io : Io) → P io io) → IfTold o o P
+told_same None P h = tt
+told_same (Some io) P h = h io
+
+pub told_on : (o n : Option Io) (P Q : Io → Io → Type 0) → ((a b : Io) → P a b → Q a b) → IfTold o n P → IfTold o n Q
+told_on None n P Q f h = tt
+told_on (Some a) None P Q f h = absurd h
+told_on (Some a) (Some b) P Q f h = f a b h
+
+pub told_then : (o m n : Option Io) (P Q R : Io → Io → Type 0) → ((a b c : Io) → P a b → Q b c → R a c) → IfTold o m P → IfTold m n Q → IfTold o n R
+told_then None m n P Q R f g h = tt
+told_then (Some a) None n P Q R f g h = absurd g
+told_then (Some a) (Some b) None P Q R f g h = absurd h
+told_then (Some a) (Some b) (Some c) P Q R f g h = f a b c g h
+
+-- what follows from what was said of the units, where the call around stopped as this one did
+pub served_on : {U : Type 0} {units : Units U} {why : Option Stop} {old new : U} {P Q : Io → Io → Type 0} → Served units why old new P → ((a b : Io) → P a b → Q a b) → Served units why old new Q
+served_on {P = P} {Q = Q} s f = record { told = told_on _ _ P Q f s.told; counts = s.counts }
+
+-- the same where the call around has its own reason
+pub served_for : {U : Type 0} {units : Units U} {why why' : Option Stop} {old new : U} {P Q : Io → Io → Type 0} → Served units why old new P
+    → (KeepsCounts why (units.failures old) (units.failures new) → KeepsCounts why' (units.failures old) (units.failures new)) → ((a b : Io) → P a b → Q a b) → Served units why' old new Q
+served_for {P = P} {Q = Q} s counts f = record { told = told_on _ _ P Q f s.told; counts = counts s.counts }
+
+-- no unit was used
+pub served_none : {U : Type 0} (units : Units U) (u : U) {P : Io → Io → Type 0} → ((io : Io) → P io io) → Served units None u u P
+served_none units u {P} h = record { told = told_same (units.told u) P h; counts = λ unit. refl }
+
+-- ---- one call after another
+
+stop_since : (e : Stop) (a b c : ℕ → ℕ) → Same a b → IsStop e b c → IsStop e a c
+stop_since stop.NoMemory a b c s h = λ u. h u ∙ s u
+stop_since (stop.Unit u f) a b c s h = (h.0, subst (λ n. IsCounted f n (c u)) (s u) h.1, λ v n. h.2 v n ∙ s v)
+
+-- calls that leave the counts, and then one that may stop
+pub counts_since : (why : Option Stop) (a b c : ℕ → ℕ) → Same a b → KeepsCounts why b c → KeepsCounts why a c
+counts_since None a b c s h = λ u. h u ∙ s u
+counts_since (Some e) a b c s h = stop_since e a b c s h
+
+pub served_then : {U : Type 0} {units : Units U} {why : Option Stop} {a b c : U} {P Q : Io → Io → Type 0} (R : Io → Io → Type 0) → Served units None a b P → Served units why b c Q → ((x y z : Io) → P x y → Q y z → R x z) → Served units why a c R
+served_then {why = why} {P = P} {Q = Q} R s t f = record { told = told_then _ _ _ P Q R f s.told t.told; counts = counts_since why _ _ _ s.counts t.counts }

@@ -1,0 +1,25 @@
+-- What units did for a call.
+use Rattle.std.specs.Prelude.{◌≢◌, ℕ, Option, Some, None}
+use Rattle.model.specs.Io.{Io}
+use Rattle.model.specs.Told.{IfTold}
+use Rattle.model.specs.Units.{IsCounted}
+use Rattle.model.specs.declared.run.Stop.{Stop}
+use Rattle.model.specs.declared.run.Stop.TheVariants as stop
+use Rattle.model.specs.declared.run.UnitFault.TheVariants as unit
+use Rattle.unit_io.specs.Counts.{Same, SameBut}
+use Rattle.unit_io.specs.declared.units.Units.{Ghosts as Units}
+
+-- a unit's failure was counted there and nowhere else, and it isn't one of memory; for want of memory none was counted
+abbrev pub IsStop : Stop → (ℕ → ℕ) → (ℕ → ℕ) → Type 0
+IsStop stop.NoMemory old new = Same old new
+IsStop (stop.Unit u cause) old new = (cause ≢ unit.Memory) × IsCounted cause (old u) (new u) × SameBut u old new
+
+-- a failure was counted just where it stopped the call
+abbrev pub KeepsCounts : Option Stop → (ℕ → ℕ) → (ℕ → ℕ) → Type 0
+KeepsCounts None old new = Same old new
+KeepsCounts (Some why) old new = IsStop why old new
+
+-- units served a call that stopped so, or didn't stop: P holds of what they told before and tell after, if they tell
+pub record Served {U : Type 0} (units : Units U) (why : Option Stop) (old new : U) (P : Io → Io → Type 0) : Type 0 where
+  pub told : IfTold (units.told old) (units.told new) P
+  pub counts : KeepsCounts why (units.failures old) (units.failures new)

@@ -1,0 +1,41 @@
+use Rattle.std.proofs.Common.{rules, ap, sym, ◌∙◌}
+use Rattle.pattern_compiler.specs.declared.instr.Name.TheVariants as name
+use Rattle.world.proofs.UnitCalls.{assigned_there, assigned_key, set_there, set_key}
+use Rattle.world.proofs.world.World.assign_at.Goals as goal
+
+pub returns-in-Element-clause-served : goal.returns-in-Element-clause-served
+returns-in-Element-clause-served g c = record {
+  told = assigned_there c.args.name.now _ _ c.args.self.now c.store.new.self _ _ c.in-Element.is c.store.ensures.stored;
+  counts = search rules;
+}
+
+pub returns-in-Element-clause-ok : goal.returns-in-Element-clause-ok
+returns-in-Element-clause-ok g c = set_there c.args.name.now _ _ c.args.self.now c.store.new.self c.store.result c.in-Element.is (λ h. h) c.store.ensures.stored
+
+pub returns-in-IntegerKey-clause-served : goal.returns-in-IntegerKey-clause-served
+returns-in-IntegerKey-clause-served g c =
+    let stored = c.store-in-IntegerKey in
+    record {
+      told = assigned_key c.args.name.now c.in-IntegerKey.object c.in-IntegerKey.key _ _ c.args.self.now stored.new.self stored.result c.in-IntegerKey.is (search rules) stored.ensures.stored _;
+      counts = search rules;
+    }
+
+pub returns-in-IntegerKey-clause-ok : goal.returns-in-IntegerKey-clause-ok
+returns-in-IntegerKey-clause-ok g c =
+    let stored = c.store-in-IntegerKey in
+    set_key c.args.name.now c.in-IntegerKey.object c.in-IntegerKey.key _ _ c.args.self.now stored.new.self stored.result c.in-IntegerKey.is (search rules) stored.ensures.stored
+
+pub returns-in_ok-clone-in-StringKey-clause-served : goal.returns-in_ok-clone-in-StringKey-clause-served
+returns-in_ok-clone-in-StringKey-clause-served g c =
+    let stored = c.store-in-StringKey in
+    record {
+      told = assigned_there c.args.name.now (name.StringKey c.in-StringKey.object c.in_ok-clone-in-StringKey.field-0) _ c.args.self.now stored.new.self _ _
+      (c.in-StringKey.is ∙ ap (name.StringKey c.in-StringKey.object) (sym c.in_ok-clone-in-StringKey.ensures.cases)) stored.ensures.stored;
+      counts = search rules;
+    }
+
+pub returns-in_ok-clone-in-StringKey-clause-ok : goal.returns-in_ok-clone-in-StringKey-clause-ok
+returns-in_ok-clone-in-StringKey-clause-ok g c =
+    let stored = c.store-in-StringKey in
+    set_there c.args.name.now (name.StringKey c.in-StringKey.object c.in_ok-clone-in-StringKey.field-0) _ c.args.self.now stored.new.self stored.result
+    (c.in-StringKey.is ∙ ap (name.StringKey c.in-StringKey.object) (sym c.in_ok-clone-in-StringKey.ensures.cases)) (λ h. h) stored.ensures.stored

@@ -1,0 +1,58 @@
+//! Elements of arrays, values of tables and fields of records.
+
+ghost use Rattle.std.specs.Prelude.{◌≡◌, [], slice_get, option_map, OnErr};
+ghost use Rattle.model.specs.Io.{Io};
+ghost use Rattle.model.specs.Target.{Element};
+ghost use Rattle.model.specs.Values.{Str};
+ghost use Rattle.model.specs.Operators.{there, entry_of, fetch_op, put_object};
+ghost use Rattle.model.specs.declared.run.Stop.TheVariants.{NoMemory};
+ghost use Rattle.aggregates.specs.Keys.{key_of};
+ghost use Rattle.aggregates.specs.Objects.{stored_at};
+ghost use Rattle.world.specs.Values.{value_of};
+ghost use Rattle.world.specs.Held.{world_of};
+ghost use Rattle.world.specs.Answers.{answer_map, done, Answers, AnswersOrFails, IfStopped};
+
+use crate::fault::Fault;
+use crate::value::Value;
+use crate::world::World;
+use aggregates::{Key, Kind, Place};
+use model::ErrorCode;
+
+impl World {
+    /// An element of an array, or a field of a record.
+    pub(crate) fn element(&self, object: usize, index: usize) -> Result<Option<Value>, Fault>
+        ensures value { (io : Io) → AnswersOrFails (answer_map (option_map value_of) result) (world_of self.now io) (fetch_op (Element object index) (world_of self.now io)) }
+        ensures stop { IfStopped result (λ stop. stop ≡ NoMemory) }
+    {
+        match self.heap.get(object, &Place::Element(index)) {
+            Some(value) => Ok(Some(value.clone()?)),
+            None => Err(Fault::Error(ErrorCode::WrongType)),
+        }
+    }
+
+    /// The value that a table has for a key, which is null at first.
+    pub(crate) fn entry(&self, object: usize, key: Key) -> Result<Option<Value>, Fault>
+        ensures value { (io : Io) → AnswersOrFails (answer_map (option_map value_of) result) (world_of self.now io) (there (entry_of (Str []) (slice_get (world_of self.now io).objects object) (key_of key)) (world_of self.now io)) }
+        ensures stop { IfStopped result (λ stop. stop ≡ NoMemory) }
+    {
+        let Some(Kind::Table) = self.heap.kind(object) else {
+            return Err(Fault::Error(ErrorCode::WrongType));
+        };
+        match self.heap.get(object, &Place::Key(key)) {
+            Some(value) => Ok(Some(value.clone()?)),
+            None => Ok(Some(Value::null())),
+        }
+    }
+
+    /// Another value at a place of an object.
+    pub(crate) fn store(&mut self, object: usize, place: Place, value: Value) -> Result<(), Fault>
+        ensures stored { (io : Io) → Answers (done result) (world_of self.new io) (put_object object (stored_at place (value_of value) (slice_get (world_of self.old io).objects object)) (world_of self.old io)) }
+        ensures err { OnErr result (self.new ≡ self.old) }
+        ensures stop { IfStopped result (λ stop. stop ≡ NoMemory) }
+    {
+        if self.heap.set(object, place, value)? {
+            return Ok(());
+        }
+        Err(Fault::Error(ErrorCode::WrongType))
+    }
+}

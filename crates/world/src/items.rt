@@ -1,0 +1,87 @@
+//! Names of elements, by an array or a table and the subscripts.
+
+ghost use Rattle.std.specs.Prelude.{◌≡◌, ◌≤◌, List, length, map, take, slice_get, Some, option_map, IfErr, OnOk};
+ghost use Rattle.model.specs.Io.{Io};
+ghost use Rattle.model.specs.Machine.{MW};
+ghost use Rattle.model.specs.Values.{Bounds, ArrayOf};
+ghost use Rattle.model.specs.Conversions.{Got, Bad};
+ghost use Rattle.model.specs.Aggregates.{all_integers, element_op, table_element};
+ghost use Rattle.model.specs.declared.run.Stop.TheVariants.{NoMemory};
+ghost use Rattle.pattern_compiler.specs.View.{name_of};
+ghost use Rattle.world.specs.Values.{value_of};
+ghost use Rattle.world.specs.Held.{world_of};
+ghost use Rattle.world.specs.Objects.{item_at};
+ghost use Rattle.world.specs.declared.value.Value.{Value};
+ghost use Rattle.world.specs.Answers.{answer_map, conv_of, AnswersOrFails, IfStopped};
+
+use crate::fault::Fault;
+use crate::value::Value;
+use crate::world::World;
+use aggregates::Kind;
+use model::ErrorCode;
+use pattern_compiler::Name;
+
+impl World {
+    /// The name of an element, by its array or table and the subscripts; outside an array's bounds there is none.
+    pub fn item(&self, base: &Value, subscripts: &[Value]) -> Result<Option<Name>, Fault>
+        ensures name { (io : Io) → AnswersOrFails (answer_map (option_map name_of) result) (world_of self.now io) (element_op (value_of base.now) (map value_of subscripts.now) (world_of self.now io)) }
+        ensures stop { IfStopped result (λ stop. stop ≡ NoMemory) }
+    {
+        let Value::Object(object) = base else {
+            return Err(Fault::Error(ErrorCode::WrongType));
+        };
+        match self.heap.kind(*object) {
+            Some(Kind::Array) => Ok(self.array_item(*object, subscripts)?),
+            Some(Kind::Table) => table_item(*object, subscripts),
+            Some(Kind::Record) => Err(Fault::Error(ErrorCode::WrongType)),
+            None => Err(Fault::Error(ErrorCode::WrongType)),
+        }
+    }
+
+    // The name of an array's element. Takes no memory.
+    fn array_item(&self, object: usize, subscripts: &[Value]) -> Result<Option<Name>, ErrorCode>
+        ensures { (bs : List Bounds) (es : List Value) → slice_get self.now.objects object ≡ Some (ArrayOf bs es) → conv_of (answer_map (option_map name_of) result) ≡ item_at object bs (map value_of subscripts.now) }
+    {
+        let count = subscripts.len();
+        if self.heap.dimensions(object) != count {
+            return Err(ErrorCode::BadArray);
+        }
+        let mut integers = [0; 8];
+        put_integers(subscripts, &mut integers)?;
+        match self.heap.place(object, &integers[..count]) {
+            Some(index) => Ok(Some(Name::Element { object, index })),
+            None => Ok(None),
+        }
+    }
+}
+
+// The integers that values convert to, put at the front of others.
+fn put_integers(values: &[Value], integers: &mut [i64]) -> Result<(), ErrorCode>
+    requires { length values.now ≤ length integers.old }
+    ensures ok { OnOk result (all_integers (map value_of values.now) ≡ Got (take (length values.now) integers.new)) }
+    ensures err { IfErr result (λ error. all_integers (map value_of values.now) ≡ Bad error) }
+    ensures len { length integers.new ≡ length integers.old }
+{
+    for (k, value) in values.iter().enumerate() {
+        integers[k] = value.to_int()?;
+    }
+    Ok(())
+}
+
+// The name of a key's value in a table.
+fn table_item(object: usize, subscripts: &[Value]) -> Result<Option<Name>, Fault>
+    ensures name { (w : MW) → AnswersOrFails (answer_map (option_map name_of) result) w (table_element object (map value_of subscripts.now) w) }
+    ensures stop { IfStopped result (λ stop. stop ≡ NoMemory) }
+{
+    let [key] = subscripts else {
+        return Err(Fault::Error(ErrorCode::BadArray));
+    };
+    match key {
+        Value::String(text) => Ok(Some(Name::StringKey {
+            object,
+            key: text.clone()?,
+        })),
+        Value::Integer(n) => Ok(Some(Name::IntegerKey { object, key: *n })),
+        _ => Err(Fault::Error(ErrorCode::WrongType)),
+    }
+}

@@ -1,0 +1,94 @@
+//! Arrays, tables and records: what makes them.
+
+ghost use Rattle.std.specs.Prelude.{◌≡◌, [], Some, option_map, OnErr};
+ghost use Rattle.model.specs.Io.{Io};
+ghost use Rattle.model.specs.Values.{Obj, TableOf};
+ghost use Rattle.model.specs.Prototypes.{passing, are_bounds};
+ghost use Rattle.model.specs.Aggregates.{new_object, array_op, copy_op, as_array, type_of};
+ghost use Rattle.model.specs.declared.run.Stop.TheVariants.{NoMemory};
+ghost use Rattle.world.specs.Values.{value_of};
+ghost use Rattle.world.specs.Held.{world_of};
+ghost use Rattle.world.specs.Answers.{answer_map, Answers, AnswersOrFails, IfStopped};
+
+use crate::fault::Fault;
+use crate::value::Value;
+use crate::world::World;
+use aggregates::{Bounds, Kind};
+use model::ErrorCode;
+use std::alloc::Global;
+
+impl World {
+    /// A new table without entries.
+    pub fn table(&mut self, alloc: Global) -> Result<Value, Fault>
+        ensures made { (io : Io) → Answers (answer_map value_of result) (world_of self.new io) (new_object (TableOf []) (world_of self.old io)) }
+        ensures stop { IfStopped result (λ stop. stop ≡ NoMemory) }
+        ensures err { OnErr result (self.new ≡ self.old) }
+    {
+        let table = self.heap.new_table(alloc)?;
+        Ok(Value::Object(table))
+    }
+
+    /// Another array like this one.
+    pub fn copy(&mut self, alloc: Global, value: &Value) -> Result<Value, Fault>
+        ensures made { (io : Io) → Answers (answer_map value_of result) (world_of self.new io) (copy_op (value_of value.now) (world_of self.old io)) }
+        ensures stop { IfStopped result (λ stop. stop ≡ NoMemory) }
+        ensures err { OnErr result (self.new ≡ self.old) }
+    {
+        let Value::Object(object) = value else {
+            return Err(Fault::Error(ErrorCode::WrongType));
+        };
+        let Some(copy) = self.heap.copy_array(alloc, *object)? else {
+            return Err(Fault::Error(ErrorCode::WrongType));
+        };
+        Ok(Value::Object(copy))
+    }
+
+    /// The name of an object's type. Takes no memory.
+    pub fn object_type(&self, object: usize) -> &[u8]
+        ensures { (io : Io) → result.now ≡ type_of (world_of self.now io) (Obj object) }
+    {
+        if let Some(name) = self.heap.record_type(object) {
+            return name.as_slice();
+        }
+        match self.heap.kind(object) {
+            Some(Kind::Table) => b"TABLE",
+            _ => b"ARRAY",
+        }
+    }
+
+    /// A new array with this value everywhere. Dimensions that no array may have are an error.
+    pub fn array(
+        &mut self,
+        alloc: Global,
+        bounds: Vec<Bounds>,
+        value: &Value,
+    ) -> Result<Value, Fault>
+        ensures made { (io : Io) → Answers (answer_map value_of result) (world_of self.new io) (array_op (passing are_bounds (Some bounds.items)) (value_of value.now) (world_of self.old io)) }
+        ensures stop { IfStopped result (λ stop. stop ≡ NoMemory) }
+        ensures err { OnErr result (self.new ≡ self.old) }
+    {
+        let Some(array) = self.heap.new_array(alloc, bounds, value)? else {
+            return Err(Fault::Error(ErrorCode::BadArray));
+        };
+        Ok(Value::Object(array))
+    }
+
+    /// A table's keys and values as an array, a row for each value that isn't null. What is no table, or has no row,
+    /// gives none.
+    pub fn rows(&mut self, alloc: Global, value: &Value) -> Result<Option<Value>, Fault>
+        ensures made { (io : Io) → AnswersOrFails (answer_map (option_map value_of) result) (world_of self.new io) (as_array (value_of value.now) (world_of self.old io)) }
+        ensures stop { IfStopped result (λ stop. stop ≡ NoMemory) }
+        ensures err { OnErr result (self.new ≡ self.old) }
+    {
+        let Value::Object(object) = value else {
+            return Ok(None);
+        };
+        if self.heap.row_count(*object) > 524_288 {
+            return Err(Fault::Error(ErrorCode::BadArray));
+        }
+        let Some(array) = self.heap.table_to_array(alloc, *object)? else {
+            return Ok(None);
+        };
+        Ok(Some(Value::Object(array)))
+    }
+}
