@@ -1,11 +1,9 @@
 """What `sno` doesn't run yet, of which it tells each statement as P0. The reference runs all of it."""
 
 from .names import MOST_ARGUMENTS
-from .trees import Binary, Call, Reference, Unary, expressions_of
+from .trees import Binary, Call, Unary, expressions_of
 
-NOT_YET = frozenset(
-    (b"ARRAY", b"TABLE", b"ITEM", b"COPY", b"CONVERT", b"DATA", b"DEFINE", b"APPLY", b"INPUT", b"OUTPUT", b"DETACH")
-)
+NOT_YET = frozenset((b"ITEM", b"DATA", b"DEFINE", b"APPLY"))
 
 
 def runs(tree):
@@ -14,7 +12,7 @@ def runs(tree):
         return tree.name in MOST_ARGUMENTS and tree.name not in NOT_YET
     if isinstance(tree, Unary):
         return tree.mark not in (b"*", b"@")
-    return not isinstance(tree, Reference) and not (isinstance(tree, Binary) and tree.mark == b"$")
+    return not (isinstance(tree, Binary) and tree.mark == b"$")
 
 
 def not_yet(statements):

@@ -83,7 +83,7 @@ mutual
   value_runs (Call f args) h =
       let a = and_parts (call_runs (prim_named f)) (in_args construct_runs args) h in
       both (arguments_run args a.1) (of_call op.PrimV op.CallV (prim_named f) f (count args) (λ p e. e) a.0)
-  value_runs (Reference x args) h = absurd (cc)
+  value_runs (Reference x args) h = both (of_string op.Var x (λ n. refl)) (both (single op.Fetch refl) (both (arguments_run args h) (ended op.Fetch refl (single (op.Elem _) refl))))
   value_runs (Apply unary.NameOf e) h = ended op.NameV refl (name_runs e h)
   value_runs (Apply unary.Indirect e) h = both (value_runs e h) (ended op.Fetch refl (single op.Indir refl))
   value_runs (Apply unary.Unevaluated e) h = absurd (cc)
@@ -110,7 +110,7 @@ mutual
   name_runs (Call f args) h =
       let a = and_parts (call_runs (prim_named f)) (in_args construct_runs args) h in
       both (arguments_run args a.1) (of_call op.PrimN op.CallN (prim_named f) f (count args) (λ p e. e) a.0)
-  name_runs (Reference x args) h = absurd (cc)
+  name_runs (Reference x args) h = both (of_string op.Var x (λ n. refl)) (both (single op.Fetch refl) (ended (op.Elem _) refl (arguments_run args h)))
   name_runs (Apply unary.NameOf e) h = none
   name_runs (Apply unary.Indirect e) h = ended op.Indir refl (value_runs e h)
   name_runs (Apply unary.Unevaluated e) h = none

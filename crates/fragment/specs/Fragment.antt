@@ -47,7 +47,7 @@ construct_runs (Integer n) = true
 construct_runs (Literal s) = true
 construct_runs (Keyword k) = true
 construct_runs (Call f args) = call_runs (prim_named f)
-construct_runs (Reference x args) = false
+construct_runs (Reference x args) = true
 construct_runs (Apply op x) = unary_runs op
 construct_runs (Combine op x y) = binary_runs op
 

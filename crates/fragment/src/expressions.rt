@@ -41,7 +41,7 @@ pub(crate) fn runs(expr: &Expr) -> bool
     match expr {
         Expr::Name(_) | Expr::Integer(_) | Expr::Literal(_) | Expr::Keyword(_) => true,
         Expr::Call(name, arguments) => call_runs(name) && all_run(arguments),
-        Expr::Reference(_, _) => false,
+        Expr::Reference(_, arguments) => all_run(arguments),
         Expr::Unary(op, operand) => unary_runs(*op) && runs(operand),
         Expr::Binary(op, left, right) => binary_runs(*op) && runs(left) && runs(right),
     }

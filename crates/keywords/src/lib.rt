@@ -123,6 +123,7 @@ impl Keywords {
     }
 
     /// What a keyword holds.
+    #[inline(always)]
     pub fn get(&self, id: KeyId) -> KeyValue<'_>
         ensures { shown result ≡ key_value id self.now }
     {
@@ -186,6 +187,7 @@ impl Keywords {
     }
 
     /// The machine's own change of a keyword that counts.
+    #[inline(always)]
     pub fn put(&mut self, id: KeyId, n: i64)
         requires { IsTrue (is_counter id) }
         ensures { self.new ≡ put_key id n self.old }

@@ -21,6 +21,7 @@ fn settle(thread: &mut Thread) -> Result<(), AllocError>
 }
 
 /// The place after the attempt's instruction.
+#[inline(always)]
 pub fn next_place(thread: &Thread) -> usize
     requires { thread.now.place < length thread.now.trail.code }
     ensures { result ≡ thread.now.place + 1 }
@@ -33,6 +34,7 @@ pub fn next_place(thread: &Thread) -> usize
 }
 
 /// The attempt on at a place and a cursor.
+#[inline(always)]
 pub fn move_on(thread: &mut Thread, place: usize, cursor: usize) -> Result<(), AllocError>
     ensures thread { OnOk result (thread_of thread.new ≡ onward_of (thread_of thread.old) place cursor) }
     ensures choices { OnOk result (thread.new.trail.backs ≡ thread.old.trail.backs) }
@@ -42,8 +44,9 @@ pub fn move_on(thread: &mut Thread, place: usize, cursor: usize) -> Result<(), A
     settle(thread)
 }
 
-/// On at a place and a cursor.
-pub fn onward(run: &mut Run, place: usize, cursor: usize) -> Result<(), AllocError>
+/// On at a place and a cursor, where the place may be the end of the code.
+#[inline(never)]
+fn onward_past(run: &mut Run, place: usize, cursor: usize) -> Result<(), AllocError>
     ensures state { OnOk result ((u : List ℕ) → state_of u run.new ≡ gone u run.old place cursor) }
     ensures places { SamePlaces run.old run.new }
 {
@@ -56,7 +59,24 @@ pub fn onward(run: &mut Run, place: usize, cursor: usize) -> Result<(), AllocErr
     Ok(())
 }
 
+/// On at a place and a cursor.
+#[inline(always)]
+pub fn onward(run: &mut Run, place: usize, cursor: usize) -> Result<(), AllocError>
+    ensures state { OnOk result ((u : List ℕ) → state_of u run.new ≡ gone u run.old place cursor) }
+    ensures places { SamePlaces run.old run.new }
+{
+    if place < run.thread.trail.code().len() {
+        run.thread.place = place;
+        run.thread.cursor = cursor;
+        run.mode = Mode::Going;
+        Ok(())
+    } else {
+        onward_past(run, place, cursor)
+    }
+}
+
 /// Back to the newest choice, to the next start, or to the end of the match.
+#[inline(always)]
 pub fn fail(run: &mut Run)
     requires { run.old.start + run.old.left < 2 ^ 64 }
     ensures state { (u : List ℕ) → state_of u run.new ≡ failed u run.old }
@@ -75,6 +95,7 @@ pub fn fail(run: &mut Run)
 }
 
 /// Keeps a choice of the attempt.
+#[inline(always)]
 pub fn keep(run: &mut Run, kept: Kept) -> Result<(), AllocError>
     ensures choices { OnOk result (run.new.thread.trail ≡ record run.old.thread.trail { backs = record { kept = kept; thread = thread_of run.old.thread } ∷ run.old.thread.trail.backs }) }
     ensures thread { (run.new.thread.place ≡ run.old.thread.place) × (run.new.thread.cursor ≡ run.old.thread.cursor) }

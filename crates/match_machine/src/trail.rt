@@ -86,6 +86,7 @@ impl Trail {
     }
 
     /// The code.
+    #[inline(always)]
     pub fn code(&self) -> &PatCode
         ensures { result.now ≡ self.now.code }
     {
@@ -93,6 +94,7 @@ impl Trail {
     }
 
     /// Whether there is no choice.
+    #[inline(always)]
     pub fn is_last(&self) -> bool
         ensures { result ≡ no_backs self.now.backs }
     {
@@ -213,6 +215,7 @@ impl Trail {
     }
 
     /// Keeps a choice. Takes memory only where a log has to grow.
+    #[inline(never)]
     pub fn keep(&mut self, kept: Kept, place: usize, cursor: usize) -> Result<(), AllocError>
         ensures { OnOk result (self.new ≡ record self.old { backs = record { kept = kept; thread = record { code = self.old.code; place = place; cursor = cursor; notes = self.old.notes; pending = self.old.pending } } ∷ self.old.backs }) }
     {
@@ -231,6 +234,7 @@ impl Trail {
     }
 
     /// Back to the newest choice, if there is one.
+    #[inline(always)]
     pub fn back(&mut self) -> Result<Option<Choice>, AllocError>
         ensures { IfOk result (λ o. MatchOption o (self.old.backs ≡ []) (λ x. self.old.backs ≡ record { kept = x.kept; thread = record { code = self.new.code; place = x.place; cursor = x.cursor; notes = self.new.notes; pending = self.new.pending } } ∷ self.new.backs)) }
     {
@@ -240,7 +244,7 @@ impl Trail {
                 self.stored = false;
                 self.head = choice.head;
                 self.log.truncate(choice.log);
-                self.pending.truncate(choice.pending);
+                cut_pending(&mut self.pending, choice.pending);
                 cut_codes(&mut self.code, stored, &mut self.codes, choice.codes)?;
                 self.stored = true;
                 Ok(Some(choice))
@@ -316,6 +320,7 @@ fn left_at(log: &[Entry], head: usize) -> Result<Option<(PatCode, usize, usize)>
 }
 
 /// The code as the last of the codes, where it isn't yet.
+#[inline(always)]
 fn store(code: &PatCode, stored: bool, codes: &mut Vec<PatCode>) -> Result<(), AllocError>
     requires { stored ≡ true → last_code codes.old.items ≡ code.now }
     ensures last { OnOk result (last_code codes.new.items ≡ code.now) }
@@ -330,6 +335,7 @@ fn store(code: &PatCode, stored: bool, codes: &mut Vec<PatCode>) -> Result<(), A
 }
 
 /// The codes cut to a length, and the last that is left. Where nothing is cut off, the stored code stays.
+#[inline(always)]
 fn cut_codes(
     code: &mut PatCode,
     stored: bool,
@@ -346,6 +352,16 @@ fn cut_codes(
     codes.truncate(len);
     *code = last_of(codes.as_slice())?;
     Ok(())
+}
+
+/// The pending assignments cut to a length.
+#[inline(always)]
+fn cut_pending(pending: &mut Vec<Assignment>, len: usize)
+    ensures { pending.new.items ≡ take len pending.old.items }
+{
+    if pending.len() > len {
+        pending.truncate(len);
+    }
 }
 
 /// The last code.

@@ -1,7 +1,7 @@
 //! The primitive functions.
 //!
-//! `call_prim(alloc, id, &arguments, &mut world)` calls one that is there (`is_there`): LEN to DATATYPE, and FENCE. It
-//! comes to an `Outcome`, that is a value, a name, failure or a function to call, or to a `Fault`.
+//! `call_prim(alloc, id, &arguments, &mut world)` calls one that is there (`is_there`): all but ITEM, DATA, DEFINE and
+//! APPLY. It comes to an `Outcome`, that is a value, a name, failure or a function to call, or to a `Fault`.
 //!
 //!     let outcome = call_prim(alloc, PrimId::Size, &arguments, &mut world)?;
 //!

@@ -11,3 +11,4 @@ pub mod Seeing
 pub mod Stopping
 pub mod Telling
 pub mod WellFormed
+pub mod Named

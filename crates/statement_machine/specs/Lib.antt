@@ -4,3 +4,4 @@ pub mod Runs
 pub mod Stopped
 pub mod Calling
 pub use Rattle.world.specs.Answers
+pub mod Elements

@@ -12,6 +12,7 @@
 #![tactic(auto)]
 
 mod calls;
+mod elements;
 mod failing;
 mod gotos;
 mod instructions;

@@ -45,12 +45,13 @@ front_of : (xs ys : List ℕ) → take (length xs) (xs ++ ys) ≡ xs
 front_of [] ys = refl
 front_of (x ∷ xs) ys = ap (λ zs. x ∷ zs) (front_of xs ys)
 
--- two lists written over the front of another
-pub joined_in_front : (xs ys before after : List ℕ) → take (length xs + length ys) (take (length xs) (xs ++ before) ++ (ys ++ after)) ≡ xs ++ ys
-joined_in_front xs ys before after =
-    ap (λ zs. take (length xs + length ys) (zs ++ (ys ++ after))) (front_of xs before)
+-- a list written behind the front of another
+pub joined_in_front : (n : ℕ) (xs ys before after : List ℕ) → n ≡ length xs → take (length xs) before ≡ xs → take (n + length ys) (take n before ++ (ys ++ after)) ≡ xs ++ ys
+joined_in_front n xs ys before after is front =
+    ap (λ k. take (k + length ys) (take k before ++ (ys ++ after))) is
+    ∙ ap (λ zs. take (length xs + length ys) (zs ++ (ys ++ after))) front
     ∙ ap (λ zs. take (length xs + length ys) zs) (sym (append_assoc xs ys after))
-    ∙ ap (λ n. take n ((xs ++ ys) ++ after)) (sym (length-append xs ys))
+    ∙ ap (λ k. take k ((xs ++ ys) ++ after)) (sym (length-append xs ys))
     ∙ front_of (xs ++ ys) after
 
 -- the rest from a place on

@@ -1,6 +1,6 @@
 //! A text: a few bytes of its own, or many that are shared by its clones and by the parts cut from it.
 
-ghost use Rattle.std.specs.Prelude.{◌≡◌, ◌+◌, ◌*◌, ◌^◌, ◌<◌, ◌≤◌, ℕ, [], ◌++◌, length, drop, map, IfOk, IfErr};
+ghost use Rattle.std.specs.Prelude.{◌≡◌, ◌+◌, ◌*◌, ◌^◌, ◌<◌, ◌≤◌, ℕ, [], ◌++◌, length, take, drop, map, IfOk, IfErr};
 ghost use Rattle.std.specs.Prelude.{IsTrue, Err, ◌↔◌, slice_range, slice_index};
 ghost use Rattle.std.specs.Fmt.{signed_decimal};
 ghost use Rattle.std.specs.List.{repeat};
@@ -87,20 +87,37 @@ impl Text {
     }
 
     // Two texts in one of a few bytes.
-    fn few_joined(left: &[u8], right: &[u8]) -> Text
+    fn few_joined(left: &Text, right: &[u8]) -> Text
         requires { length left.now + length right.now ≤ 22 }
         ensures { result ≡ left.now ++ right.now }
     {
         let front = left.len();
         let len = front + right.len();
-        let mut array = [0; FEW];
-        array[..front].copy_from_slice(left);
+        let mut array = left.few_bytes();
         array[front..len].copy_from_slice(right);
         Text {
             bytes: Bytes::Own {
                 len: len as u8,
                 array,
             },
+        }
+    }
+
+    // A few bytes, in the front of an array.
+    #[inline]
+    fn few_bytes(&self) -> [u8; FEW]
+        requires { length self.now ≤ 22 }
+        ensures bytes { take (length self.now) result ≡ self.now }
+        ensures len { length result ≡ 22 }
+    {
+        match &self.bytes {
+            Bytes::Own { array, .. } => *array,
+            Bytes::Shared { .. } => {
+                let bytes = self.as_slice();
+                let mut array = [0; FEW];
+                array[..bytes.len()].copy_from_slice(bytes);
+                array
+            }
         }
     }
 
@@ -139,7 +156,7 @@ impl Text {
             return Err(StrFault::TooLong);
         }
         if front + back <= FEW {
-            return Ok(Text::few_joined(left.as_slice(), right.as_slice()));
+            return Ok(Text::few_joined(left, right.as_slice()));
         }
         if front == 0 {
             return Ok(right.clone()?);
@@ -162,7 +179,7 @@ impl Text {
             return Err(StrFault::TooLong);
         }
         if front + back <= FEW {
-            return Ok(Text::few_joined(left.as_slice(), right.as_slice()));
+            return Ok(Text::few_joined(&left, right.as_slice()));
         }
         if front == 0 {
             return Ok(right.clone()?);

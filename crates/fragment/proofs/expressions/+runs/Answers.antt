@@ -1,9 +1,9 @@
-use Rattle.std.proofs.Common.{◌≡◌, ◌∙◌, sym, ap, ◌&&◌, drop, [], arith}
+use Rattle.std.proofs.Common.{◌≡◌, ◌∙◌, refl, sym, ap, ◌&&◌, drop, [], arith}
 use Rattle.std.proofs.lemmas.Grind.{common_steps}
 use Rattle.model.specs.Faults.{everywhere, in_args}
 use Rattle.model.specs.Names.{prim_named}
 use Rattle.model.specs.TreeViews.{args_of, expr_of}
-use Rattle.expr_codegen.proofs.Arguments.{call_of_slice}
+use Rattle.expr_codegen.proofs.Arguments.{call_of_slice, reference_of_slice}
 use Rattle.fragment.specs.Fragment.{call_runs, construct_runs}
 use Rattle.fragment.proofs.Arguments.{all_pass, fails, passes}
 use Rattle.fragment.proofs.expressions.+runs.Goals as goal
@@ -26,3 +26,9 @@ runs-returns-then-call_runs t c =
     let whole = ap expr_of c.in-Call.is ∙ call_of_slice c.in-Call.name c.in-Call.arguments name xs c.deref.ensures.value c.deref-then-call_runs.ensures.value in
     let has : call_runs (prim_named name) ≡ _ = sym c.call_runs.ensures ∙ c.if-call_runs.true in
     c.all_run.ensures ∙ sym (ap (λ b. b && in_args construct_runs (args_of xs)) has) ∙ ap (everywhere construct_runs) (sym whole)
+
+pub runs-returns-in-Reference : goal.runs-returns-in-Reference
+runs-returns-in-Reference t c =
+    let xs = c.deref-in-Reference.result.now in
+    let whole = ap expr_of c.in-Reference.is ∙ reference_of_slice c.in-Reference.field-0 c.in-Reference.arguments c.in-Reference.field-0.items xs refl c.deref-in-Reference.ensures.value in
+    c.all_run-in-Reference.ensures ∙ ap (everywhere construct_runs) (sym whole)
