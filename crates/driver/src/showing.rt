@@ -6,7 +6,7 @@ ghost use Rattle.model.specs.Module.Reading.{read_image};
 ghost use Rattle.loader.specs.Answers.{IsAnswer};
 ghost use Rattle.loader.specs.Loaded.{IsLoaded};
 
-use loader::load;
+use loader::{bytes, load};
 use model::{Instr, LoadFault};
 use std::alloc::Global;
 use std::io::{self, Write};
@@ -125,13 +125,12 @@ fn show_instr<W: Write>(at: u32, instr: Instr, out: &mut W) -> io::Result<()> {
 /// Writes a line for each instruction of a module. After a failure nothing is said of what was written.
 pub fn show<W: Write>(alloc: Global, bytes: &[u8], out: &mut W) -> Result<(), ShowFault> {
     let module = load(alloc, bytes)?;
-    let mut at = 0;
-    for place in 0..usize::MAX {
-        let Some(found) = module.instr(at, place) else {
-            break;
-        };
-        show_instr(at, found.instr, out)?;
-        at = found.next;
+    let mut at = 0_u32;
+    for place in 0..module.len() {
+        let instr = module.at(place).instr;
+        show_instr(at, instr, out)?;
+        // No code is as long as that.
+        at = at.wrapping_add(bytes(instr));
     }
     Ok(())
 }

@@ -1,4 +1,6 @@
+pub mod Stacked
 pub mod View
 pub mod Kinds
 pub mod Failing
 pub mod Matches
+pub mod Frames

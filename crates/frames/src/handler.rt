@@ -1,43 +1,43 @@
 //! Handlers, and where a failure leads.
 
-ghost use Rattle.std.specs.Prelude.{◌≡◌, ◌∷◌, List, drop};
+ghost use Rattle.std.specs.Prelude.{◌≡◌, ◌∷◌, ℕ, List, drop};
 ghost use Rattle.frames.specs.View.{operands_of, handlers_of};
-ghost use Rattle.frames.specs.Failing.{IsInBegin, caught_by, kept_by, caught_at};
-ghost use Rattle.model.specs.Module.Flow.{IsInTry};
+ghost use Rattle.frames.specs.Failing.{IsInBegin, IsInTry, caught_by, kept_by, caught_at};
 ghost use Rattle.model.specs.Machine.Steps as m;
 ghost use Rattle.model.specs.Machine.Steps.{Frame, MW, State, fail_to, unbegin, untry};
 
 use crate::operand::Operand;
 use crate::stack::Stack;
 
-/// What a failure leads to: BEGIN's, under which there is no operand, or a TRY's with the number of operands under it.
+/// What a failure leads to, by its place: BEGIN's, under which there is no operand, or a TRY's with the number of operands
+/// under it.
 #[derive(Clone, Copy)]
 pub enum Handler {
-    Begin { target: u32 },
-    Try { target: u32, depth: usize },
+    Begin { target: usize },
+    Try { target: usize, depth: usize },
 }
 
 /// Where a failure leads. That of a statement is counted.
 #[derive(Clone, Copy)]
 pub enum Caught {
-    Statement { target: u32 },
-    Try { target: u32 },
+    Statement { target: usize },
+    Try { target: usize },
 }
 
 /// Takes off the newest handler, BEGIN's.
 pub fn pop_begin(handlers: &mut Stack<Handler>)
-    requires { IsInBegin (handlers_of handlers.old) }
-    ensures rest { handlers.new ≡ drop 1 handlers.old }
-    ensures pops { (w : MW) (k : List m.Handler → State) → unbegin (handlers_of handlers.old) w k ≡ k (handlers_of handlers.new) }
+    requires { IsInBegin handlers.old.top }
+    ensures rest { handlers.new ≡ record handlers.old { top = drop 1 handlers.old.top } }
+    ensures pops { (o : ℕ → ℕ) (w : MW) (k : List m.Handler → State) → unbegin (handlers_of o handlers.old.top) w k ≡ k (handlers_of o handlers.new.top) }
 {
     let _handler = handlers.pop();
 }
 
 /// Takes off the newest handler, a TRY's.
 pub fn pop_try(handlers: &mut Stack<Handler>)
-    requires { IsInTry (handlers_of handlers.old) }
-    ensures rest { handlers.new ≡ drop 1 handlers.old }
-    ensures pops { (w : MW) (k : List m.Handler → State) → untry (handlers_of handlers.old) w k ≡ k (handlers_of handlers.new) }
+    requires { IsInTry handlers.old.top }
+    ensures rest { handlers.new ≡ record handlers.old { top = drop 1 handlers.old.top } }
+    ensures pops { (o : ℕ → ℕ) (w : MW) (k : List m.Handler → State) → untry (handlers_of o handlers.old.top) w k ≡ k (handlers_of o handlers.new.top) }
 {
     let _handler = handlers.pop();
 }
@@ -45,11 +45,11 @@ pub fn pop_try(handlers: &mut Stack<Handler>)
 /// A failure: takes off the newest handler, drops the operands that it doesn't keep, and tells where to go on. Without a
 /// handler there is nowhere, and nothing changes.
 pub fn fail(operands: &mut Stack<Operand>, handlers: &mut Stack<Handler>) -> Option<Caught>
-    ensures caught { result ≡ caught_by handlers.old }
-    ensures operands { operands.new ≡ kept_by handlers.old operands.old }
-    ensures handlers { handlers.new ≡ drop 1 handlers.old }
-    ensures leads { (fs : List Frame) (w : MW) →
-        fail_to (handlers_of handlers.old) (operands_of operands.old) fs w ≡ caught_at result (operands_of operands.new) (handlers_of handlers.new) fs w }
+    ensures caught { result ≡ caught_by handlers.old.top }
+    ensures operands { operands.new ≡ record operands.old { top = kept_by handlers.old.top operands.old.top } }
+    ensures handlers { handlers.new ≡ record handlers.old { top = drop 1 handlers.old.top } }
+    ensures leads { (o : ℕ → ℕ) (fs : List Frame) (w : MW) →
+        fail_to (handlers_of o handlers.old.top) (operands_of operands.old.top) fs w ≡ caught_at o result (operands_of operands.new.top) (handlers_of o handlers.new.top) fs w }
 {
     if handlers.is_empty() {
         return None;

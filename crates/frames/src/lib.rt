@@ -1,8 +1,8 @@
 //! What a run has put on and not yet taken off: operands, handlers, and the match under way.
 //!
-//! `Stack<T>` holds operands or handlers; `pop_value`, `pop_name`, `pop_span` and `pop_values` take operands off,
-//! `fail` tells where a failure leads. `Matching` is a match with what goes on after it: `advance` makes steps,
-//! `supply` answers.
+//! `Stack<T>` holds the operands or the handlers of a whole run: `pop_value`, `pop_name`, `pop_span` and `pop_values` take
+//! operands off, `fail` tells where a failure leads. A `Frame` is what waits for the code that runs. `Matching` is a match
+//! with what goes on after it: `advance` makes steps, `supply` answers.
 //!
 //!     operands.push(Operand::Value(value))?;
 //!     let value = pop_value(&mut operands);
@@ -11,11 +11,13 @@
 //! tells. Popping asks that such an operand lies on top. CALLING.md has a row for each call.
 #![tactic(auto)]
 
+mod frame;
 mod handler;
 mod matching;
 mod operand;
 mod stack;
 
+pub use frame::{Frame, Kept, Saved, Waiting};
 pub use handler::{Caught, Handler, fail, pop_begin, pop_try};
 pub use matching::Matching;
 pub use operand::{Operand, pop_name, pop_span, pop_value, pop_values, top_name};

@@ -1,6 +1,6 @@
 //! The match under way.
 
-ghost use Rattle.std.specs.Prelude.{◌≡◌, ◌≢◌, ◌<◌, ◌≤◌, [], ◌∷◌, List, length, true, false, IfOk, IfErr, IsErr, OnOk, OnErr, if◌then◌else◌};
+ghost use Rattle.std.specs.Prelude.{◌≡◌, ◌≢◌, ◌<◌, ◌≤◌, [], ◌∷◌, ℕ, List, length, true, false, IfOk, IfErr, IsErr, OnOk, OnErr, if◌then◌else◌};
 ghost use Rattle.frames.specs.View.{operands_of};
 ghost use Rattle.frames.specs.Matches.{in_match, matching_of};
 ghost use Rattle.match_machine.specs.Held.{IsQuestion};
@@ -23,7 +23,7 @@ use world::Span;
 pub struct Matching {
     matcher: Matcher,
     /// Where a match that succeeds goes on.
-    place: u32,
+    place: usize,
     /// The subject, if the match leaves what it matched for a replacement.
     replaced: Option<Text>,
 }
@@ -58,7 +58,7 @@ impl Matching {
         code: PatCode,
         subject: Text,
         anchored: bool,
-        place: u32,
+        place: usize,
         keep: bool,
     ) -> Result<Matching, AllocError>
         ensures { IfOk result (λ g. g ≡ record {
@@ -76,7 +76,7 @@ impl Matching {
     }
 
     /// Where it goes on if it succeeds.
-    pub fn place(&self) -> u32
+    pub fn place(&self) -> usize
         ensures { result ≡ self.now.place }
     {
         self.place
@@ -90,8 +90,8 @@ impl Matching {
         ensures event { IfOk result (λ (e, n). event_is e ≡ event_of self.new.search.state) }
         ensures count { IfOk result (λ (e, n). (0 < n) × (n ≤ bound)) }
         ensures fewer { IfOk result (λ (e, n). n < bound → event_is e ≢ Running) }
-        ensures steps { IfOk result (λ (e, n). (img : Module) (ops : List m.Operand) (hs : List m.Handler) (fs : List Frame) (w : MW) →
-            steps img n (in_match self.old ops hs fs w) ≡ on_event img (event_is e) (matching_of self.old ops hs) self.new.search.state fs w) }
+        ensures steps { IfOk result (λ (e, n). (img : Module) (o : ℕ → ℕ) (ops : List m.Operand) (hs : List m.Handler) (fs : List Frame) (w : MW) →
+            steps img n (in_match o self.old ops hs fs w) ≡ on_event img (event_is e) (matching_of o self.old ops hs) self.new.search.state fs w) }
         ensures same { OnOk result (self.new ≡ record self.old { search = record self.old.search { state = self.new.search.state } }) }
         ensures refused { IfErr result (λ _. self.new ≡ record self.old { search = record self.old.search { state = Over Lost; refused = true } }) }
         ensures stays { self.old.search.refused ≡ true → IsErr result }
@@ -116,7 +116,8 @@ impl Matching {
         start: usize,
         end: usize,
     ) -> Result<(), AllocError>
-        ensures ok { OnOk result (operands_of operands.new ≡ found_as self.keep self.search.subject start end (operands_of operands.old)) }
+        ensures ok { OnOk result (operands_of operands.new.top ≡ found_as self.keep self.search.subject start end (operands_of operands.old.top)) }
+        ensures under { operands.new.under ≡ operands.old.under }
         ensures err { OnErr result (operands.new ≡ operands.old) }
     {
         let Matching {

@@ -25,8 +25,8 @@ pub enum Operand {
 
 /// Takes off the newest operand, a value.
 pub fn pop_value(operands: &mut Stack<Operand>) -> Value
-    requires { TopIs V operands.old }
-    ensures { operands.old ≡ operand.Value result ∷ operands.new }
+    requires { TopIs V operands.old.top }
+    ensures { operands.old ≡ record operands.new { top = operand.Value result ∷ operands.new.top } }
 {
     match operands.pop() {
         Operand::Value(value) => value,
@@ -36,8 +36,8 @@ pub fn pop_value(operands: &mut Stack<Operand>) -> Value
 
 /// Takes off the newest operand, a name.
 pub fn pop_name(operands: &mut Stack<Operand>) -> Name
-    requires { TopIs N operands.old }
-    ensures { operands.old ≡ operand.Name result ∷ operands.new }
+    requires { TopIs N operands.old.top }
+    ensures { operands.old ≡ record operands.new { top = operand.Name result ∷ operands.new.top } }
 {
     match operands.pop() {
         Operand::Name(name) => name,
@@ -47,8 +47,8 @@ pub fn pop_name(operands: &mut Stack<Operand>) -> Name
 
 /// Takes off the newest operand, what a replacement replaces.
 pub fn pop_span(operands: &mut Stack<Operand>) -> Span
-    requires { TopIs R operands.old }
-    ensures { operands.old ≡ operand.Span result ∷ operands.new }
+    requires { TopIs R operands.old.top }
+    ensures { operands.old ≡ record operands.new { top = operand.Span result ∷ operands.new.top } }
 {
     match operands.pop() {
         Operand::Span(span) => span,
@@ -58,8 +58,8 @@ pub fn pop_span(operands: &mut Stack<Operand>) -> Span
 
 /// The newest operand, a name, which stays.
 pub fn top_name(operands: &Stack<Operand>) -> &Name
-    requires { TopIs N operands.now }
-    ensures { operands.now ≡ operand.Name result.now ∷ drop 1 operands.now }
+    requires { TopIs N operands.now.top }
+    ensures { operands.now.top ≡ operand.Name result.now ∷ drop 1 operands.now.top }
 {
     match operands.top() {
         Operand::Name(name) => name,
@@ -73,12 +73,12 @@ pub fn pop_values(
     count: usize,
     values: &mut Vec<Value>,
 ) -> Result<(), AllocError>
-    requires { AreOnTop (replicate count V) operands.old }
+    requires { AreOnTop (replicate count V) operands.old.top }
     ensures count { OnOk result (length values.new.items ≡ count) }
-    ensures operands { OnOk result (operands.old ≡ map operand.Value (reverse values.new.items) ++ operands.new) }
+    ensures operands { OnOk result (operands.old ≡ record operands.new { top = map operand.Value (reverse values.new.items) ++ operands.new.top }) }
     ensures err { OnErr result ((operands.new ≡ operands.old) × (values.new.items ≡ [])) }
     ensures pops { OnOk result ((w : MW) (k : List MVal → List m.Operand → State) →
-        pop_many count (operands_of operands.old) [] w k ≡ k (map value_of values.new.items) (operands_of operands.new)) }
+        pop_many count (operands_of operands.old.top) [] w k ≡ k (map value_of values.new.items) (operands_of operands.new.top)) }
 {
     values.clear();
     values.reserve(count)?;

@@ -1,37 +1,45 @@
 //! A stack, which contracts see newest first.
 
-ghost use Rattle.std.specs.Prelude.{◌≡◌, ◌==◌, ◌<◌, ◌-◌, [], ◌∷◌, length, drop, OnOk, OnErr};
+ghost use Rattle.std.specs.Prelude.{◌≡◌, ◌==◌, ◌<◌, ◌-◌, [], ◌∷◌, ◌++◌, length, take, drop, OnOk, OnErr};
 
 use std::alloc::{AllocError, Global};
 use std::marker::Model;
 
-/// Items, of which the newest is taken off first.
+/// Items, of which the newest is taken off first. Those of the code that runs lie above those of what waits for it, which
+/// stay where they are.
 #[derive(Drop)]
 pub struct Stack<T> {
     items: Vec<T>,
+    /// How many there are of what waits.
+    floor: usize,
 }
 
 impl<T> Model for Stack<T> {
-    ghost use Rattle.std.specs.Prelude.{List, reverse};
+    ghost use Rattle.std.specs.Prelude.{◌≤◌, length};
+    ghost use Rattle.frames.specs.Stacked.{Stacked, parted};
 
-    ghost Value = { List T };
+    ghost Value = { Stacked T };
 
-    ghost view = { λ s. reverse s.items.items };
+    ghost view = { λ s. parted s.floor s.items.items };
+
+    ghost invariant = { λ s. s.floor ≤ length s.items.items };
 }
 
 impl<T: Drop> Stack<T> {
     /// The empty stack. Takes no memory.
     pub fn new(alloc: Global) -> Stack<T>
-        ensures { result ≡ [] }
+        ensures { result ≡ record { top = []; under = [] } }
     {
         Stack {
             items: Vec::new(alloc),
+            floor: 0,
         }
     }
 
     /// Puts one on.
+    #[tactic(auto, using(crate::proofs::Stacks::put_on))]
     pub fn push(&mut self, item: T) -> Result<(), AllocError>
-        ensures ok { OnOk result (self.new ≡ item ∷ self.old) }
+        ensures ok { OnOk result (self.new ≡ record self.old { top = item ∷ self.old.top }) }
         ensures err { OnErr result (self.new ≡ self.old) }
     {
         self.items.push(item)?;
@@ -40,8 +48,8 @@ impl<T: Drop> Stack<T> {
 
     /// Takes off the newest.
     pub fn pop(&mut self) -> T
-        requires { 0 < length self.old }
-        ensures { self.old ≡ result ∷ self.new }
+        requires { 0 < length self.old.top }
+        ensures { self.old ≡ record self.new { top = result ∷ self.new.top } }
     {
         match self.items.pop() {
             Some(item) => item,
@@ -51,8 +59,8 @@ impl<T: Drop> Stack<T> {
 
     /// The newest, which stays.
     pub fn top(&self) -> &T
-        requires { 0 < length self.now }
-        ensures { self.now ≡ result.now ∷ drop 1 self.now }
+        requires { 0 < length self.now.top }
+        ensures { self.now.top ≡ result.now ∷ drop 1 self.now.top }
     {
         match self.items.as_slice().last() {
             Some(item) => item,
@@ -60,24 +68,47 @@ impl<T: Drop> Stack<T> {
         }
     }
 
-    /// How many there are.
+    /// How many there are, of the code that runs.
     pub fn len(&self) -> usize
-        ensures { result ≡ length self.now }
+        ensures { result ≡ length self.now.top }
     {
-        self.items.len()
+        self.items.len() - self.floor
     }
 
-    /// Whether there is none.
+    /// Whether there is none, of the code that runs.
     pub fn is_empty(&self) -> bool
-        ensures { result ≡ (length self.now == 0) }
+        ensures { result ≡ (length self.now.top == 0) }
     {
-        self.items.is_empty()
+        self.items.len() == self.floor
     }
 
     /// Drops those above a depth, the newest ones, if there are more.
+    #[tactic(auto, using(crate::proofs::Stacks::cut_at, crate::proofs::Stacks::cut_none))]
     pub fn cut(&mut self, depth: usize)
-        ensures { self.new ≡ drop (length self.old - depth) self.old }
+        ensures { self.new ≡ record self.old { top = drop (length self.old.top - depth) self.old.top } }
     {
-        self.items.truncate(depth);
+        if depth < self.len() {
+            self.items.truncate(self.floor + depth);
+        }
+    }
+
+    /// Those that are on it wait, and other code runs; how many they are.
+    #[tactic(auto, using(crate::proofs::Stacks::opened))]
+    pub fn open(&mut self) -> usize
+        ensures count { result ≡ length self.old.top }
+        ensures opened { self.new ≡ record { top = []; under = self.old.top ++ self.old.under } }
+    {
+        let count = self.len();
+        self.floor = self.items.len();
+        count
+    }
+
+    /// Drops those of the code that runs; so many that waited are the code's from then on.
+    #[tactic(auto, using(crate::proofs::Stacks::closed))]
+    pub fn close(&mut self, count: usize)
+        ensures { self.new ≡ record { top = take count self.old.under; under = drop count self.old.under } }
+    {
+        self.items.truncate(self.floor);
+        self.floor = self.floor.saturating_sub(count);
     }
 }

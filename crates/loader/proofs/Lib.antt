@@ -7,3 +7,4 @@ pub mod Scanning
 pub mod Searching
 pub mod Sizes
 pub mod Spelt
+pub mod Placing

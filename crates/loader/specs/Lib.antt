@@ -1,5 +1,6 @@
 pub mod Running
 pub mod Places
+pub mod Decoding
 pub mod Parts
 pub mod Loaded
 pub mod Answers

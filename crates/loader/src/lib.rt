@@ -1,7 +1,7 @@
 //! From bytes to a checked module, as the machine reads it.
 //!
 //! `load(alloc, bytes)` gives a `Module` or the fault that is told: F1 to F7 of the bytes, W1 to W5 of the image. A
-//! module is read by offset (`instr`), by number (`statement`, `string`, ..) and by name (`label`).
+//! module is read by place (`at`), by number (`statement`, `string`, ..) and by name (`label`).
 //!
 //!     let module = load(alloc, &bytes)?;
 //!     let first = module.entry();
@@ -12,6 +12,7 @@
 #![tactic(auto)]
 
 mod code;
+mod decoding;
 mod instrs;
 mod joining;
 mod labels;
@@ -22,7 +23,8 @@ mod patterns;
 mod places;
 mod tables;
 
-pub use code::{Found, has_primitive, runs_yet};
+pub use code::{bytes, has_primitive, runs_yet};
+pub use decoding::Decoded;
 pub use loading::load;
 pub use module::Module;
 pub use names::return_of;

@@ -31,7 +31,7 @@ fn judge(alloc: Global, image: Image) -> Result<Result<Module, LoadFault>, Alloc
     let placed = PlacedCode::of(alloc, &image)?;
     match fault_of(alloc, &image, &placed)? {
         Some(fault) => Ok(Err(LoadFault::Module(fault))),
-        None => Ok(Ok(Module::new(alloc, image, placed)?)),
+        None => Ok(Ok(Module::new(alloc, image, &placed)?)),
     }
 }
 

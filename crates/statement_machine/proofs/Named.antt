@@ -12,7 +12,12 @@ use Rattle.model.specs.Deck.Target as target
 use Rattle.model.specs.Machine.Steps as m
 use Rattle.model.specs.Machine.Steps.{MVal, MW, ON, Run, fail_to, pop, pop_many, put_name}
 use Rattle.model.specs.Module.Images.{module_of}
+use Rattle.loader.specs.Places.{offset_at}
+use Rattle.frames.specs.Frames.{frames_of}
+use Rattle.frames.specs.Stacked.{Stacked}
 use Rattle.frames.specs.View.{operands_of, handlers_of}
+use Rattle.frames.specs.declared.frame.Frame.{Frame}
+use Rattle.frames.specs.declared.handler.Handler.{Handler}
 use Rattle.frames.specs.Kinds.{AreOnTop, TopIs, kinds_of}
 use Rattle.frames.specs.declared.operand.Operand.{Operand}
 use Rattle.frames.specs.declared.operand.Operand.TheVariants as operand
@@ -25,9 +30,9 @@ use Rattle.world.specs.declared.value.Value.{Value}
 use Rattle.world.specs.declared.fault.Fault.{Fault}
 use Rattle.world.specs.declared.fault.Fault.TheVariants as fault
 use Rattle.statement_machine.specs.Elements.{Named}
-use Rattle.statement_machine.specs.Held.{Left, after}
+use Rattle.statement_machine.specs.Held.{Left, after, handlers_in, waiting}
 use Rattle.statement_machine.specs.declared.state.State.{State}
-use Rattle.statement_machine.specs.declared.status.Halt.{Halt}
+use Rattle.statement_machine.specs.declared.status.Exit.{Exit}
 
 -- ---- the operands
 
@@ -63,39 +68,49 @@ base_next n ops rest vs h is count = (
 -- ---- the name
 
 -- the state that an operation leads to is the one that its answer leads to
-named_by : (im : Image) (q : ℕ) (s : State) (io : Io) (r : Result (Option Name) Fault) (o : Op MW target.Name) → AnswersOrFails (answer_map (option_map name_of) r) (world_of s.world io) o
-    → Named q r s io (put_name (module_of im) o q (operands_of s.operands) (handlers_of s.handlers) [])
-named_by im q s io (Ok (Some n)) o h = ap (λ x. put_name (module_of im) x q (operands_of s.operands) (handlers_of s.handlers) []) h
-named_by im q s io (Ok None) o h = ap (λ x. put_name (module_of im) x q (operands_of s.operands) (handlers_of s.handlers) []) h
-named_by im q s io (Err (fault.Error e)) o h = ap (λ x. put_name (module_of im) x q (operands_of s.operands) (handlers_of s.handlers) []) h
-named_by im q s io (Err (fault.Stop x)) o h = tt
+named_by : (im : Image) (fs : List Frame) (q : ℕ) (s : State) (io : Io) (r : Result (Option Name) Fault) (o : Op MW target.Name) → AnswersOrFails (answer_map (option_map name_of) r) (world_of s.world io) o
+    → Named im fs q r s io (put_name (module_of im) o (offset_at im.code q) (operands_of s.operands.top) (handlers_in im s) (waiting im fs s))
+named_by im fs q s io (Ok (Some n)) o h = ap (λ x. put_name (module_of im) x (offset_at im.code q) (operands_of s.operands.top) (handlers_in im s) (waiting im fs s)) h
+named_by im fs q s io (Ok None) o h = ap (λ x. put_name (module_of im) x (offset_at im.code q) (operands_of s.operands.top) (handlers_in im s) (waiting im fs s)) h
+named_by im fs q s io (Err (fault.Error e)) o h = ap (λ x. put_name (module_of im) x (offset_at im.code q) (operands_of s.operands.top) (handlers_in im s) (waiting im fs s)) h
+named_by im fs q s io (Err (fault.Stop x)) o h = tt
 
-pub was_named : (im : Image) (n q : ℕ) (old new : State) (io : Io) (rest : List Operand) (xs vs : List Value) (base : Value) (r : Result (Option Name) Fault)
-    → vs ≡ xs → ((w : MW) (k : List MVal → List m.Operand → m.State) → pop_many n (operands_of old.operands) [] w k ≡ k (map value_of xs) (operands_of rest))
-    → rest ≡ operand.Value base ∷ new.operands → new.handlers ≡ old.handlers → new.world ≡ old.world
+pub was_named : (im : Image) (fs : List Frame) (n q : ℕ) (old new : State) (io : Io) (rest : Stacked Operand) (xs vs : List Value) (base : Value) (r : Result (Option Name) Fault)
+    → vs ≡ xs → ((w : MW) (k : List MVal → List m.Operand → m.State) → pop_many n (operands_of old.operands.top) [] w k ≡ k (map value_of xs) (operands_of rest.top))
+    → rest.under ≡ old.operands.under → rest ≡ record new.operands { top = operand.Value base ∷ new.operands.top } → new.handlers ≡ old.handlers → new.world ≡ old.world
     → AnswersOrFails (answer_map (option_map name_of) r) (world_of old.world io) (element_op (value_of base) (map value_of vs) (world_of old.world io))
-    → Named q r new io (after im (op.Elem n) q old io)
-was_named im n q old new io rest xs vs base r same taken top handlers world h =
-    subst (λ st. Named q r new io st) (sym here)
-    (named_by im q new io r (element_op (value_of base) (map value_of vs) (world_of old.world io))
+    → Named im fs q r new io (after im (op.Elem n) q fs old io)
+was_named im fs n q old new io rest xs vs base r same taken under newest handlers world h =
+    subst (λ st. Named im fs q r new io st) (sym here)
+    (named_by im fs q new io r (element_op (value_of base) (map value_of vs) (world_of old.world io))
     (subst (λ w. AnswersOrFails (answer_map (option_map name_of) r) (world_of w io) (element_op (value_of base) (map value_of vs) (world_of old.world io))) (sym world) h))
   where
     w : MW
     w = world_of old.world io
 
-    here : after im (op.Elem n) q old io ≡ put_name (module_of im) (element_op (value_of base) (map value_of vs) w) q (operands_of new.operands) (handlers_of new.handlers) []
+    o : ℕ → ℕ
+    o = offset_at im.code
+
+    put : List m.Operand → List m.Handler → List m.Frame → m.State
+    put ops hs waits = put_name (module_of im) (element_op (value_of base) (map value_of vs) w) (o q) ops hs waits
+
+    beneath : new.operands.under ≡ old.operands.under
+    beneath = sym (ap (λ (l : Stacked Operand). l.under) newest) ∙ under
+
+    here : after im (op.Elem n) q fs old io ≡ put (operands_of new.operands.top) (handlers_in im new) (waiting im fs new)
     here =
-        taken w (λ us r1. pop r1 w (λ a ops. put_name (module_of im) (element_op a us w) q ops (handlers_of old.handlers) []))
-        ∙ ap (λ us. pop (operands_of rest) w (λ a below. put_name (module_of im) (element_op a (map value_of us) w) q below (handlers_of old.handlers) [])) (sym same)
-        ∙ ap (λ ops. pop (operands_of ops) w (λ a below. put_name (module_of im) (element_op a (map value_of vs) w) q below (handlers_of old.handlers) [])) top
-        ∙ ap (λ hs. put_name (module_of im) (element_op (value_of base) (map value_of vs) w) q (operands_of new.operands) (handlers_of hs) []) (sym handlers)
+        taken w (λ us r1. pop r1 w (λ a ops. put_name (module_of im) (element_op a us w) (o q) ops (handlers_in im old) (waiting im fs old)))
+        ∙ ap (λ us. pop (operands_of rest.top) w (λ a below. put_name (module_of im) (element_op a (map value_of us) w) (o q) below (handlers_in im old) (waiting im fs old))) (sym same)
+        ∙ ap (λ (ops : Stacked Operand). pop (operands_of ops.top) w (λ a below. put_name (module_of im) (element_op a (map value_of vs) w) (o q) below (handlers_in im old) (waiting im fs old))) newest
+        ∙ ap (λ (hs : Stacked Handler). put (operands_of new.operands.top) (handlers_of o hs.top) (frames_of o fs old.operands.under hs.under)) (sym handlers)
+        ∙ ap (λ us. put (operands_of new.operands.top) (handlers_in im new) (frames_of o fs us new.handlers.under)) (sym beneath)
 
 -- on with the name
-pub on_named : (q : ℕ) (o : Option Name) (n : Name) (called new : State) (io : Io) (result : Result (Unit {0}) Halt) (st : m.State) → o ≡ Some n → Named q (Ok o) called io st
-    → Left result new io (Run q (ON (name_of n) ∷ operands_of called.operands) (handlers_of called.handlers) [] (world_of called.world io)) → Left result new io st
-on_named q o n called new io result st e h left = let there : Named q (Ok (Some n)) called io st = subst (λ x. Named q (Ok x) called io st) e h in subst (Left result new io) (sym there) left
+pub on_named : (im : Image) (fs : List Frame) (q : ℕ) (o : Option Name) (n : Name) (called new : State) (io : Io) (result : Result (Unit {0}) Exit) (st : m.State) → o ≡ Some n → Named im fs q (Ok o) called io st
+    → Left im fs result new io (Run (offset_at im.code q) (ON (name_of n) ∷ operands_of called.operands.top) (handlers_in im called) (waiting im fs called) (world_of called.world io)) → Left im fs result new io st
+on_named im fs q o n called new io result st e h left = let there : Named im fs q (Ok (Some n)) called io st = subst (λ x. Named im fs q (Ok x) called io st) e h in subst (Left im fs result new io) (sym there) left
 
 -- on where a failure leads
-pub on_none : (q : ℕ) (o : Option Name) (called new : State) (io : Io) (result : Result (Unit {0}) Halt) (st : m.State) → o ≡ None → Named q (Ok o) called io st
-    → Left result new io (fail_to (handlers_of called.handlers) (operands_of called.operands) [] (world_of called.world io)) → Left result new io st
-on_none q o called new io result st e h left = let there : Named q (Ok None) called io st = subst (λ x. Named q (Ok x) called io st) e h in subst (Left result new io) (sym there) left
+pub on_none : (im : Image) (fs : List Frame) (q : ℕ) (o : Option Name) (called new : State) (io : Io) (result : Result (Unit {0}) Exit) (st : m.State) → o ≡ None → Named im fs q (Ok o) called io st
+    → Left im fs result new io (fail_to (handlers_in im called) (operands_of called.operands.top) (waiting im fs called) (world_of called.world io)) → Left im fs result new io st
+on_none im fs q o called new io result st e h left = let there : Named im fs q (Ok None) called io st = subst (λ x. Named im fs q (Ok x) called io st) e h in subst (Left im fs result new io) (sym there) left

@@ -1,39 +1,41 @@
 -- What an operation comes to: a value, a failure or an error.
-use Rattle.std.proofs.Common.{◌≡◌, List, [], Option, Some, None, Result, Ok, Err, refl, sym, subst}
+use Rattle.std.proofs.Common.{◌≡◌, List, Option, Some, None, Result, Ok, Err, refl, sym, subst}
+use Rattle.model.specs.declared.image.Image.{Image}
 use Rattle.model.specs.Language.Io.{Io}
 use Rattle.model.specs.Language.Conversions.{Op, Gives, Refuses, Faults}
 use Rattle.model.specs.Machine.Steps as m
 use Rattle.model.specs.Machine.Steps.{MW, Operand, Handler, after_op, fail_to}
+use Rattle.frames.specs.declared.frame.Frame.{Frame}
 use Rattle.world.specs.Answers.{AnswersAs, AnswersOrFails}
 use Rattle.world.specs.Held.{world_of}
 use Rattle.world.specs.declared.fault.Fault.{Fault}
 use Rattle.world.specs.declared.fault.Fault.TheVariants as fault
 use Rattle.statement_machine.specs.Held.{Left}
-use Rattle.statement_machine.specs.Stopped.{halt_of}
+use Rattle.statement_machine.specs.Stopped.{exit_of}
 use Rattle.statement_machine.specs.declared.state.State.{State}
-use Rattle.statement_machine.specs.declared.status.Halt.{Halt}
+use Rattle.statement_machine.specs.declared.status.Exit.{Exit}
 use Rattle.statement_machine.proofs.Keys.{halts}
 
 -- on with what it gives
-pub gives : {A : Type 0} (o : Op MW A) (a : A) (w : MW) (r : Result (Unit {0}) Halt) (s : State) (io : Io) (hs : List Handler) (ops : List Operand) (k : A → MW → m.State)
-    → o ≡ Gives a w → Left r s io (k a w) → Left r s io (after_op o hs ops [] k)
-gives o a w r s io hs ops k e h = subst (λ x. Left r s io (after_op x hs ops [] k)) (sym e) h
+pub gives : {A : Type 0} (o : Op MW A) (a : A) (w : MW) (im : Image) (fs : List Frame) (r : Result (Unit {0}) Exit) (s : State) (io : Io) (hs : List Handler) (ops : List Operand) (waits : List m.Frame) (k : A → MW → m.State)
+    → o ≡ Gives a w → Left im fs r s io (k a w) → Left im fs r s io (after_op o hs ops waits k)
+gives o a w im fs r s io hs ops waits k e h = subst (λ x. Left im fs r s io (after_op x hs ops waits k)) (sym e) h
 
 -- on where its failure leads
-pub refuses : {A : Type 0} (o : Op MW A) (w : MW) (r : Result (Unit {0}) Halt) (s : State) (io : Io) (hs : List Handler) (ops : List Operand) (k : A → MW → m.State)
-    → o ≡ Refuses w → Left r s io (fail_to hs ops [] w) → Left r s io (after_op o hs ops [] k)
-refuses o w r s io hs ops k e h = subst (λ x. Left r s io (after_op x hs ops [] k)) (sym e) h
+pub refuses : {A : Type 0} (o : Op MW A) (w : MW) (im : Image) (fs : List Frame) (r : Result (Unit {0}) Exit) (s : State) (io : Io) (hs : List Handler) (ops : List Operand) (waits : List m.Frame) (k : A → MW → m.State)
+    → o ≡ Refuses w → Left im fs r s io (fail_to hs ops waits w) → Left im fs r s io (after_op o hs ops waits k)
+refuses o w im fs r s io hs ops waits k e h = subst (λ x. Left im fs r s io (after_op x hs ops waits k)) (sym e) h
 
 -- a fault ends the run as the definitions say
-pub ends : {A : Type 0} (o : Op MW A) (f : Fault) (h : Halt) (s : State) (io : Io) (hs : List Handler) (ops : List Operand) (k : A → MW → m.State)
-    → h ≡ halt_of s.world.keys.stno f → AnswersAs (Err f) (world_of s.world io) o → Left (Err h) s io (after_op o hs ops [] k)
-ends o f h s io hs ops k e a = subst (λ x. Left (Err x) s io (after_op o hs ops [] k)) (sym e) (halts o f s io hs ops k a)
+pub ends : {A : Type 0} (o : Op MW A) (f : Fault) (h : Exit) (im : Image) (fs : List Frame) (s : State) (io : Io) (hs : List Handler) (ops : List Operand) (waits : List m.Frame) (k : A → MW → m.State)
+    → h ≡ exit_of s.world.keys.stno f → AnswersAs (Err f) (world_of s.world io) o → Left im fs (Err h) s io (after_op o hs ops waits k)
+ends o f h im fs s io hs ops waits k e a = subst (λ x. Left im fs (Err x) s io (after_op o hs ops waits k)) (sym e) (halts o f s io hs ops waits k a)
 
 -- so does one of an operation that may fail
-pub faults : {A : Type 0} (o : Op MW A) (f : Fault) (h : Halt) (s : State) (io : Io) (hs : List Handler) (ops : List Operand) (k : A → MW → m.State)
-    → h ≡ halt_of s.world.keys.stno f → AnswersOrFails (Err f) (world_of s.world io) o → Left (Err h) s io (after_op o hs ops [] k)
-faults o (fault.Error x) h s io hs ops k e a = ends o (fault.Error x) h s io hs ops k e a
-faults o (fault.Stop x) h s io hs ops k e a = ends o (fault.Stop x) h s io hs ops k e a
+pub faults : {A : Type 0} (o : Op MW A) (f : Fault) (h : Exit) (im : Image) (fs : List Frame) (s : State) (io : Io) (hs : List Handler) (ops : List Operand) (waits : List m.Frame) (k : A → MW → m.State)
+    → h ≡ exit_of s.world.keys.stno f → AnswersOrFails (Err f) (world_of s.world io) o → Left im fs (Err h) s io (after_op o hs ops waits k)
+faults o (fault.Error x) h im fs s io hs ops waits k e a = ends o (fault.Error x) h im fs s io hs ops waits k e a
+faults o (fault.Stop x) h im fs s io hs ops waits k e a = ends o (fault.Stop x) h im fs s io hs ops waits k e a
 
 -- ---- some operation answers so
 

@@ -1,18 +1,19 @@
 //! Names of elements of arrays and tables.
 
-ghost use Rattle.std.specs.Prelude.{◌≡◌, ℕ};
+ghost use Rattle.std.specs.Prelude.{◌≡◌, ℕ, List};
 ghost use Rattle.model.specs.Language.Io.{Io};
 ghost use Rattle.model.specs.Module.Flow.{takes};
 ghost use Rattle.model.specs.declared.image.Image.{Image};
 ghost use Rattle.model.specs.declared.run.Stop.TheVariants.{NoMemory};
 ghost use Rattle.frames.specs.Kinds.{AreOnTop};
+ghost use Rattle.frames.specs.declared.frame.Frame.{Frame};
 ghost use Rattle.world.specs.Answers.{IfStopped};
 ghost use Rattle.statement_machine.specs.Elements.{Named};
-ghost use Rattle.statement_machine.specs.Held.{Left, after};
+ghost use Rattle.statement_machine.specs.Held.{Does, after};
 ghost use Rattle.statement_machine.specs.Stopped.{IfHalted};
 
 use crate::state::State;
-use crate::status::Halt;
+use crate::status::Exit;
 use frames::{pop_value, pop_values};
 use model::Instr;
 use pattern_compiler::Name;
@@ -20,9 +21,9 @@ use world::Fault;
 
 impl State {
     /// The name of an element, by its array or table and the subscripts.
-    pub(crate) fn element(&mut self, count: u16, next: u32) -> Result<(), Halt>
-        requires { AreOnTop (takes (Instr.Elem count)) self.old.operands }
-        ensures left { (im : Image) (io : Io) → Left result self.new io (after im (Instr.Elem count) next self.old io) }
+    pub(crate) fn element(&mut self, count: u16, next: usize) -> Result<(), Exit>
+        requires { AreOnTop (takes (Instr.Elem count)) self.old.operands.top }
+        ensures left { Does (Instr.Elem count) next result self.old self.new }
         ensures stop { IfHalted result (λ stop. stop ≡ NoMemory) }
     {
         match self.item(count) {
@@ -34,8 +35,9 @@ impl State {
 
     // The element that the newest operands name, which it takes off.
     fn item(&mut self, count: u16) -> Result<Option<Name>, Fault>
-        requires { AreOnTop (takes (Instr.Elem count)) self.old.operands }
-        ensures named { (im : Image) (next : ℕ) (io : Io) → Named next result self.new io (after im (Instr.Elem count) next self.old io) }
+        requires { AreOnTop (takes (Instr.Elem count)) self.old.operands.top }
+        ensures named { (im : Image) (fs : List Frame) (next : ℕ) (io : Io) →
+            Named im fs next result self.new io (after im (Instr.Elem count) next fs self.old io) }
         ensures stop { IfStopped result (λ stop. stop ≡ NoMemory) }
     {
         pop_values(&mut self.operands, count as usize, &mut self.arguments)?;

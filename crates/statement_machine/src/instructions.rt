@@ -1,6 +1,6 @@
 //! What each instruction does.
 
-ghost use Rattle.std.specs.Prelude.{◌≡◌, ◌<◌, ◌∷◌, [], Ok, length};
+ghost use Rattle.std.specs.Prelude.{◌≡◌, ◌<◌, ◌∷◌, List, Ok, length};
 ghost use Rattle.model.specs.Language.Io.{Io};
 ghost use Rattle.model.specs.Machine.Steps.{Run, OV, ON};
 ghost use Rattle.model.specs.declared.image.Image.{Image};
@@ -8,13 +8,16 @@ ghost use Rattle.model.specs.declared.run.Stop.TheVariants.{NoMemory};
 ghost use Rattle.pattern_compiler.specs.View.{name_of};
 ghost use Rattle.world.specs.Values.{value_of};
 ghost use Rattle.world.specs.Held.{world_of};
-ghost use Rattle.frames.specs.View.{operands_of, handlers_of};
+ghost use Rattle.model.specs.Module.Images.{statement_number};
+ghost use Rattle.loader.specs.Places.{offset_at};
+ghost use Rattle.frames.specs.View.{operands_of};
+ghost use Rattle.frames.specs.declared.frame.Frame.{Frame};
 ghost use Rattle.frames.specs.Failing.{IsInBegin};
-ghost use Rattle.statement_machine.specs.Held.{Left, after};
-ghost use Rattle.statement_machine.specs.Stopped.{IfHalted, halt_of};
+ghost use Rattle.statement_machine.specs.Held.{Does, DoesIn, Left, after, handlers_in, waiting};
+ghost use Rattle.statement_machine.specs.Stopped.{IfHalted, exit_of, halt_of};
 
 use crate::state::State;
-use crate::status::Halt;
+use crate::status::{Exit, Halt};
 use frames::{Handler, Operand, pop_begin};
 use loader::Module;
 use model::{Ending, Instr};
@@ -23,7 +26,7 @@ use world::{Fault, Value};
 
 impl State {
     /// What a fault comes to.
-    pub(crate) fn halted(&self, fault: Fault) -> Halt
+    pub(crate) fn halt(&self, fault: Fault) -> Halt
         ensures { result ≡ halt_of self.now.world.keys.stno fault }
     {
         match fault {
@@ -35,48 +38,58 @@ impl State {
         }
     }
 
+    /// The same, as the end of an instruction.
+    #[cold]
+    pub(crate) fn halted(&self, fault: Fault) -> Exit
+        ensures { result ≡ exit_of self.now.world.keys.stno fault }
+    {
+        Exit::Halt(self.halt(fault))
+    }
+
     /// Puts on a value and goes on.
-    pub(crate) fn put(&mut self, value: Value, next: u32) -> Result<(), Halt>
-        ensures left { (io : Io) → Left result self.new io (Run next (OV (value_of value) ∷ operands_of self.old.operands) (handlers_of self.old.handlers) [] (world_of self.old.world io)) }
+    pub(crate) fn put(&mut self, value: Value, next: usize) -> Result<(), Exit>
+        ensures left { (im : Image) (fs : List Frame) (io : Io) → Left im fs result self.new io
+            (Run (offset_at im.code next) (OV (value_of value) ∷ operands_of self.old.operands.top) (handlers_in im self.old) (waiting im fs self.old) (world_of self.old.world io)) }
         ensures stop { IfHalted result (λ stop. stop ≡ NoMemory) }
     {
         self.operands.push(Operand::Value(value))?;
-        self.at = next;
+        self.place = next;
         Ok(())
     }
 
     /// Puts on a name and goes on.
-    pub(crate) fn put_name(&mut self, name: Name, next: u32) -> Result<(), Halt>
-        ensures left { (io : Io) → Left result self.new io (Run next (ON (name_of name) ∷ operands_of self.old.operands) (handlers_of self.old.handlers) [] (world_of self.old.world io)) }
+    pub(crate) fn put_name(&mut self, name: Name, next: usize) -> Result<(), Exit>
+        ensures left { (im : Image) (fs : List Frame) (io : Io) → Left im fs result self.new io
+            (Run (offset_at im.code next) (ON (name_of name) ∷ operands_of self.old.operands.top) (handlers_in im self.old) (waiting im fs self.old) (world_of self.old.world io)) }
         ensures stop { IfHalted result (λ stop. stop ≡ NoMemory) }
     {
         self.operands.push(Operand::Name(name))?;
-        self.at = next;
+        self.place = next;
         Ok(())
     }
 
     /// A statement begins, or the limit ends the run.
-    pub(crate) fn begin(&mut self, program: &Module, target: u32, next: u32) -> Result<(), Halt>
-        ensures left { (io : Io) → Left result self.new io (after program.now (Instr.Begin target) next self.old io) }
+    pub(crate) fn begin(&mut self, target: usize, entered: u32, next: usize) -> Result<(), Exit>
+        ensures left { (im : Image) (fs : List Frame) (io : Io) → entered ≡ statement_number im.statements (offset_at im.code self.old.place) →
+            Left im fs result self.new io (after im (Instr.Begin (offset_at im.code target)) next fs self.old io) }
         ensures stop { IfHalted result (λ stop. stop ≡ NoMemory) }
     {
-        let entered = program.number(self.at);
         if self.world.is_over_limit() {
-            return Err(Halt::Ended(Ending::StLimit { statement: entered }));
+            return Err(Exit::Halt(Halt::Ended(Ending::StLimit { statement: entered })));
         }
         self.handlers.push(Handler::Begin { target })?;
         self.world.enter_statement(entered);
-        self.at = next;
+        self.place = next;
         Ok(())
     }
 
     /// The body of a statement ends.
-    pub(crate) fn end_body(&mut self, next: u32)
-        requires { IsInBegin (handlers_of self.old.handlers) }
-        ensures { (im : Image) (io : Io) → Left (Ok tt) self.new io (after im Instr.Body next self.old io) }
+    pub(crate) fn end_body(&mut self, next: usize)
+        requires { IsInBegin self.old.handlers.top }
+        ensures { Does Instr.Body next (Ok tt) self.old self.new }
     {
         pop_begin(&mut self.handlers);
-        self.at = next;
+        self.place = next;
     }
 
     /// A literal.
@@ -84,10 +97,10 @@ impl State {
         &mut self,
         program: &Module,
         number: u32,
-        next: u32,
-    ) -> Result<(), Halt>
+        next: usize,
+    ) -> Result<(), Exit>
         requires { number < length program.now.strings }
-        ensures left { (io : Io) → Left result self.new io (after program.now (Instr.Str number) next self.old io) }
+        ensures left { DoesIn program.now (Instr.Str number) next result self.old self.new }
         ensures stop { IfHalted result (λ stop. stop ≡ NoMemory) }
     {
         let text = program.string(number).clone()?;
@@ -99,10 +112,10 @@ impl State {
         &mut self,
         program: &Module,
         number: u32,
-        next: u32,
-    ) -> Result<(), Halt>
+        next: usize,
+    ) -> Result<(), Exit>
         requires { number < length program.now.strings }
-        ensures left { (io : Io) → Left result self.new io (after program.now (Instr.Var number) next self.old io) }
+        ensures left { DoesIn program.now (Instr.Var number) next result self.old self.new }
         ensures stop { IfHalted result (λ stop. stop ≡ NoMemory) }
     {
         let name = program.string(number).clone()?;

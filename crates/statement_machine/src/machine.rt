@@ -29,13 +29,14 @@ pub struct Machine<'m> {
 }
 
 impl<'m> Model for Machine<'m> {
+    ghost use Rattle.statement_machine.specs.Runnable.{IsRunnable};
     ghost use Rattle.statement_machine.specs.Runs.{MachineView, IsGoing, LacksNothing};
 
     ghost Value = { MachineView };
 
     ghost view = { λ m. record { image = m.program.now; run = m.run; halt = m.halt } };
 
-    ghost invariant = { λ m. IsGoing m.halt (LacksNothing m.program.now m.run) };
+    ghost invariant = { λ m. IsRunnable m.program.now × IsGoing m.halt (LacksNothing m.program.now m.run) };
 }
 
 impl<'m> Machine<'m> {
@@ -45,10 +46,10 @@ impl<'m> Machine<'m> {
         ensures going { IfOk result (λ machine. machine.halt ≡ None) }
         ensures begun { IfOk result (λ machine. (io : Io) → Holds machine io (after_s io.printed (begun (module_of program.now) (first_m io.left)))) }
     {
-        let at = program.start();
+        let place = program.start();
         Ok(Machine {
             program,
-            run: Run::new(alloc, at)?,
+            run: Run::new(alloc, place)?,
             halt: None,
         })
     }

@@ -1,9 +1,8 @@
 //! What a match does to the state around it.
 
-ghost use Rattle.std.specs.Prelude.{◌≡◌, [], OnOk, IfOk};
+ghost use Rattle.std.specs.Prelude.{◌≡◌, List, [], OnOk, IfOk};
 ghost use Rattle.frames.specs.Kinds.{kinds_of};
-ghost use Rattle.frames.specs.Matches.{matching_of};
-ghost use Rattle.frames.specs.View.{operands_of, handlers_of};
+ghost use Rattle.frames.specs.declared.frame.Frame.{Frame};
 ghost use Rattle.match_machine.specs.View.{pending_of, told_of};
 ghost use Rattle.model.specs.Language.Io.{Io};
 ghost use Rattle.model.specs.Machine.Steps.{on_event};
@@ -12,8 +11,8 @@ ghost use Rattle.model.specs.Language.Operators.{assign_all, told_value};
 ghost use Rattle.model.specs.Pattern.Patterns.{Matched};
 ghost use Rattle.model.specs.declared.image.Image.{Image};
 ghost use Rattle.model.specs.declared.run.Stop.TheVariants.{NoMemory};
-ghost use Rattle.statement_machine.specs.Held.{Left};
-ghost use Rattle.statement_machine.specs.Runs.{found_kinds};
+ghost use Rattle.statement_machine.specs.Held.{Left, waiting};
+ghost use Rattle.statement_machine.specs.Runs.{found_kinds, matching_in};
 ghost use Rattle.statement_machine.specs.Stopped.{halted_by};
 ghost use Rattle.unit_io.specs.Service.{Served};
 ghost use Rattle.world.specs.Answers.{AnswersAs, done, stopped_by};
@@ -21,7 +20,7 @@ ghost use Rattle.world.specs.Held.{world_of};
 ghost use Rattle.world.specs.Values.{value_of};
 
 use crate::state::State;
-use crate::status::Halt;
+use crate::status::Exit;
 use frames::Matching;
 use match_machine::{Assignment, Told};
 use std::alloc::{AllocError, Global};
@@ -36,7 +35,7 @@ fn assign_all<U: Units>(
     pending: &[Assignment],
 ) -> Result<(), Fault>
     ensures served { Served U.Units (stopped_by result) units.old units.new (λ io io'.
-        AnswersAs (done result) (world_of world.new io') (assign_all (pending_of pending.now) (world_of world.old io))) }
+            AnswersAs (done result) (world_of world.new io') (assign_all (pending_of pending.now) (world_of world.old io))) }
 {
     for assignment in pending {
         let value = Value::String(assignment.value.clone()?);
@@ -67,16 +66,17 @@ impl State {
         start: usize,
         end: usize,
         pending: Vec<Assignment>,
-    ) -> Result<(), Halt>
+    ) -> Result<(), Exit>
         ensures served { Served U.Units (halted_by result) units.old units.new (λ io io'.
-            (im : Image) → Left result self.new io'
-            (on_event (module_of im) (Matched start end (pending_of pending.items)) (matching_of matching (operands_of self.old.operands) (handlers_of self.old.handlers)) matching.search.state [] (world_of self.old.world io))) }
-        ensures shape { OnOk result ((self.new.at ≡ matching.place) × (self.new.handlers ≡ self.old.handlers) × (kinds_of self.new.operands ≡ found_kinds matching.keep (kinds_of self.old.operands))) }
+            (im : Image) (fs : List Frame) → Left im fs result self.new io'
+            (on_event (module_of im) (Matched start end (pending_of pending.items)) (matching_in im matching self.old) matching.search.state (waiting im fs self.old) (world_of self.old.world io))) }
+        ensures shape { OnOk result ((self.new.place ≡ matching.place) × (self.new.handlers ≡ self.old.handlers) × (self.new.operands.under ≡ self.old.operands.under)
+            × (kinds_of self.new.operands.top ≡ found_kinds matching.keep (kinds_of self.old.operands.top))) }
     {
         if let Err(fault) = assign_all(self.alloc, &mut self.world, units, pending.as_slice()) {
             return Err(self.halted(fault));
         }
-        self.at = matching.place();
+        self.place = matching.place();
         matching.found(&mut self.operands, start, end)?;
         Ok(())
     }

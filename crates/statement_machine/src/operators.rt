@@ -1,25 +1,23 @@
 //! Instructions that put a value or a name in the place of operands.
 
 ghost use Rattle.std.specs.Prelude.{◌≡◌, ◌∷◌, [], Ok};
-ghost use Rattle.model.specs.Language.Io.{Io};
 ghost use Rattle.model.specs.Module.Flow.{V, N};
-ghost use Rattle.model.specs.declared.image.Image.{Image};
 ghost use Rattle.model.specs.declared.run.Stop.TheVariants.{NoMemory};
 ghost use Rattle.frames.specs.Kinds.{AreOnTop};
-ghost use Rattle.statement_machine.specs.Held.{Left, after};
+ghost use Rattle.statement_machine.specs.Held.{Does};
 ghost use Rattle.statement_machine.specs.Stopped.{IfHalted};
 
 use crate::state::State;
-use crate::status::Halt;
+use crate::status::Exit;
 use frames::{pop_name, pop_value};
 use model::{ArithOp, Instr, KeyId, SignOp};
 use world::{Fault, Value, alt, arith, cond, indir, sign};
 
 impl State {
     /// Unary `+` or `-`.
-    pub(crate) fn sign(&mut self, op: SignOp, next: u32) -> Result<(), Halt>
-        requires { AreOnTop (V ∷ []) self.old.operands }
-        ensures left { (im : Image) (io : Io) → Left result self.new io (after im (Instr.Sign op) next self.old io) }
+    pub(crate) fn sign(&mut self, op: SignOp, next: usize) -> Result<(), Exit>
+        requires { AreOnTop (V ∷ []) self.old.operands.top }
+        ensures left { Does (Instr.Sign op) next result self.old self.new }
         ensures stop { IfHalted result (λ stop. stop ≡ NoMemory) }
     {
         let value = pop_value(&mut self.operands);
@@ -30,9 +28,9 @@ impl State {
     }
 
     /// Arithmetic of two values.
-    pub(crate) fn arith(&mut self, op: ArithOp, next: u32) -> Result<(), Halt>
-        requires { AreOnTop (V ∷ V ∷ []) self.old.operands }
-        ensures left { (im : Image) (io : Io) → Left result self.new io (after im (Instr.Arith op) next self.old io) }
+    pub(crate) fn arith(&mut self, op: ArithOp, next: usize) -> Result<(), Exit>
+        requires { AreOnTop (V ∷ V ∷ []) self.old.operands.top }
+        ensures left { Does (Instr.Arith op) next result self.old self.new }
         ensures stop { IfHalted result (λ stop. stop ≡ NoMemory) }
     {
         let right = pop_value(&mut self.operands);
@@ -44,9 +42,9 @@ impl State {
     }
 
     /// Concatenation.
-    pub(crate) fn cat(&mut self, next: u32) -> Result<(), Halt>
-        requires { AreOnTop (V ∷ V ∷ []) self.old.operands }
-        ensures left { (im : Image) (io : Io) → Left result self.new io (after im Instr.Cat next self.old io) }
+    pub(crate) fn cat(&mut self, next: usize) -> Result<(), Exit>
+        requires { AreOnTop (V ∷ V ∷ []) self.old.operands.top }
+        ensures left { Does Instr.Cat next result self.old self.new }
         ensures stop { IfHalted result (λ stop. stop ≡ NoMemory) }
     {
         let right = pop_value(&mut self.operands);
@@ -58,9 +56,9 @@ impl State {
     }
 
     /// `|`.
-    pub(crate) fn alt(&mut self, next: u32) -> Result<(), Halt>
-        requires { AreOnTop (V ∷ V ∷ []) self.old.operands }
-        ensures left { (im : Image) (io : Io) → Left result self.new io (after im Instr.Alt next self.old io) }
+    pub(crate) fn alt(&mut self, next: usize) -> Result<(), Exit>
+        requires { AreOnTop (V ∷ V ∷ []) self.old.operands.top }
+        ensures left { Does Instr.Alt next result self.old self.new }
         ensures stop { IfHalted result (λ stop. stop ≡ NoMemory) }
     {
         let right = pop_value(&mut self.operands);
@@ -72,9 +70,9 @@ impl State {
     }
 
     /// Binary `.`.
-    pub(crate) fn cond(&mut self, next: u32) -> Result<(), Halt>
-        requires { AreOnTop (N ∷ V ∷ []) self.old.operands }
-        ensures left { (im : Image) (io : Io) → Left result self.new io (after im Instr.Cond next self.old io) }
+    pub(crate) fn cond(&mut self, next: usize) -> Result<(), Exit>
+        requires { AreOnTop (N ∷ V ∷ []) self.old.operands.top }
+        ensures left { Does Instr.Cond next result self.old self.new }
         ensures stop { IfHalted result (λ stop. stop ≡ NoMemory) }
     {
         let name = pop_name(&mut self.operands);
@@ -86,9 +84,9 @@ impl State {
     }
 
     /// Unary `$`.
-    pub(crate) fn indir(&mut self, next: u32) -> Result<(), Halt>
-        requires { AreOnTop (V ∷ []) self.old.operands }
-        ensures left { (im : Image) (io : Io) → Left result self.new io (after im Instr.Indir next self.old io) }
+    pub(crate) fn indir(&mut self, next: usize) -> Result<(), Exit>
+        requires { AreOnTop (V ∷ []) self.old.operands.top }
+        ensures left { Does Instr.Indir next result self.old self.new }
         ensures stop { IfHalted result (λ stop. stop ≡ NoMemory) }
     {
         let value = pop_value(&mut self.operands);
@@ -99,9 +97,9 @@ impl State {
     }
 
     /// Unary `.`.
-    pub(crate) fn name_value(&mut self, next: u32) -> Result<(), Halt>
-        requires { AreOnTop (N ∷ []) self.old.operands }
-        ensures left { (im : Image) (io : Io) → Left result self.new io (after im Instr.NameV next self.old io) }
+    pub(crate) fn name_value(&mut self, next: usize) -> Result<(), Exit>
+        requires { AreOnTop (N ∷ []) self.old.operands.top }
+        ensures left { Does Instr.NameV next result self.old self.new }
         ensures stop { IfHalted result (λ stop. stop ≡ NoMemory) }
     {
         let name = pop_name(&mut self.operands);
@@ -109,17 +107,17 @@ impl State {
     }
 
     /// The newest value is dropped.
-    pub(crate) fn drop_value(&mut self, next: u32)
-        requires { AreOnTop (V ∷ []) self.old.operands }
-        ensures { (im : Image) (io : Io) → Left (Ok tt) self.new io (after im Instr.Drop next self.old io) }
+    pub(crate) fn drop_value(&mut self, next: usize)
+        requires { AreOnTop (V ∷ []) self.old.operands.top }
+        ensures { Does Instr.Drop next (Ok tt) self.old self.new }
     {
         let _value = pop_value(&mut self.operands);
-        self.at = next;
+        self.place = next;
     }
 
     /// A keyword's value.
-    pub(crate) fn keyword(&mut self, id: KeyId, next: u32) -> Result<(), Halt>
-        ensures left { (im : Image) (io : Io) → Left result self.new io (after im (Instr.KeyGet id) next self.old io) }
+    pub(crate) fn keyword(&mut self, id: KeyId, next: usize) -> Result<(), Exit>
+        ensures left { Does (Instr.KeyGet id) next result self.old self.new }
         ensures stop { IfHalted result (λ stop. stop ≡ NoMemory) }
     {
         match self.world.keyword(id) {
@@ -129,15 +127,15 @@ impl State {
     }
 
     /// An assignment to a keyword.
-    pub(crate) fn set_keyword(&mut self, id: KeyId, next: u32) -> Result<(), Halt>
-        requires { AreOnTop (V ∷ []) self.old.operands }
-        ensures left { (im : Image) (io : Io) → Left result self.new io (after im (Instr.KeySet id) next self.old io) }
+    pub(crate) fn set_keyword(&mut self, id: KeyId, next: usize) -> Result<(), Exit>
+        requires { AreOnTop (V ∷ []) self.old.operands.top }
+        ensures left { Does (Instr.KeySet id) next result self.old self.new }
         ensures stop { IfHalted result (λ stop. stop ≡ NoMemory) }
     {
         let value = pop_value(&mut self.operands);
         match self.world.set_keyword(id, &value) {
             Ok(()) => {
-                self.at = next;
+                self.place = next;
                 Ok(())
             }
             Err(code) => Err(self.halted(Fault::Error(code))),

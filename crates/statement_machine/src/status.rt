@@ -3,7 +3,7 @@
 ghost use Rattle.std.specs.Prelude.{◌≡◌};
 ghost use Rattle.statement_machine.specs.Stopped.{status_of};
 
-use model::{Ending, Status, Stop};
+use model::{Ending, ReturnKind, Status, Stop};
 use std::alloc::AllocError;
 
 /// Why no further step is made.
@@ -11,6 +11,28 @@ use std::alloc::AllocError;
 pub(crate) enum Halt {
     Ended(Ending),
     Stopped(Stop),
+}
+
+/// Why a run doesn't go on in the code that it is in.
+#[derive(Clone, Copy)]
+pub(crate) enum Exit {
+    Halt(Halt),
+    /// A failure that no handler of this code catches.
+    Failure,
+    /// A return from the call that runs this code.
+    Return(ReturnKind),
+}
+
+impl From<AllocError> for Exit {
+    ghost use Rattle.statement_machine.specs.declared.status.Exit.TheVariants as exit;
+    ghost use Rattle.statement_machine.specs.declared.status.Halt.TheVariants.{Stopped};
+    ghost use Rattle.model.specs.declared.run.Stop.TheVariants.{NoMemory};
+
+    ghost from_gives = { λ _ x. x ≡ exit.Halt (Stopped NoMemory) };
+
+    fn from(_refused: AllocError) -> Exit {
+        Exit::Halt(Halt::Stopped(Stop::NoMemory))
+    }
 }
 
 impl From<Stop> for Halt {

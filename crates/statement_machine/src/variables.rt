@@ -1,22 +1,24 @@
 //! Instructions that may read from a unit or write to one, by a variable that has it.
 
-ghost use Rattle.std.specs.Prelude.{ℕ, ◌∷◌, [], OnOk, option_map};
+ghost use Rattle.std.specs.Prelude.{ℕ, ◌∷◌, List, [], OnOk, option_map};
 ghost use Rattle.model.specs.Language.Conversions.{Op};
 ghost use Rattle.model.specs.Module.Flow.{V, N, R};
 ghost use Rattle.model.specs.Language.Io.{Io};
 ghost use Rattle.model.specs.Machine.Steps.{MVal, MW, OV, Run, after_op};
 ghost use Rattle.model.specs.declared.image.Image.{Image};
 ghost use Rattle.frames.specs.Kinds.{AreOnTop};
-ghost use Rattle.frames.specs.View.{operands_of, handlers_of};
+ghost use Rattle.loader.specs.Places.{offset_at};
+ghost use Rattle.frames.specs.View.{operands_of};
+ghost use Rattle.frames.specs.declared.frame.Frame.{Frame};
 ghost use Rattle.world.specs.Answers.{AnswersAs, AnswersOrFails, answer_map, done, stopped_by};
-ghost use Rattle.unit_io.specs.Service.{KeepsCounts, Served};
 ghost use Rattle.world.specs.Held.{world_of};
 ghost use Rattle.world.specs.Values.{value_of};
-ghost use Rattle.statement_machine.specs.Held.{IsSound, Left, Meets, after};
+ghost use Rattle.statement_machine.specs.Held.{IsSound, Left, Meets, after, handlers_in, waiting};
 ghost use Rattle.statement_machine.specs.Stopped.{halted_by};
+ghost use Rattle.unit_io.specs.Service.{KeepsCounts, Served};
 
 use crate::state::State;
-use crate::status::Halt;
+use crate::status::Exit;
 use frames::{pop_name, pop_span, pop_value, top_name};
 use model::Instr;
 use unit_io::Units;
@@ -24,14 +26,15 @@ use world::{Fault, Value};
 
 impl State {
     // On after an operation that gives nothing and may be an error.
-    fn went(&mut self, answer: Result<(), Fault>, next: u32) -> Result<(), Halt>
-        ensures left { (io : Io) (o : Op MW (record {})) → AnswersAs (done answer) (world_of self.old.world io) o →
-            Left result self.new io (after_op o (handlers_of self.old.handlers) (operands_of self.old.operands) [] (λ _ w. Run next (operands_of self.old.operands) (handlers_of self.old.handlers) [] w)) }
+    fn went(&mut self, answer: Result<(), Fault>, next: usize) -> Result<(), Exit>
+        ensures left { (im : Image) (fs : List Frame) (io : Io) (o : Op MW (record {})) → AnswersAs (done answer) (world_of self.old.world io) o →
+            Left im fs result self.new io (after_op o (handlers_in im self.old) (operands_of self.old.operands.top) (waiting im fs self.old)
+            (λ _ w. Run (offset_at im.code next) (operands_of self.old.operands.top) (handlers_in im self.old) (waiting im fs self.old) w)) }
         ensures counts { (old new : ℕ → ℕ) → KeepsCounts (stopped_by answer) old new → KeepsCounts (halted_by result) old new }
     {
         match answer {
             Ok(()) => {
-                self.at = next;
+                self.place = next;
                 Ok(())
             }
             Err(fault) => Err(self.halted(fault)),
@@ -39,9 +42,10 @@ impl State {
     }
 
     // On with the value of an operation that may fail or be an error.
-    fn gave(&mut self, answer: Result<Option<Value>, Fault>, next: u32) -> Result<(), Halt>
-        ensures left { (io : Io) (o : Op MW MVal) → AnswersOrFails (answer_map (option_map value_of) answer) (world_of self.old.world io) o →
-            Left result self.new io (after_op o (handlers_of self.old.handlers) (operands_of self.old.operands) [] (λ v w. Run next (OV v ∷ operands_of self.old.operands) (handlers_of self.old.handlers) [] w)) }
+    fn gave(&mut self, answer: Result<Option<Value>, Fault>, next: usize) -> Result<(), Exit>
+        ensures left { (im : Image) (fs : List Frame) (io : Io) (o : Op MW MVal) → AnswersOrFails (answer_map (option_map value_of) answer) (world_of self.old.world io) o →
+            Left im fs result self.new io (after_op o (handlers_in im self.old) (operands_of self.old.operands.top) (waiting im fs self.old)
+            (λ v w. Run (offset_at im.code next) (OV v ∷ operands_of self.old.operands.top) (handlers_in im self.old) (waiting im fs self.old) w)) }
         ensures counts { (old new : ℕ → ℕ) → KeepsCounts (stopped_by answer) old new → KeepsCounts (halted_by result) old new }
     {
         match answer {
@@ -52,11 +56,11 @@ impl State {
     }
 
     /// The value goes to the name, and to the unit that its variable writes to.
-    pub(crate) fn assign<U: Units>(&mut self, units: &mut U, next: u32) -> Result<(), Halt>
-        requires { AreOnTop (V ∷ N ∷ []) self.old.operands }
+    pub(crate) fn assign<U: Units>(&mut self, units: &mut U, next: usize) -> Result<(), Exit>
+        requires { AreOnTop (V ∷ N ∷ []) self.old.operands.top }
         ensures served { Served U.Units (halted_by result) units.old units.new (λ io io'.
-            (im : Image) → Left result self.new io' (after im Instr.Assign next self.old io)) }
-        ensures sound { (im : Image) → Meets im Instr.Assign next self.old → OnOk result (IsSound im self.new) }
+            (im : Image) (fs : List Frame) → Left im fs result self.new io' (after im Instr.Assign next fs self.old io)) }
+        ensures sound { (im : Image) (fs : List Frame) → Meets im Instr.Assign next fs self.old → OnOk result (IsSound im fs self.new) }
     {
         let value = pop_value(&mut self.operands);
         let name = pop_name(&mut self.operands);
@@ -65,11 +69,11 @@ impl State {
     }
 
     /// The value of the name, in its place. At the end of the unit that its variable reads from that fails.
-    pub(crate) fn fetch<U: Units>(&mut self, units: &mut U, next: u32) -> Result<(), Halt>
-        requires { AreOnTop (N ∷ []) self.old.operands }
+    pub(crate) fn fetch<U: Units>(&mut self, units: &mut U, next: usize) -> Result<(), Exit>
+        requires { AreOnTop (N ∷ []) self.old.operands.top }
         ensures served { Served U.Units (halted_by result) units.old units.new (λ io io'.
-            (im : Image) → Left result self.new io' (after im Instr.Fetch next self.old io)) }
-        ensures sound { (im : Image) → Meets im Instr.Fetch next self.old → OnOk result (IsSound im self.new) }
+            (im : Image) (fs : List Frame) → Left im fs result self.new io' (after im Instr.Fetch next fs self.old io)) }
+        ensures sound { (im : Image) (fs : List Frame) → Meets im Instr.Fetch next fs self.old → OnOk result (IsSound im fs self.new) }
     {
         let name = pop_name(&mut self.operands);
         let answer = self.world.fetch(units, &name);
@@ -77,22 +81,22 @@ impl State {
     }
 
     /// The value of the name, above the name.
-    pub(crate) fn fetch_above<U: Units>(&mut self, units: &mut U, next: u32) -> Result<(), Halt>
-        requires { AreOnTop (N ∷ []) self.old.operands }
+    pub(crate) fn fetch_above<U: Units>(&mut self, units: &mut U, next: usize) -> Result<(), Exit>
+        requires { AreOnTop (N ∷ []) self.old.operands.top }
         ensures served { Served U.Units (halted_by result) units.old units.new (λ io io'.
-            (im : Image) → Left result self.new io' (after im Instr.FetchK next self.old io)) }
-        ensures sound { (im : Image) → Meets im Instr.FetchK next self.old → OnOk result (IsSound im self.new) }
+            (im : Image) (fs : List Frame) → Left im fs result self.new io' (after im Instr.FetchK next fs self.old io)) }
+        ensures sound { (im : Image) (fs : List Frame) → Meets im Instr.FetchK next fs self.old → OnOk result (IsSound im fs self.new) }
     {
         let answer = self.world.fetch(units, top_name(&self.operands));
         self.gave(answer, next)
     }
 
     /// The value goes into the place of what a match found, and the whole to the name.
-    pub(crate) fn splice<U: Units>(&mut self, units: &mut U, next: u32) -> Result<(), Halt>
-        requires { AreOnTop (V ∷ R ∷ N ∷ []) self.old.operands }
+    pub(crate) fn splice<U: Units>(&mut self, units: &mut U, next: usize) -> Result<(), Exit>
+        requires { AreOnTop (V ∷ R ∷ N ∷ []) self.old.operands.top }
         ensures served { Served U.Units (halted_by result) units.old units.new (λ io io'.
-            (im : Image) → Left result self.new io' (after im Instr.Splice next self.old io)) }
-        ensures sound { (im : Image) → Meets im Instr.Splice next self.old → OnOk result (IsSound im self.new) }
+            (im : Image) (fs : List Frame) → Left im fs result self.new io' (after im Instr.Splice next fs self.old io)) }
+        ensures sound { (im : Image) (fs : List Frame) → Meets im Instr.Splice next fs self.old → OnOk result (IsSound im fs self.new) }
     {
         let value = pop_value(&mut self.operands);
         let span = pop_span(&mut self.operands);

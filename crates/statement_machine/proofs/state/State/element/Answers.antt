@@ -5,14 +5,15 @@ use Rattle.statement_machine.proofs.Named.{on_named, on_none}
 use Rattle.statement_machine.proofs.state.State.element.Goals as goal
 
 pub returns-in-Ok-Some-clause-left : goal.returns-in-Ok-Some-clause-left
-returns-in-Ok-Some-clause-left c im io =
-    on_named c.args.next c.in-Ok-Some.field-0 c.in-Ok-Some.name c.item.new.self c.put_name.new.self io c.put_name.result (after im (Elem c.args.count) c.args.next c.args.self.now io)
-    c.in-Ok-Some.field-0-is (c.in-Ok-Some.ensures.named im c.args.next io) (c.put_name.ensures.left io)
+returns-in-Ok-Some-clause-left c im fs io =
+    on_named im fs c.args.next c.in-Ok-Some.field-0 c.in-Ok-Some.name c.item.new.self c.put_name.new.self io c.put_name.result (after im (Elem c.args.count) c.args.next fs c.args.self.now io)
+    c.in-Ok-Some.field-0-is (c.in-Ok-Some.ensures.named im fs c.args.next io) (c.put_name.ensures.left im fs io)
 
 pub returns-in-Ok-None-clause-left : goal.returns-in-Ok-None-clause-left
-returns-in-Ok-None-clause-left c im io =
-    on_none c.args.next c.in-Ok-None.field-0 c.item.new.self c.fail.new.self io c.fail.result (after im (Elem c.args.count) c.args.next c.args.self.now io)
-    c.in-Ok-None.field-0-is (c.in-Ok-None.ensures.named im c.args.next io) (c.fail.ensures.left io)
+returns-in-Ok-None-clause-left c im fs io =
+    on_none im fs c.args.next c.in-Ok-None.field-0 c.item.new.self c.fail.new.self io c.fail.result (after im (Elem c.args.count) c.args.next fs c.args.self.now io)
+    c.in-Ok-None.field-0-is (c.in-Ok-None.ensures.named im fs c.args.next io) (c.fail.ensures.left im fs io)
 
 pub returns-in-Err-clause-left : goal.returns-in-Err-clause-left
-returns-in-Err-clause-left c im io = subst (λ h. Left (Err h) c.item.new.self io (after im (Elem c.args.count) c.args.next c.args.self.now io)) (sym c.halted.ensures) (c.in-Err.ensures.named im c.args.next io)
+returns-in-Err-clause-left c im fs io =
+    subst (λ h. Left im fs (Err h) c.item.new.self io (after im (Elem c.args.count) c.args.next fs c.args.self.now io)) (sym c.halted.ensures) (c.in-Err.ensures.named im fs c.args.next io)

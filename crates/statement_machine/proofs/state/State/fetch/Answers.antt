@@ -8,11 +8,12 @@ use Rattle.statement_machine.proofs.state.State.fetch.Goals as goal
 pub returns-clause-served : goal.returns-clause-served
 returns-clause-served g c =
     served_for c.fetch-answer.ensures.served (c.gave.ensures.counts _ _)
-    (λ io io' x im. fetched im c.args.next c.args.self.now c.gave.new.self c.fetch-answer.new.self c.gave.result c.pop_name-name.new.operands c.pop_name-name.result
-    (answer_map (option_map value_of) c.fetch-answer.result) (c.pop_name-name.ensures) c.gave.ensures.left io io' x)
+    (λ io io' x im fs. fetched im fs c.args.next c.args.self.now c.gave.new.self c.fetch-answer.new.self c.gave.result c.pop_name-name.new.operands c.pop_name-name.result
+    (answer_map (option_map value_of) c.fetch-answer.result)
+    (c.pop_name-name.ensures) (c.gave.ensures.left im fs) io io' x)
 
 pub returns-clause-sound : goal.returns-clause-sound
-returns-clause-sound g c im h =
-    fetch_sound im c.args.next c.args.self.now c.gave.new.self c.fetch-answer.new.self c.gave.result c.pop_name-name.new.operands c.pop_name-name.result
+returns-clause-sound g c im fs h =
+    fetch_sound im fs c.args.next c.args.self.now c.gave.new.self c.fetch-answer.new.self c.gave.result c.pop_name-name.new.operands c.pop_name-name.result
     (answer_map (option_map value_of) c.fetch-answer.result) h
-    (c.pop_name-name.ensures) c.gave.ensures.left
+    (c.pop_name-name.ensures) (c.gave.ensures.left im fs)

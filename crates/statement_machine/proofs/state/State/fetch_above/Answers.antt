@@ -1,4 +1,4 @@
-use Rattle.std.proofs.Common.{drop}
+use Rattle.std.proofs.Common.{ap, drop}
 use Rattle.std.specs.Prelude.{option_map}
 use Rattle.world.specs.Answers.{answer_map}
 use Rattle.world.specs.Values.{value_of}
@@ -9,11 +9,12 @@ use Rattle.statement_machine.proofs.state.State.fetch_above.Goals as goal
 pub returns-clause-served : goal.returns-clause-served
 returns-clause-served g c =
     served_for c.fetch-answer.ensures.served (c.gave.ensures.counts _ _)
-    (λ io io' x im. fetched_above im c.args.next c.args.self.now c.gave.new.self c.fetch-answer.new.self c.gave.result (drop 1 c.args.self.now.operands) c.top_name.result.now
-    (answer_map (option_map value_of) c.fetch-answer.result) (c.top_name.ensures) c.gave.ensures.left io io' x)
+    (λ io io' x im fs. fetched_above im fs c.args.next c.args.self.now c.gave.new.self c.fetch-answer.new.self c.gave.result (record c.args.self.now.operands { top = drop 1 c.args.self.now.operands.top }) c.top_name.result.now
+    (answer_map (option_map value_of) c.fetch-answer.result)
+    (ap (λ l. record c.args.self.now.operands { top = l }) c.top_name.ensures) (c.gave.ensures.left im fs) io io' x)
 
 pub returns-clause-sound : goal.returns-clause-sound
-returns-clause-sound g c im h =
-    fetch_above_sound im c.args.next c.args.self.now c.gave.new.self c.fetch-answer.new.self c.gave.result (drop 1 c.args.self.now.operands) c.top_name.result.now
+returns-clause-sound g c im fs h =
+    fetch_above_sound im fs c.args.next c.args.self.now c.gave.new.self c.fetch-answer.new.self c.gave.result (record c.args.self.now.operands { top = drop 1 c.args.self.now.operands.top }) c.top_name.result.now
     (answer_map (option_map value_of) c.fetch-answer.result) h
-    (c.top_name.ensures) c.gave.ensures.left
+    (ap (λ l. record c.args.self.now.operands { top = l }) c.top_name.ensures) (c.gave.ensures.left im fs)

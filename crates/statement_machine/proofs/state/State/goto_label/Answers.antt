@@ -1,35 +1,35 @@
-use Rattle.std.proofs.Common.{◌∙◌, [], Ok, Err, ap, subst, sym}
-use Rattle.model.specs.Machine.Steps.{go_to_known, go_to_return}
+use Rattle.std.proofs.Common.{◌∙◌, List, [], Err, ap, subst, sym}
+use Rattle.model.specs.Machine.Steps.{Run, go_to_known, go_to_return, to_stmt}
 use Rattle.model.specs.Module.Images.{module_of}
+use Rattle.frames.specs.View.{operands_of, handlers_of}
+use Rattle.frames.specs.declared.handler.Handler.{Handler}
+use Rattle.frames.specs.declared.operand.Operand.{Operand}
+use Rattle.loader.specs.Places.{offset_at}
 use Rattle.world.specs.Held.{world_of}
-use Rattle.statement_machine.specs.Held.{Left}
-use Rattle.statement_machine.proofs.Flowing.{is_there}
-use Rattle.statement_machine.proofs.Going.{leaves_none, leaves_not}
+use Rattle.statement_machine.specs.Held.{Left, waiting}
+use Rattle.statement_machine.proofs.Flowing.{statement_begins}
+use Rattle.statement_machine.proofs.Going.{leaves_not}
 use Rattle.statement_machine.proofs.state.State.goto_label.Goals as goal
 
-pub returns-then-is_some-clause-left : goal.returns-then-is_some-clause-left
-returns-then-is_some-clause-left c io =
+pub returns-in_default-label-clause-left : goal.returns-in_default-label-clause-left
+returns-in_default-label-clause-left c fs io =
+    let im = c.args.program.now in
     let s = c.args.self.now in
-    subst (λ o. Left (Err c.no_return.result) s io (go_to_return (module_of c.args.program.now) c.args.label.now o [] (world_of s.world io))) c.return_of.ensures
-    (leaves_none c.args.program.now c.args.label.now c.return_of.result s io c.no_return.result (sym c.is_some.ensures ∙ c.if-is_some.true) c.no_return.ensures.left)
+    let waits = waiting im fs s in
+    let w = world_of s.world io in
+    subst (λ st. Left im fs (Err c.no_label.result) s io st)
+    (sym (leaves_not im c.args.label.now _ waits w (sym c.return_of.ensures ∙ c.in_default.is) ∙ ap (λ x. go_to_known (module_of im) x waits w) (sym c.label.ensures ∙ c.in_default-label.is)))
+    (c.no_label.ensures.left im fs 0 io)
 
-pub goto-requires-clause-there : goal.goto-requires-clause-there
-goto-requires-clause-there c =
-    let t = c.requires.runnable.complete.labels c.args.label.now c.in-Some.number (sym c.in-Some.ensures) in
-    is_there _ t.0 t.1
-
-pub returns-in-Some-clause-left : goal.returns-in-Some-clause-left
-returns-in-Some-clause-left c io =
-    let M = module_of c.args.program.now in
-    let w = world_of c.args.self.now.world io in
-    subst (λ st. Left (Ok tt) c.goto.new.self io st)
-    (sym (ap (λ o. go_to_return M c.args.label.now o [] w) (sym c.return_of.ensures) ∙ leaves_not c.args.program.now c.args.label.now c.return_of.result w (sym c.is_some.ensures ∙ c.if-is_some.false) ∙ ap (λ x. go_to_known M x [] w) (sym c.in-Some.ensures)))
-    (c.goto.ensures 0 io)
-
-pub returns-in-None-clause-left : goal.returns-in-None-clause-left
-returns-in-None-clause-left c io =
-    let M = module_of c.args.program.now in
-    let w = world_of c.args.self.now.world io in
-    subst (λ st. Left (Err c.no_label.result) c.args.self.now io st)
-    (sym (ap (λ o. go_to_return M c.args.label.now o [] w) (sym c.return_of.ensures) ∙ leaves_not c.args.program.now c.args.label.now c.return_of.result w (sym c.is_some.ensures ∙ c.if-is_some.false) ∙ ap (λ x. go_to_known M x [] w) (sym c.in-None.ensures)))
-    (c.no_label.ensures.left c.args.program.now 0 io)
+pub returns-clause-left : goal.returns-clause-left
+returns-clause-left c fs io =
+    let im = c.args.program.now in
+    let s = c.args.self.now in
+    let waits = waiting im fs s in
+    let w = world_of s.world io in
+    let at = offset_at im.code c.in-Some-statement.place in
+    leaves_not im c.args.label.now _ waits w (sym c.return_of.ensures ∙ c.in_default.is)
+    ∙ ap (λ x. go_to_known (module_of im) x waits w) (sym c.label.ensures ∙ c.in-Some-label.is)
+    ∙ ap (λ o. to_stmt (module_of im) o waits w) (statement_begins im c.requires.runnable c.in-Some-label.number c.in-Some-statement.place (sym c.statement.ensures ∙ c.in-Some-statement.is))
+    ∙ ap (λ (ops : List Operand). Run at (operands_of ops) [] waits w) (sym c.requires.operands)
+    ∙ ap (λ (hs : List Handler). Run at (operands_of s.operands.top) (handlers_of (offset_at im.code) hs) waits w) (sym c.requires.handlers)

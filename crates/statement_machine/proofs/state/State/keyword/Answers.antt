@@ -3,9 +3,9 @@ use Rattle.statement_machine.proofs.Keys.{key_is_put, key_halts}
 use Rattle.statement_machine.proofs.state.State.keyword.Goals as goal
 
 pub returns-in-Ok-clause-left : goal.returns-in-Ok-clause-left
-returns-in-Ok-clause-left c im io =
-    key_is_put im c.args.id c.args.next c.args.self.now c.put.new.self io (value_of c.in-Ok.value) c.put.result (c.in-Ok.ensures.value io) (c.put.ensures.left io)
+returns-in-Ok-clause-left c im fs io =
+    key_is_put im fs c.args.id c.args.next c.args.self.now c.put.new.self io (value_of c.in-Ok.value) c.put.result (c.in-Ok.ensures.value io) (c.put.ensures.left im fs io)
 
 pub returns-in-Err-clause-left : goal.returns-in-Err-clause-left
-returns-in-Err-clause-left c im io =
-    key_halts im c.args.id c.args.next c.args.self.now io c.in-Err.fault c.halted.result c.halted.ensures (c.in-Err.ensures.value io)
+returns-in-Err-clause-left c im fs io =
+    key_halts im fs c.args.id c.args.next c.args.self.now io c.in-Err.fault c.halted.result c.halted.ensures (c.in-Err.ensures.value io)

@@ -1,16 +1,17 @@
 use Rattle.std.proofs.Common.{refl, subst, Ok}
-use Rattle.frames.specs.View.{operands_of, handlers_of}
+use Rattle.frames.specs.View.{operands_of}
 use Rattle.world.specs.Answers.{AnswersAs, done}
 use Rattle.world.specs.Held.{world_of}
+use Rattle.statement_machine.specs.Held.{handlers_in, waiting}
 use Rattle.statement_machine.proofs.Operations.{gives, ends}
 use Rattle.statement_machine.proofs.state.State.went.Goals as goal
 
 pub returns-in-Ok-clause-left : goal.returns-in-Ok-clause-left
-returns-in-Ok-clause-left c io o a =
+returns-in-Ok-clause-left c im fs io o a =
     let s = c.args.self.now in
-    gives o (record {}) (world_of s.world io) (Ok tt) (record s { at = c.args.next }) io (handlers_of s.handlers) (operands_of s.operands) _ (subst (λ r. AnswersAs (done r) (world_of s.world io) o) c.in-Ok.is a) refl
+    gives o (record {}) (world_of s.world io) im fs (Ok tt) (record s { place = c.args.next }) io (handlers_in im s) (operands_of s.operands.top) (waiting im fs s) _ (subst (λ r. AnswersAs (done r) (world_of s.world io) o) c.in-Ok.is a) refl
 
 pub returns-in-Err-clause-left : goal.returns-in-Err-clause-left
-returns-in-Err-clause-left c io o a =
+returns-in-Err-clause-left c im fs io o a =
     let s = c.args.self.now in
-    ends o c.in-Err.fault c.halted.result s io (handlers_of s.handlers) (operands_of s.operands) _ c.halted.ensures (subst (λ r. AnswersAs (done r) (world_of s.world io) o) c.in-Err.is a)
+    ends o c.in-Err.fault c.halted.result im fs s io (handlers_in im s) (operands_of s.operands.top) (waiting im fs s) _ c.halted.ensures (subst (λ r. AnswersAs (done r) (world_of s.world io) o) c.in-Err.is a)
