@@ -120,6 +120,10 @@ cases =
     ∷ case (codes "AB") (Alt (FenceOf (Cat (text (codes "A")) Abort)) (text (codes "A"))) NoMatch
     ∷ case (codes "AB") (Alt (FenceOf (Plain Fail)) (text (codes "A"))) (Match 0 1 [])
     ∷ case (codes "AB") (Cat (FenceOf (text [])) (text (codes "B"))) (Match 1 2 [])
+    -- `FENCE('A' FENCE 'B' | 'AC')` and `FENCE('A' FENCE) 'X' | 'AB'`: backing into FENCE inside ends the match, and behind
+    -- it nothing is left of it
+    ∷ case (codes "AC") (FenceOf (Alt (Cat (text (codes "A")) (Cat Fence (text (codes "B")))) (text (codes "AC")))) NoMatch
+    ∷ case (codes "AB") (Alt (Cat (FenceOf (Cat (text (codes "A")) Fence)) (text (codes "X"))) (text (codes "AB"))) (Match 0 2 [])
     -- `FENCE(FENCE(ARB . X) 'B') RPOS(0)`: one in another
     ∷ case (codes "ABB") (Cat (FenceOf (Cat (FenceOf (Cond (Plain Arb) x)) (text (codes "B")))) (Plain (RPos 0))) (Match 2 3 ((x, []) ∷ []))
     ∷ case (codes "AB") (Cat Succeed (Plain Fail)) NotYet
@@ -176,6 +180,15 @@ questions =
     ∷ asked (codes "AAB") (Cat (FenceOf (Alt (Defer e) (text (codes "AA")))) (text (codes "B"))) (IsPattern (text (codes "A")) ∷ IsPattern (text (codes "A")) ∷ []) (IsPattern (basic_code (Lit (codes "A"))) ∷ IsPattern (basic_code (Lit (codes "A"))) ∷ []) (Matched 1 3 []) (Matched 1 3 [])
     -- `*E 'B'` with `FENCE('A' | 'AA')` for E: a fence in a pattern that is entered
     ∷ asked (codes "AAB") (Cat (Defer e) (text (codes "B"))) (IsPattern one_or_two ∷ IsPattern one_or_two ∷ []) (IsPattern (code_of one_or_two) ∷ IsPattern (code_of one_or_two) ∷ []) (Matched 1 3 []) (Matched 1 3 [])
+    -- `FENCE(LEN(1) $ X) 'A'`: told inside a fence, once at each start
+    ∷ asked (codes "XA") (Cat (FenceOf (Imm (Plain (Len 1)) x)) (text (codes "A"))) [] [] (Asks (SayThat x (Text (codes "X")))) (Asks (SayThat x (Text (codes "X"))))
+    ∷ asked (codes "XA") (Cat (FenceOf (Imm (Plain (Len 1)) x)) (text (codes "A"))) (IsSaid ∷ []) (IsSaid ∷ []) (Matched 0 2 []) (Matched 0 2 [])
+    -- `FENCE('A' $ X | 'AA' $ Y) 'B'`: the second part is not gone back to
+    ∷ asked (codes "AAB") (Cat (FenceOf (Alt (Imm (text (codes "A")) x) (Imm (text (codes "AA")) y))) (text (codes "B"))) (IsSaid ∷ []) (IsSaid ∷ []) (Asks (SayThat x (Text (codes "A")))) (Asks (SayThat x (Text (codes "A"))))
+    ∷ asked (codes "AAB") (Cat (FenceOf (Alt (Imm (text (codes "A")) x) (Imm (text (codes "AA")) y))) (text (codes "B"))) (IsSaid ∷ IsSaid ∷ []) (IsSaid ∷ IsSaid ∷ []) (Matched 1 3 []) (Matched 1 3 [])
+    -- `FENCE(LEN(1) @X | 'AA') 'B'`: a cursor that is told inside a fence
+    ∷ asked (codes "AAB") (Cat (FenceOf (Alt (Cat (Plain (Len 1)) (At x)) (text (codes "AA")))) (text (codes "B"))) (IsSaid ∷ []) (IsSaid ∷ []) (Asks (SayThat x (Number 2))) (Asks (SayThat x (Number 2)))
+    ∷ asked (codes "AAB") (Cat (FenceOf (Alt (Cat (Plain (Len 1)) (At x)) (text (codes "AA")))) (text (codes "B"))) (IsSaid ∷ IsSaid ∷ []) (IsSaid ∷ IsSaid ∷ []) (Matched 1 3 []) (Matched 1 3 [])
     -- a pattern that enters itself
     ∷ asked (codes "AAB") nested (IsPattern nested ∷ []) (IsPattern (code_of nested) ∷ []) (Asks (AskFor e WantPattern)) (Asks (AskFor 0 WantPattern))
     ∷ asked (codes "AAB") nested (IsPattern nested ∷ IsPattern nested ∷ []) (IsPattern (code_of nested) ∷ IsPattern (code_of nested) ∷ []) (Matched 0 3 []) (Matched 0 3 [])
