@@ -29,7 +29,9 @@ impl<V> Model for Array<V> {
 
     ghost view = { λ a. (a.bounds.items, a.elements.items) };
 
-    ghost invariant = { λ a. (length a.elements.items ≡ elements_in a.bounds.items) × (0 < elements_in a.bounds.items) × (length a.bounds.items ≤ 8) };
+    ghost invariant = { λ a.
+        (length a.elements.items ≡ elements_in a.bounds.items) × (0 < elements_in a.bounds.items)
+        × (length a.bounds.items ≤ 8) };
 }
 
 impl<V: Element> Array<V> {
@@ -51,7 +53,8 @@ impl<V: Element> Array<V> {
     ) -> Result<Array<V>, AllocError>
         requires fits { elements_in bounds.items < 2 ^ 63 }
         requires few { length bounds.items ≤ 8 }
-        ensures { IfOk result (λ array. array ≡ (bounds.items, replicate (elements_in bounds.items) value.now)) }
+        ensures { IfOk result (λ array.
+            array ≡ (bounds.items, replicate (elements_in bounds.items) value.now)) }
     {
         let count = crate::bounds::elements_in(&bounds);
         let elements = repeated(alloc, value, count)?;

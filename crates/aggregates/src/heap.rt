@@ -1,10 +1,12 @@
 //! The objects of a run.
 
-ghost use Rattle.std.specs.Prelude.{◌≡◌, ◌≤◌, ◌++◌, ◌∷◌, [], length, slice_get, Some, false, IfOk, OnOk, OnErr, option_map, if◌then◌else◌, None};
+ghost use Rattle.std.specs.Prelude.{◌≡◌, ◌≤◌, ◌++◌, ◌∷◌, [], length, slice_get, Some, false, IfOk};
+ghost use Rattle.std.specs.Prelude.{OnOk, OnErr, option_map, if◌then◌else◌, None};
 ghost use Rattle.std.specs.Option.{option_copied};
 ghost use Rattle.model.specs.Language.Values.{ArrayOf, TableOf, RecordOf};
 ghost use Rattle.model.specs.Language.Prototypes.{elements_in};
-ghost use Rattle.aggregates.specs.Objects.{held_at, stored_at, put_at, if_stored, place_in, dimensions_in, field_in, record_type};
+ghost use Rattle.aggregates.specs.Objects.{held_at, stored_at, put_at, if_stored, place_in};
+ghost use Rattle.aggregates.specs.Objects.{dimensions_in, field_in, record_type};
 ghost use Rattle.aggregates.specs.Made.{kind_of, filled, copied, rows_in, rows_array, number, with_object, object_of};
 
 use crate::array::Array;
@@ -112,7 +114,9 @@ impl<V: Element> Heap<V> {
 
     /// Stores a value at a place of an object, if it has that place. Only a table takes memory.
     pub fn set(&mut self, object: usize, place: Place, value: V) -> Result<bool, AllocError>
-        ensures stored { IfOk result (λ stored. if_stored stored self.new ≡ put_at object (stored_at place value (slice_get self.old object)) self.old) }
+        ensures stored { IfOk result (λ stored.
+            if_stored stored self.new
+            ≡ put_at object (stored_at place value (slice_get self.old object)) self.old) }
         ensures nowhere { IfOk result (λ stored. stored ≡ false → self.new ≡ self.old) }
         ensures refused { OnErr result (self.new ≡ self.old) }
     {
@@ -130,8 +134,10 @@ impl<V: Element> Heap<V> {
         bounds: Vec<Bounds>,
         value: &V,
     ) -> Result<Option<usize>, AllocError>
-        ensures number { IfOk result (λ made. made ≡ number (filled bounds.items value.now) self.old) }
-        ensures made { OnOk result (self.new ≡ with_object (filled bounds.items value.now) self.old) }
+        ensures number { IfOk result (λ made.
+            made ≡ number (filled bounds.items value.now) self.old) }
+        ensures made { OnOk result
+            (self.new ≡ with_object (filled bounds.items value.now) self.old) }
         ensures refused { OnErr result (self.new ≡ self.old) }
     {
         if !are_bounds(&bounds) {
@@ -158,7 +164,8 @@ impl<V: Element> Heap<V> {
         values: Vec<V>,
     ) -> Result<usize, AllocError>
         ensures number { IfOk result (λ made. made ≡ length self.old) }
-        ensures made { OnOk result (self.new ≡ self.old ++ RecordOf type_name fields.items values.items ∷ []) }
+        ensures made { OnOk result
+            (self.new ≡ self.old ++ RecordOf type_name fields.items values.items ∷ []) }
         ensures refused { OnErr result (self.new ≡ self.old) }
     {
         self.add(Object::Record(Record {
@@ -170,8 +177,10 @@ impl<V: Element> Heap<V> {
 
     /// A new array like this one; its number. What isn't an array is refused by `None`.
     pub fn copy_array(&mut self, alloc: Global, object: usize) -> Result<Option<usize>, AllocError>
-        ensures number { IfOk result (λ made. made ≡ number (copied (slice_get self.old object)) self.old) }
-        ensures made { OnOk result (self.new ≡ with_object (copied (slice_get self.old object)) self.old) }
+        ensures number { IfOk result (λ made.
+            made ≡ number (copied (slice_get self.old object)) self.old) }
+        ensures made { OnOk result
+            (self.new ≡ with_object (copied (slice_get self.old object)) self.old) }
         ensures refused { OnErr result (self.new ≡ self.old) }
     {
         let Some(Object::Array(array)) = self.object(object) else {
@@ -188,8 +197,12 @@ impl<V: Element> Heap<V> {
         alloc: Global,
         object: usize,
     ) -> Result<Option<usize>, AllocError>
-        ensures number { IfOk result (λ made. made ≡ number (rows_array V.null_test V.key_value (slice_get self.old object)) self.old) }
-        ensures made { OnOk result (self.new ≡ with_object (rows_array V.null_test V.key_value (slice_get self.old object)) self.old) }
+        ensures number { IfOk result (λ made.
+            made ≡ number (rows_array V.null_test V.key_value
+            (slice_get self.old object)) self.old) }
+        ensures made { OnOk result
+            (self.new ≡ with_object
+            (rows_array V.null_test V.key_value (slice_get self.old object)) self.old) }
         ensures refused { OnErr result (self.new ≡ self.old) }
     {
         let Some(Object::Table(table)) = self.object(object) else {

@@ -64,8 +64,11 @@ impl<V: Element> Object<V> {
 
     /// Another value at a place, if the object has that place.
     pub(crate) fn set(&mut self, place: Place, value: V) -> Result<bool, AllocError>
-        ensures stored { IfOk result (λ stored. if_stored stored (object_of self.new) ≡ stored_at place value (Some (object_of self.old))) }
-        ensures nowhere { IfOk result (λ stored. stored ≡ false → object_of self.new ≡ object_of self.old) }
+        ensures stored { IfOk result (λ stored.
+            if_stored stored (object_of self.new)
+            ≡ stored_at place value (Some (object_of self.old))) }
+        ensures nowhere { IfOk result (λ stored.
+            stored ≡ false → object_of self.new ≡ object_of self.old) }
         ensures refused { OnErr result (object_of self.new ≡ object_of self.old) }
     {
         match (self, place) {

@@ -70,7 +70,8 @@ impl<'a> Generator<'a> {
     pub fn put(&mut self, i: Instr) -> Result<(), AllocError>
         requires { size (gen_of self.old) + instr_size i < 2 ^ 31 }
         ensures put { OnOk result (gen_of self.new ≡ spec.with_instr i (gen_of self.old)) }
-        ensures size { OnOk result (size (gen_of self.new) ≡ size (gen_of self.old) + instr_size i) }
+        ensures size { OnOk result
+            (size (gen_of self.new) ≡ size (gen_of self.old) + instr_size i) }
         ensures refused { OnErr result (gen_of self.new ≡ gen_of self.old) }
         ensures extends { spec.Extends (gen_of self.old) (gen_of self.new) }
     {

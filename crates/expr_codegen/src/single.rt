@@ -52,7 +52,8 @@ pub fn keyword<'a>(g: &mut Generator<'a>, name: &[u8]) -> Result<(), AllocError>
 
 // The call of a primitive, for a name or for a value.
 fn primitive_call(wants_name: bool, primitive: PrimId, count: u8) -> Instr
-    ensures { result ≡ (if wants_name then Instr.PrimN primitive count else Instr.PrimV primitive count) }
+    ensures { result ≡ (if wants_name then Instr.PrimN primitive count else Instr.PrimV primitive
+        count) }
 {
     if wants_name {
         Instr::PrimN(primitive, count)

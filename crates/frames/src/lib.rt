@@ -1,8 +1,8 @@
 //! What a run has put on and not yet taken off: operands, handlers, and the match under way.
 //!
-//! `Stack<T>` holds the operands or the handlers of a whole run: `pop_value`, `pop_name`, `pop_span` and `pop_values` take
-//! operands off, `fail` tells where a failure leads. A `Frame` is what waits for the code that runs. `Matching` is a match
-//! with what goes on after it: `advance` makes steps, `supply` answers.
+//! `Stack<T>` holds the operands or the handlers of a whole run: `pop_value`, `pop_name`, `pop_span` and `pop_values`
+//! take operands off, `fail` tells where a failure leads. A `Frame` is what waits for the code that runs. `Matching` is
+//! a match with what goes on after it: `advance` makes steps, `supply` answers.
 //!
 //!     operands.push(Operand::Value(value))?;
 //!     let value = pop_value(&mut operands);

@@ -1,6 +1,7 @@
 //! The match under way.
 
-ghost use Rattle.std.specs.Prelude.{◌≡◌, ◌≢◌, ◌<◌, ◌≤◌, [], ◌∷◌, ℕ, List, length, true, false, IfOk, IfErr, IsErr, OnOk, OnErr, if◌then◌else◌};
+ghost use Rattle.std.specs.Prelude.{◌≡◌, ◌≢◌, ◌<◌, ◌≤◌, [], ◌∷◌, ℕ, List, length, true, false, IfOk};
+ghost use Rattle.std.specs.Prelude.{IfErr, IsErr, OnOk, OnErr, if◌then◌else◌};
 ghost use Rattle.frames.specs.View.{operands_of};
 ghost use Rattle.frames.specs.Matches.{in_match, matching_of};
 ghost use Rattle.match_machine.specs.Held.{IsQuestion};
@@ -51,8 +52,8 @@ impl Model for Matching {
 }
 
 impl Matching {
-    /// A match before its first step. `place` is where it goes on if it succeeds, and `keep` whether it then leaves what
-    /// it matched.
+    /// A match before its first step. `place` is where it goes on if it succeeds, and `keep` whether it then leaves
+    /// what it matched.
     pub fn start(
         alloc: Global,
         code: PatCode,
@@ -62,7 +63,12 @@ impl Matching {
         keep: bool,
     ) -> Result<Matching, AllocError>
         ensures { IfOk result (λ g. g ≡ record {
-          search = record { subject = subject; code = code; state = Starting 0 (if anchored then 0 else length subject) []; refused = false };
+          search = record {
+            subject = subject;
+            code = code;
+            state = Starting 0 (if anchored then 0 else length subject) [];
+            refused = false;
+          };
           place = place;
           keep = keep;
         }) }
@@ -90,10 +96,25 @@ impl Matching {
         ensures event { IfOk result (λ (e, n). event_is e ≡ event_of self.new.search.state) }
         ensures count { IfOk result (λ (e, n). (0 < n) × (n ≤ bound)) }
         ensures fewer { IfOk result (λ (e, n). n < bound → event_is e ≢ Running) }
-        ensures steps { IfOk result (λ (e, n). (img : Module) (o : ℕ → ℕ) (ops : List m.Operand) (hs : List m.Handler) (fs : List Frame) (w : MW) →
-            steps img n (in_match o self.old ops hs fs w) ≡ on_event img (event_is e) (matching_of o self.old ops hs) self.new.search.state fs w) }
-        ensures same { OnOk result (self.new ≡ record self.old { search = record self.old.search { state = self.new.search.state } }) }
-        ensures refused { IfErr result (λ _. self.new ≡ record self.old { search = record self.old.search { state = Over Lost; refused = true } }) }
+        ensures steps { IfOk result (λ (e, n). (img : Module) (o : ℕ → ℕ) (ops : List m.Operand)
+            (hs : List m.Handler) (fs : List Frame) (w : MW) →
+            steps img n (in_match o self.old ops hs fs w)
+            ≡ on_event img (event_is e)
+            (matching_of o self.old ops hs) self.new.search.state fs w) }
+        ensures same { OnOk result
+            (self.new ≡ record self.old {
+              search = record self.old.search {
+                state =
+                    self.new.search.state;
+              };
+            }) }
+        ensures refused { IfErr result (λ _.
+            self.new ≡ record self.old {
+              search = record self.old.search {
+                state = Over Lost;
+                refused = true;
+              };
+            }) }
         ensures stays { self.old.search.refused ≡ true → IsErr result }
     {
         let (event, count) = self.matcher.advance(bound)?;
@@ -103,7 +124,13 @@ impl Matching {
     /// The answer to the question that was the last event, with which the match goes on. Takes no memory.
     pub fn supply(&mut self, answer: Answer)
         requires { IsQuestion (event_of self.old.search.state) }
-        ensures state { self.new ≡ record self.old { search = record self.old.search { state = with_more (answer_of answer ∷ []) self.old.search.state } } }
+        ensures state { self.new
+            ≡ record self.old {
+              search = record self.old.search {
+                state = with_more
+                    (answer_of answer ∷ []) self.old.search.state;
+              };
+            } }
         ensures running { event_of self.new.search.state ≡ Running }
     {
         self.matcher.supply(answer)
@@ -116,7 +143,9 @@ impl Matching {
         start: usize,
         end: usize,
     ) -> Result<(), AllocError>
-        ensures ok { OnOk result (operands_of operands.new.top ≡ found_as self.keep self.search.subject start end (operands_of operands.old.top)) }
+        ensures ok { OnOk result
+            (operands_of operands.new.top
+            ≡ found_as self.keep self.search.subject start end (operands_of operands.old.top)) }
         ensures under { operands.new.under ≡ operands.old.under }
         ensures err { OnErr result (operands.new ≡ operands.old) }
     {

@@ -75,10 +75,15 @@ pub fn pop_values(
 ) -> Result<(), AllocError>
     requires { AreOnTop (replicate count V) operands.old.top }
     ensures count { OnOk result (length values.new.items ≡ count) }
-    ensures operands { OnOk result (operands.old ≡ record operands.new { top = map operand.Value (reverse values.new.items) ++ operands.new.top }) }
+    ensures operands { OnOk result
+        (operands.old ≡ record operands.new {
+          top = map operand.Value (reverse values.new.items)
+              ++ operands.new.top;
+        }) }
     ensures err { OnErr result ((operands.new ≡ operands.old) × (values.new.items ≡ [])) }
     ensures pops { OnOk result ((w : MW) (k : List MVal → List m.Operand → State) →
-        pop_many count (operands_of operands.old.top) [] w k ≡ k (map value_of values.new.items) (operands_of operands.new.top)) }
+        pop_many count (operands_of operands.old.top) [] w k
+        ≡ k (map value_of values.new.items) (operands_of operands.new.top)) }
 {
     values.clear();
     values.reserve(count)?;

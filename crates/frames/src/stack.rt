@@ -5,8 +5,8 @@ ghost use Rattle.std.specs.Prelude.{◌≡◌, ◌==◌, ◌<◌, ◌-◌, [], �
 use std::alloc::{AllocError, Global};
 use std::marker::Model;
 
-/// Items, of which the newest is taken off first. Those of the code that runs lie above those of what waits for it, which
-/// stay where they are.
+/// Items, of which the newest is taken off first. Those of the code that runs lie above those of what waits for it,
+/// which stay where they are.
 #[derive(Drop)]
 pub struct Stack<T> {
     items: Vec<T>,
@@ -85,7 +85,10 @@ impl<T: Drop> Stack<T> {
     /// Drops those above a depth, the newest ones, if there are more.
     #[tactic(auto, using(crate::proofs::Stacks::cut_at, crate::proofs::Stacks::cut_none))]
     pub fn cut(&mut self, depth: usize)
-        ensures { self.new ≡ record self.old { top = drop (length self.old.top - depth) self.old.top } }
+        ensures { self.new ≡ record self.old {
+          top = drop
+              (length self.old.top - depth) self.old.top;
+        } }
     {
         if depth < self.len() {
             self.items.truncate(self.floor + depth);
@@ -106,7 +109,10 @@ impl<T: Drop> Stack<T> {
     /// Drops those of the code that runs; so many that waited are the code's from then on.
     #[tactic(auto, using(crate::proofs::Stacks::closed))]
     pub fn close(&mut self, count: usize)
-        ensures { self.new ≡ record { top = take count self.old.under; under = drop count self.old.under } }
+        ensures { self.new ≡ record {
+          top = take count self.old.under;
+          under = drop count self.old.under;
+        } }
     {
         self.items.truncate(self.floor);
         self.floor = self.floor.saturating_sub(count);

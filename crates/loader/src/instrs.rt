@@ -5,7 +5,8 @@ ghost use Rattle.std.specs.List.{list_any};
 ghost use Rattle.model.specs.Module.Flow.{is_fetched};
 ghost use Rattle.model.specs.Module.Images.{fetch_from, code_size};
 ghost use Rattle.model.specs.Module.Spelling.{IsImage, IsTable, StatementFits};
-ghost use Rattle.model.specs.Module.WellFormed.{begins_last, code_offset, indices_fit, instr_rule, is_end_instr, is_last_instr, place_fits};
+ghost use Rattle.model.specs.Module.WellFormed.{begins_last, code_offset, indices_fit, instr_rule};
+ghost use Rattle.model.specs.Module.WellFormed.{is_end_instr, is_last_instr, place_fits};
 ghost use Rattle.loader.specs.Parts.{code_fault};
 
 use crate::code::{PlacedCode, bytes};

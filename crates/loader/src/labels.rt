@@ -15,7 +15,9 @@ use std::alloc::{AllocError, Global};
 
 // Whether a label has a name, a statement, and a string that none before it has.
 fn is_label(image: &Image, label: Label, is_new: bool) -> bool
-    ensures { result ≡ is_label_name (slice_get image.now.strings label.string) && is_statement image.now label.statement && is_new }
+    ensures { result ≡ is_label_name
+        (slice_get image.now.strings label.string) && is_statement image.now label.statement &&
+        is_new }
 {
     is_label_name(image.strings.as_slice().get(label.string as usize))
         && is_statement(image, label.statement)
@@ -61,7 +63,9 @@ pub(crate) fn label_map(
     strings: &[Bytes],
     labels: &[Label],
 ) -> Result<IndexMap<Vec<u8>, u32>, AllocError>
-    ensures { IfOk result (λ found. (name : List ℕ) → get_by (λ k. bytes_eq name k.items) found ≡ statement_labelled strings.now labels.now name None) }
+    ensures { IfOk result (λ found.
+        (name : List ℕ) → get_by (λ k. bytes_eq name k.items) found
+        ≡ statement_labelled strings.now labels.now name None) }
 {
     let mut found = IndexMap::new(alloc);
     let mut left = labels.len();

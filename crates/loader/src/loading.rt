@@ -51,14 +51,15 @@ fn answer(alloc: Global, bytes: &[u8]) -> Result<Module, LoadFault>
     }
 }
 
-/// The module that bytes spell, or why it is refused: the first format fault; else the first instruction that doesn't run
-/// yet, or else unevaluated expressions, which don't; else the least fault of the conditions. Where a growth was refused
-/// that is told in place of any other answer.
+/// The module that bytes spell, or why it is refused: the first format fault; else the first instruction that doesn't
+/// run yet, or else unevaluated expressions, which don't; else the least fault of the conditions. Where a growth was
+/// refused that is told in place of any other answer.
 pub fn load(alloc: Global, bytes: &[u8]) -> Result<Module, LoadFault>
     ensures exact { IsAnswer bytes.now result }
     ensures loaded { IfOk result (λ m. (read_image bytes.now ≡ Ok m) × IsLoaded m) }
     ensures defined { IsKnown bytes.now → (result ≡ Err no_memory) ⊎ Loads bytes.now result }
-    ensures accepted { (m : Image) → read_image bytes.now ≡ Ok m → IsLoaded m → (result ≡ Ok m) ⊎ (result ≡ Err no_memory) }
+    ensures accepted { (m : Image) → read_image bytes.now ≡ Ok m → IsLoaded m
+        → (result ≡ Ok m) ⊎ (result ≡ Err no_memory) }
 {
     answer(alloc, bytes)
 }

@@ -3,7 +3,8 @@
 ghost use Rattle.std.specs.Prelude.{◌≡◌, bytes_eq, option_copied};
 ghost use Rattle.model.specs.Language.Calls.{return_of};
 ghost use Rattle.model.specs.Language.Programs.{end_label};
-ghost use Rattle.model.specs.Module.WellFormed.{is_label_name, is_nonnull_string, is_nonnull, is_statement, is_string, unless};
+ghost use Rattle.model.specs.Module.WellFormed.{is_label_name, is_nonnull_string, is_nonnull};
+ghost use Rattle.model.specs.Module.WellFormed.{is_statement, is_string, unless};
 
 use model::{Bytes, Image, ModuleRule, ReturnKind};
 

@@ -30,7 +30,8 @@ const MOST_INTEGER: u64 = i64::MAX as u64;
 fn pat_rule(image: &Image, pattern: &[PatInstr], place: usize) -> Option<ModuleRule>
     requires within { place < length pattern.now }
     requires count { length pattern.now ≤ most }
-    ensures { result ≡ pat_rule image.now (length pattern.now) (take place pattern.now) (slice_index_or pattern.now place (Lit 0)) }
+    ensures { result ≡ pat_rule image.now (length pattern.now) (take place pattern.now)
+        (slice_index_or pattern.now place (Lit 0)) }
 {
     let len = pattern.len();
     match pattern[place] {

@@ -3,7 +3,9 @@
 ghost use Rattle.std.specs.Prelude.{◌≡◌, ◌+◌, ◌≤◌, length, map};
 ghost use Rattle.std.specs.List.{sum};
 ghost use Rattle.model.specs.Module.Spelling.{IsImage, IsTable, PatternFits, StringFits, most};
-ghost use Rattle.model.specs.Module.WellFormed.{code_offset, expressions_offset, labels_offset, pat_bytes, pattern_bytes, patterns_offset, statements_offset, string_bytes};
+ghost use Rattle.model.specs.Module.WellFormed.{code_offset, expressions_offset, labels_offset};
+ghost use Rattle.model.specs.Module.WellFormed.{pat_bytes, pattern_bytes, patterns_offset};
+ghost use Rattle.model.specs.Module.WellFormed.{statements_offset, string_bytes};
 
 use model::{Bytes, Image, PatInstr, Seq};
 

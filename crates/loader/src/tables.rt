@@ -29,7 +29,9 @@ pub(crate) fn entry_fault(image: &Image) -> Option<ModuleFault>
 
 // The rule that a statement at an offset breaks, where the last is another.
 fn statement_rule(placed: &PlacedCode, is_last: bool, at: u32) -> Option<ModuleRule>
-    ensures { result ≡ (if is_last then unless NoEnd (is_fetched (fetch_from 0 placed.now at)) else unless BadTarget (is_begin (fetch_from 0 placed.now at))) }
+    ensures { result ≡ (if is_last then unless NoEnd
+        (is_fetched (fetch_from 0 placed.now at)) else unless BadTarget
+        (is_begin (fetch_from 0 placed.now at))) }
 {
     if is_last {
         rule(ModuleRule::NoEnd, placed.begins(at))

@@ -11,7 +11,10 @@ use strings::Text;
 
 /// At the end of an entered pattern's code, on where it was left.
 fn settle(thread: &mut Thread) -> Result<(), AllocError>
-    ensures thread { OnOk result (thread_of thread.new ≡ settled thread.old.trail.notes thread.old.trail.code thread.old.place thread.old.cursor thread.old.trail.pending) }
+    ensures thread { OnOk result
+        (thread_of thread.new
+        ≡ settled thread.old.trail.notes thread.old.trail.code thread.old.place thread.old.cursor
+        thread.old.trail.pending) }
     ensures choices { OnOk result (thread.new.trail.backs ≡ thread.old.trail.backs) }
 {
     while thread.place >= thread.trail.code().len() && thread.trail.is_inside() {
@@ -36,7 +39,8 @@ pub fn next_place(thread: &Thread) -> usize
 /// The attempt on at a place and a cursor.
 #[inline(always)]
 pub fn move_on(thread: &mut Thread, place: usize, cursor: usize) -> Result<(), AllocError>
-    ensures thread { OnOk result (thread_of thread.new ≡ onward_of (thread_of thread.old) place cursor) }
+    ensures thread { OnOk result
+        (thread_of thread.new ≡ onward_of (thread_of thread.old) place cursor) }
     ensures choices { OnOk result (thread.new.trail.backs ≡ thread.old.trail.backs) }
 {
     thread.place = place;
@@ -97,8 +101,16 @@ pub fn fail(run: &mut Run)
 /// Keeps a choice of the attempt.
 #[inline(always)]
 pub fn keep(run: &mut Run, kept: Kept) -> Result<(), AllocError>
-    ensures choices { OnOk result (run.new.thread.trail ≡ record run.old.thread.trail { backs = record { kept = kept; thread = thread_of run.old.thread } ∷ run.old.thread.trail.backs }) }
-    ensures thread { (run.new.thread.place ≡ run.old.thread.place) × (run.new.thread.cursor ≡ run.old.thread.cursor) }
+    ensures choices { OnOk result
+        (run.new.thread.trail
+        ≡ record run.old.thread.trail {
+          backs = record {
+            kept = kept;
+            thread = thread_of run.old.thread;
+          } ∷ run.old.thread.trail.backs;
+        }) }
+    ensures thread { (run.new.thread.place ≡ run.old.thread.place)
+        × (run.new.thread.cursor ≡ run.old.thread.cursor) }
     ensures places { SamePlaces run.old run.new }
 {
     let place = run.thread.place;

@@ -1,10 +1,13 @@
 //! Where the attempt under way stands, and the choices that are gone back to.
 
-ghost use Rattle.std.specs.Prelude.{◌≡◌, ◌∷◌, ◌++◌, List, [], true, false, Bool, IfOk, OnOk, OnErr, MatchOption, length, reverse, take, Some, None, option_copied, if◌then◌else◌};
+ghost use Rattle.std.specs.Prelude.{◌≡◌, ◌∷◌, ◌++◌, List, [], true, false, Bool, IfOk, OnOk, OnErr};
+ghost use Rattle.std.specs.Prelude.{MatchOption, length, reverse, take, Some, None, option_copied};
+ghost use Rattle.std.specs.Prelude.{if◌then◌else◌};
 ghost use Rattle.model.specs.Pattern.Steps as s;
 ghost use Rattle.model.specs.Pattern.Steps.{Code};
 ghost use Rattle.model.specs.Pattern.Patterns.{Pending};
-ghost use Rattle.match_machine.specs.Standing.{Standing, Back, inside, opened, unopened, fenced, unfenced, no_backs, oldest};
+ghost use Rattle.match_machine.specs.Standing.{Standing, Back, inside, opened, unopened, fenced};
+ghost use Rattle.match_machine.specs.Standing.{unfenced, no_backs, oldest};
 ghost use Rattle.match_machine.specs.Logs.{assigned, pending_of, note_of, chain, entry_at, below_of, last_code};
 
 use crate::event::Assignment;
@@ -103,7 +106,8 @@ impl Trail {
 
     /// The first attempt of a start.
     pub fn begin(&mut self, code: &PatCode) -> Result<(), AllocError>
-        ensures { OnOk result (self.new ≡ record { code = code.now; notes = []; pending = []; backs = [] }) }
+        ensures { OnOk result
+            (self.new ≡ record { code = code.now; notes = []; pending = []; backs = [] }) }
     {
         self.code = code.clone()?;
         self.stored = false;
@@ -117,7 +121,8 @@ impl Trail {
 
     /// Adds a note.
     fn add(&mut self, note: Note) -> Result<(), AllocError>
-        ensures { OnOk result (self.new ≡ record self.old { notes = note_of note ∷ self.old.notes }) }
+        ensures { OnOk result
+            (self.new ≡ record self.old { notes = note_of note ∷ self.old.notes }) }
     {
         let below = self.head;
         self.log.push(Entry { note, below })?;
@@ -127,7 +132,8 @@ impl Trail {
 
     /// Notes a cursor.
     pub fn open(&mut self, cursor: usize) -> Result<(), AllocError>
-        ensures { OnOk result (self.new ≡ record self.old { notes = s.Opened cursor ∷ self.old.notes }) }
+        ensures { OnOk result
+            (self.new ≡ record self.old { notes = s.Opened cursor ∷ self.old.notes }) }
     {
         self.add(Note::Opened(cursor))
     }
@@ -144,7 +150,11 @@ impl Trail {
 
     /// Notes how many choices there are.
     pub fn open_fence(&mut self) -> Result<(), AllocError>
-        ensures { OnOk result (self.new ≡ record self.old { notes = s.Fenced (length self.old.backs) ∷ self.old.notes }) }
+        ensures { OnOk result
+            (self.new ≡ record self.old {
+              notes = s.Fenced
+                  (length self.old.backs) ∷ self.old.notes;
+            }) }
     {
         let count = self.choices.len();
         self.add(Note::Fenced(count))
@@ -169,7 +179,11 @@ impl Trail {
 
     /// Into a pattern, which goes on at the place.
     pub fn enter(&mut self, code: PatCode, after: usize) -> Result<(), AllocError>
-        ensures { OnOk result (self.new ≡ record self.old { code = code; notes = s.Left self.old.code after ∷ self.old.notes }) }
+        ensures { OnOk result
+            (self.new ≡ record self.old {
+              code = code;
+              notes = s.Left self.old.code after ∷ self.old.notes;
+            }) }
     {
         let left = mem::replace(&mut self.code, code);
         self.stored = false;
@@ -186,7 +200,11 @@ impl Trail {
     /// Out of an entered pattern; the place where it goes on.
     pub fn leave(&mut self) -> Result<usize, AllocError>
         requires { inside self.old.notes ≡ true }
-        ensures { IfOk result (λ place. self.old ≡ record self.new { code = self.old.code; notes = s.Left self.new.code place ∷ self.new.notes }) }
+        ensures { IfOk result (λ place.
+            self.old ≡ record self.new {
+              code = self.old.code;
+              notes = s.Left self.new.code place ∷ self.new.notes;
+            }) }
     {
         match left_at(self.log.as_slice(), self.head)? {
             Some((code, place, below)) => {
@@ -201,7 +219,11 @@ impl Trail {
 
     /// A pending assignment more.
     pub fn assign(&mut self, assignment: Assignment) -> Result<(), AllocError>
-        ensures { OnOk result (self.new ≡ record self.old { pending = self.old.pending ++ assigned assignment ∷ [] }) }
+        ensures { OnOk result
+            (self.new ≡ record self.old {
+              pending = self.old.pending
+                  ++ assigned assignment ∷ [];
+            }) }
     {
         self.pending.push(assignment)?;
         Ok(())
@@ -217,7 +239,19 @@ impl Trail {
     /// Keeps a choice. Takes memory only where a log has to grow.
     #[inline(never)]
     pub fn keep(&mut self, kept: Kept, place: usize, cursor: usize) -> Result<(), AllocError>
-        ensures { OnOk result (self.new ≡ record self.old { backs = record { kept = kept; thread = record { code = self.old.code; place = place; cursor = cursor; notes = self.old.notes; pending = self.old.pending } } ∷ self.old.backs }) }
+        ensures { OnOk result
+            (self.new ≡ record self.old {
+              backs = record {
+                kept = kept;
+                thread = record {
+                  code = self.old.code;
+                  place = place;
+                  cursor = cursor;
+                  notes = self.old.notes;
+                  pending = self.old.pending;
+                };
+              } ∷ self.old.backs;
+            }) }
     {
         store(&self.code, self.stored, &mut self.codes)?;
         self.stored = true;
@@ -236,7 +270,18 @@ impl Trail {
     /// Back to the newest choice, if there is one.
     #[inline(always)]
     pub fn back(&mut self) -> Result<Option<Choice>, AllocError>
-        ensures { IfOk result (λ o. MatchOption o (self.old.backs ≡ []) (λ x. self.old.backs ≡ record { kept = x.kept; thread = record { code = self.new.code; place = x.place; cursor = x.cursor; notes = self.new.notes; pending = self.new.pending } } ∷ self.new.backs)) }
+        ensures { IfOk result (λ o.
+            MatchOption o (self.old.backs ≡ []) (λ x.
+            self.old.backs ≡ record {
+              kept = x.kept;
+              thread = record {
+                code = self.new.code;
+                place = x.place;
+                cursor = x.cursor;
+                notes = self.new.notes;
+                pending = self.new.pending;
+              };
+            } ∷ self.new.backs)) }
     {
         match self.choices.pop() {
             Some(choice) => {
@@ -270,7 +315,8 @@ fn list_below(head: usize, below: usize) -> usize
 
 /// The cursor of the newest note, if it is that of OPEN, and the list below it.
 fn opened_at(log: &[Entry], head: usize) -> Option<(usize, usize)>
-    ensures { MatchOption result (opened (chain (reverse log.now) head) ≡ None) (λ x. chain (reverse log.now) head ≡ s.Opened x.0 ∷ chain (reverse log.now) x.1) }
+    ensures { MatchOption result (opened (chain (reverse log.now) head) ≡ None) (λ x.
+        chain (reverse log.now) head ≡ s.Opened x.0 ∷ chain (reverse log.now) x.1) }
 {
     let entry = newest(log, head)?;
     match entry.note {
@@ -281,7 +327,8 @@ fn opened_at(log: &[Entry], head: usize) -> Option<(usize, usize)>
 
 /// The number of the newest note, if it is that of FOPEN, and the list below it.
 fn fenced_at(log: &[Entry], head: usize) -> Option<(usize, usize)>
-    ensures { MatchOption result (fenced (chain (reverse log.now) head) ≡ None) (λ x. chain (reverse log.now) head ≡ s.Fenced x.0 ∷ chain (reverse log.now) x.1) }
+    ensures { MatchOption result (fenced (chain (reverse log.now) head) ≡ None) (λ x.
+        chain (reverse log.now) head ≡ s.Fenced x.0 ∷ chain (reverse log.now) x.1) }
 {
     let entry = newest(log, head)?;
     match entry.note {
@@ -305,7 +352,9 @@ fn is_left_at(log: &[Entry], head: usize) -> bool
 
 /// The code and the place that the newest note leads to, if it is that of an entered pattern, and the list below it.
 fn left_at(log: &[Entry], head: usize) -> Result<Option<(PatCode, usize, usize)>, AllocError>
-    ensures { IfOk result (λ o. MatchOption o (inside (chain (reverse log.now) head) ≡ false) (λ x. chain (reverse log.now) head ≡ s.Left x.0 x.1 ∷ chain (reverse log.now) x.2)) }
+    ensures { IfOk result (λ o.
+        MatchOption o (inside (chain (reverse log.now) head) ≡ false) (λ x.
+        chain (reverse log.now) head ≡ s.Left x.0 x.1 ∷ chain (reverse log.now) x.2)) }
 {
     let Some(entry) = newest(log, head) else {
         return Ok(None);

@@ -10,7 +10,10 @@ use model::{FormatRule, Instr, Miss, ReadError, Seq};
 use std::alloc::Global;
 
 fn bad_instr(rest: &[u8], behind: &[u8]) -> Miss
-    ensures { result ≡ record { left = length rest.now + length behind.now; rule = UnknownInstruction } }
+    ensures { result ≡ record {
+      left = length rest.now + length behind.now;
+      rule = UnknownInstruction;
+    } }
 {
     Miss {
         left: rest.len() + behind.len(),

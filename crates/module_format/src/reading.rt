@@ -66,12 +66,13 @@ fn answer(alloc: Global, bytes: &[u8]) -> Result<Image, FormatFault>
     }
 }
 
-/// The image that the bytes spell, or the first fault and its offset. Where a growth was refused that is told in place of
-/// any other answer.
+/// The image that the bytes spell, or the first fault and its offset. Where a growth was refused that is told in place
+/// of any other answer.
 pub fn read_image(alloc: Global, bytes: &[u8]) -> Result<Image, FormatFault>
     ensures exact { IsAnswer result (read_image bytes.now) (length bytes.now) }
     ensures found { IfOk result (λ m. IsImage m × (bytes.now ≡ spelling m)) }
-    ensures only { (m : Image) → IsImage m → bytes.now ≡ spelling m → IsAnswer result (Ok m) (length bytes.now) }
+    ensures only { (m : Image) → IsImage m → bytes.now ≡ spelling m
+        → IsAnswer result (Ok m) (length bytes.now) }
 {
     answer(alloc, bytes)
 }

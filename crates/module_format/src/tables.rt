@@ -2,7 +2,8 @@
 
 ghost use Rattle.std.specs.Prelude.{ℕ, List, Result};
 ghost use Rattle.model.specs.declared.format.Miss.{Miss};
-ghost use Rattle.model.specs.Module.Reading.{Gives, Reads, table_at, label_at, statement_at, offset_at, pat_instr_at, pattern_at};
+ghost use Rattle.model.specs.Module.Reading.{Gives, Reads, table_at, label_at, statement_at};
+ghost use Rattle.model.specs.Module.Reading.{offset_at, pat_instr_at, pattern_at};
 
 use crate::fields::{MOST, miss, read_count};
 use code_format::{first_pat_instr, read_u32};

@@ -1,7 +1,8 @@
 //! From an image to the bytes that spell it.
 
 ghost use Rattle.std.specs.Prelude.{◌≡◌, ◌<◌, ◌≤◌, ◌^◌, ◌++◌, ℕ, List, length, OnOk, IfOk, All};
-ghost use Rattle.model.specs.Module.Spelling.{u32 as u32_bytes, u16 as u16_bytes, counted, magic, string, label, pattern, pat_instr, code_bytes, spelling, IsImage, most};
+ghost use Rattle.model.specs.Module.Spelling.{u32 as u32_bytes, u16 as u16_bytes, counted, magic, string};
+ghost use Rattle.model.specs.Module.Spelling.{label, pattern, pat_instr, code_bytes, spelling, IsImage, most};
 
 use crate::fields::{MAGIC, VERSION};
 use code_format::{put_instr, put_pat_instr, put_u32};
@@ -114,7 +115,8 @@ fn code_of(alloc: Global, code: &[Instr]) -> Result<Vec<u8>, AllocError>
 /// What stands before the tables.
 #[tactic(auto, unfolding(model::specs::Module::Spelling::u16))]
 fn put_head(out: &mut Vec<u8>, entry: u32) -> Result<(), AllocError>
-    ensures { OnOk result (out.new.items ≡ out.old.items ++ (u32_bytes magic ++ (u16_bytes 1 ++ u32_bytes entry))) }
+    ensures { OnOk result
+        (out.new.items ≡ out.old.items ++ (u32_bytes magic ++ (u16_bytes 1 ++ u32_bytes entry))) }
 {
     put_u32(out, MAGIC)?;
     out.extend_from_slice(&VERSION.to_be_bytes())?;

@@ -3,7 +3,8 @@
 ghost use Rattle.std.specs.Prelude.{◌≡◌, ◌≤◌, ◌+◌, [], ◌∷◌, ◌++◌, ℕ, Option, IfOk, OnOk, length};
 ghost use Rattle.model.specs.Pattern.Patterns as pattern;
 ghost use Rattle.model.specs.Pattern.Patterns.{Pat};
-ghost use Rattle.model.specs.Pattern.Code.{exits_past, exit_past, alt_code, cat_code, arbno_code, fence_code, cond_code, imm_code};
+ghost use Rattle.model.specs.Pattern.Code.{exits_past, exit_past, alt_code, cat_code, arbno_code};
+ghost use Rattle.model.specs.Pattern.Code.{fence_code, cond_code, imm_code};
 ghost use Rattle.model.specs.Pattern.Stands.{Stands};
 ghost use Rattle.model.specs.Deck.Trees.{Expr};
 ghost use Rattle.pattern_compiler.specs.View.{instr_of, name_of, code_of};
@@ -16,7 +17,9 @@ impl PatCode {
     /// One pattern and then the other. Where one of them has no instruction, the other is shared.
     pub fn cat(alloc: Global, left: &PatCode, right: &PatCode) -> Result<PatCode, AllocError>
         ensures code { IfOk result (λ code. code ≡ cat_code left.now right.now) }
-        ensures stands { IfOk result (λ code. (xs : ℕ → Option Expr) (p q : Pat) → Stands xs p left.now → Stands xs q right.now → Stands xs (pattern.Cat p q) code) }
+        ensures stands { IfOk result (λ code.
+            (xs : ℕ → Option Expr) (p q : Pat) → Stands xs p left.now → Stands xs q right.now
+            → Stands xs (pattern.Cat p q) code) }
     {
         let first = left.as_slice();
         let second = right.as_slice();
@@ -35,7 +38,9 @@ impl PatCode {
     /// One pattern, or else the other. Where the first's code leads to its end, it leads past the second.
     pub fn alt(alloc: Global, left: &PatCode, right: &PatCode) -> Result<PatCode, AllocError>
         ensures code { IfOk result (λ code. code ≡ alt_code left.now right.now) }
-        ensures stands { IfOk result (λ code. (xs : ℕ → Option Expr) (p q : Pat) → Stands xs p left.now → Stands xs q right.now → Stands xs (pattern.Alt p q) code) }
+        ensures stands { IfOk result (λ code.
+            (xs : ℕ → Option Expr) (p q : Pat) → Stands xs p left.now → Stands xs q right.now
+            → Stands xs (pattern.Alt p q) code) }
     {
         let first = left.as_slice();
         let second = right.as_slice();
@@ -50,7 +55,9 @@ impl PatCode {
     /// The pattern as often as need be, at first not at all.
     pub fn arbno(alloc: Global, part: &PatCode) -> Result<PatCode, AllocError>
         ensures code { IfOk result (λ code. code ≡ arbno_code part.now) }
-        ensures stands { IfOk result (λ code. (xs : ℕ → Option Expr) (p : Pat) → Stands xs p part.now → Stands xs (pattern.Arbno p) code) }
+        ensures stands { IfOk result (λ code.
+            (xs : ℕ → Option Expr) (p : Pat) → Stands xs p part.now
+            → Stands xs (pattern.Arbno p) code) }
     {
         let turn = part.as_slice();
         let past = (turn.len() + 2) as i64;
@@ -65,7 +72,9 @@ impl PatCode {
     /// The pattern, of which the first end alone is taken.
     pub fn fence_of(alloc: Global, part: &PatCode) -> Result<PatCode, AllocError>
         ensures code { IfOk result (λ code. code ≡ fence_code part.now) }
-        ensures stands { IfOk result (λ code. (xs : ℕ → Option Expr) (p : Pat) → Stands xs p part.now → Stands xs (pattern.FenceOf p) code) }
+        ensures stands { IfOk result (λ code.
+            (xs : ℕ → Option Expr) (p : Pat) → Stands xs p part.now
+            → Stands xs (pattern.FenceOf p) code) }
     {
         between(alloc, Instr::OpenFence, part, Instr::CloseFence)
     }
@@ -73,7 +82,9 @@ impl PatCode {
     /// The pattern with a conditional assignment of what it matched.
     pub fn cond(alloc: Global, part: &PatCode, name: Name) -> Result<PatCode, AllocError>
         ensures code { IfOk result (λ code. code ≡ cond_code part.now (name_of name)) }
-        ensures stands { IfOk result (λ code. (xs : ℕ → Option Expr) (p : Pat) → Stands xs p part.now → Stands xs (pattern.Cond p (name_of name)) code) }
+        ensures stands { IfOk result (λ code.
+            (xs : ℕ → Option Expr) (p : Pat) → Stands xs p part.now
+            → Stands xs (pattern.Cond p (name_of name)) code) }
     {
         between(alloc, Instr::Open, part, Instr::Close(name))
     }
@@ -81,7 +92,9 @@ impl PatCode {
     /// The pattern with an immediate assignment of what it matched.
     pub fn imm(alloc: Global, part: &PatCode, name: Name) -> Result<PatCode, AllocError>
         ensures code { IfOk result (λ code. code ≡ imm_code part.now (name_of name)) }
-        ensures stands { IfOk result (λ code. (xs : ℕ → Option Expr) (p : Pat) → Stands xs p part.now → Stands xs (pattern.Imm p (name_of name)) code) }
+        ensures stands { IfOk result (λ code.
+            (xs : ℕ → Option Expr) (p : Pat) → Stands xs p part.now
+            → Stands xs (pattern.Imm p (name_of name)) code) }
     {
         between(alloc, Instr::Open, part, Instr::Say(name))
     }
@@ -101,7 +114,8 @@ fn between(alloc: Global, first: Instr, part: &PatCode, last: Instr) -> Result<P
 
 // Puts copies of the instructions at the end.
 fn put(instrs: &mut Vec<Instr>, part: &[Instr]) -> Result<(), AllocError>
-    ensures { OnOk result (code_of instrs.new.items ≡ code_of instrs.old.items ++ code_of part.now) }
+    ensures { OnOk result
+        (code_of instrs.new.items ≡ code_of instrs.old.items ++ code_of part.now) }
 {
     for instr in part {
         instrs.push(instr.clone()?)?;
@@ -112,7 +126,8 @@ fn put(instrs: &mut Vec<Instr>, part: &[Instr]) -> Result<(), AllocError>
 // Puts copies of the instructions at the end; what led to the end of the part leads `by` further.
 fn put_led_past(instrs: &mut Vec<Instr>, part: &[Instr], by: usize) -> Result<(), AllocError>
     requires { length part.now + by ≤ 9223372036854775807 }
-    ensures { OnOk result (code_of instrs.new.items ≡ code_of instrs.old.items ++ exits_past by (code_of part.now)) }
+    ensures { OnOk result
+        (code_of instrs.new.items ≡ code_of instrs.old.items ++ exits_past by (code_of part.now)) }
 {
     for place in 0..part.len() {
         instrs.push(led_past(&part[place], part.len() - place, by)?)?;

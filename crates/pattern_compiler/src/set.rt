@@ -91,7 +91,8 @@ impl Set {
 
 // How many bytes of the table come first.
 fn span_by(bytes: &[u8], table: &ByteSet) -> usize
-    ensures value { (w : List ℕ) → table.now ≡ flags_of w → result ≡ prefix_len (is_in_set w) bytes.now }
+    ensures value { (w : List ℕ) → table.now ≡ flags_of w
+        → result ≡ prefix_len (is_in_set w) bytes.now }
     ensures within { result ≤ length bytes.now }
 {
     span_end(bytes, 0, table)
@@ -99,7 +100,8 @@ fn span_by(bytes: &[u8], table: &ByteSet) -> usize
 
 // How many bytes come before the first of the table.
 fn break_by(bytes: &[u8], table: &ByteSet) -> usize
-    ensures value { (w : List ℕ) → table.now ≡ flags_of w → result ≡ prefix_len (λ b. not (is_in_set w b)) bytes.now }
+    ensures value { (w : List ℕ) → table.now ≡ flags_of w
+        → result ≡ prefix_len (λ b. not (is_in_set w b)) bytes.now }
     ensures within { result ≤ length bytes.now }
 {
     match break_end(bytes, 0, table) {

@@ -16,7 +16,8 @@ impl PatCode {
     /// The code of a literal, which shares its text. That of the null string has no instruction.
     pub fn lit(alloc: Global, text: &Text) -> Result<PatCode, AllocError>
         ensures code { IfOk result (λ code. code ≡ basic_code (pattern.Lit text.now)) }
-        ensures stands { IfOk result (λ code. (xs : ℕ → Option Expr) → Stands xs (pattern.Plain (pattern.Lit text.now)) code) }
+        ensures stands { IfOk result (λ code.
+            (xs : ℕ → Option Expr) → Stands xs (pattern.Plain (pattern.Lit text.now)) code) }
     {
         PatCode::prim(alloc, Basic::Lit(text.clone()?))
     }
@@ -24,7 +25,8 @@ impl PatCode {
     /// The code of a part without parts and without effect.
     pub fn prim(alloc: Global, part: Basic) -> Result<PatCode, AllocError>
         ensures code { IfOk result (λ code. code ≡ basic_code (basic_of part)) }
-        ensures stands { IfOk result (λ code. (xs : ℕ → Option Expr) → Stands xs (pattern.Plain (basic_of part)) code) }
+        ensures stands { IfOk result (λ code.
+            (xs : ℕ → Option Expr) → Stands xs (pattern.Plain (basic_of part)) code) }
     {
         if let Basic::Lit(text) = &part {
             if text.is_empty() {
@@ -37,7 +39,8 @@ impl PatCode {
     /// SUCCEED.
     pub fn succeed(alloc: Global) -> Result<PatCode, AllocError>
         ensures code { IfOk result (λ code. code ≡ pattern.DoSucceed ∷ []) }
-        ensures stands { IfOk result (λ code. (xs : ℕ → Option Expr) → Stands xs pattern.Succeed code) }
+        ensures stands { IfOk result (λ code.
+            (xs : ℕ → Option Expr) → Stands xs pattern.Succeed code) }
     {
         one(alloc, Instr::Succeed)
     }
@@ -45,7 +48,8 @@ impl PatCode {
     /// ABORT.
     pub fn abort(alloc: Global) -> Result<PatCode, AllocError>
         ensures code { IfOk result (λ code. code ≡ pattern.DoAbort ∷ []) }
-        ensures stands { IfOk result (λ code. (xs : ℕ → Option Expr) → Stands xs pattern.Abort code) }
+        ensures stands { IfOk result (λ code.
+            (xs : ℕ → Option Expr) → Stands xs pattern.Abort code) }
     {
         one(alloc, Instr::Abort)
     }
@@ -53,7 +57,8 @@ impl PatCode {
     /// FENCE.
     pub fn fence(alloc: Global) -> Result<PatCode, AllocError>
         ensures code { IfOk result (λ code. code ≡ pattern.DoFence ∷ []) }
-        ensures stands { IfOk result (λ code. (xs : ℕ → Option Expr) → Stands xs pattern.Fence code) }
+        ensures stands { IfOk result (λ code.
+            (xs : ℕ → Option Expr) → Stands xs pattern.Fence code) }
     {
         one(alloc, Instr::Fence)
     }
@@ -61,7 +66,8 @@ impl PatCode {
     /// The assignment of the cursor.
     pub fn at(alloc: Global, name: Name) -> Result<PatCode, AllocError>
         ensures code { IfOk result (λ code. code ≡ cursor_code (name_of name)) }
-        ensures stands { IfOk result (λ code. (xs : ℕ → Option Expr) → Stands xs (pattern.At (name_of name)) code) }
+        ensures stands { IfOk result (λ code.
+            (xs : ℕ → Option Expr) → Stands xs (pattern.At (name_of name)) code) }
     {
         one(alloc, Instr::At(name))
     }
@@ -69,7 +75,9 @@ impl PatCode {
     /// The pattern that the expression of this number gives where it is reached.
     pub fn defer(alloc: Global, expr: u32) -> Result<PatCode, AllocError>
         ensures code { IfOk result (λ code. code ≡ defer_code expr) }
-        ensures stands { IfOk result (λ code. (xs : ℕ → Option Expr) (e : Expr) → xs expr ≡ Some e → Stands xs (pattern.Defer e) code) }
+        ensures stands { IfOk result (λ code.
+            (xs : ℕ → Option Expr) (e : Expr) → xs expr ≡ Some e
+            → Stands xs (pattern.Defer e) code) }
     {
         one(alloc, Instr::Eval(expr))
     }
@@ -77,7 +85,9 @@ impl PatCode {
     /// The kind with the argument that the expression of this number gives where it is reached.
     pub fn defer_prim(alloc: Global, kind: Kind, expr: u32) -> Result<PatCode, AllocError>
         ensures code { IfOk result (λ code. code ≡ defer_basic_code (kind_of kind) expr) }
-        ensures stands { IfOk result (λ code. (xs : ℕ → Option Expr) (e : Expr) → xs expr ≡ Some e → Stands xs (pattern.DeferBasic (kind_of kind) e) code) }
+        ensures stands { IfOk result (λ code.
+            (xs : ℕ → Option Expr) (e : Expr) → xs expr ≡ Some e
+            → Stands xs (pattern.DeferBasic (kind_of kind) e) code) }
     {
         one(alloc, Instr::EvalBasic(kind, expr))
     }

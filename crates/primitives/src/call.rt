@@ -74,7 +74,9 @@ pub fn call_prim(
     world: &mut World,
 ) -> Result<Outcome, Fault>
     requires there { IsTrue (is_there id) }
-    ensures answer { (io : Io) → ComesTo result (world_of world.new io) (prim_op codes_of id (map value_of arguments.now) (world_of world.old io)) }
+    ensures answer { (io : Io)
+        → ComesTo result (world_of world.new io)
+        (prim_op codes_of id (map value_of arguments.now) (world_of world.old io)) }
     ensures stop { IfStopped result (λ stop. stop ≡ NoMemory) }
     ensures unchanged { OnErr result (world.new ≡ world.old) }
 {
@@ -95,7 +97,10 @@ fn call_with(
     world: &mut World,
 ) -> Result<Outcome, Fault>
     requires there { IsTrue (is_there id) }
-    ensures answer { (io : Io) → ComesTo result (world_of world.new io) (prim_op codes_of id (value_of first.now ∷ value_of second.now ∷ value_of third.now ∷ []) (world_of world.old io)) }
+    ensures answer { (io : Io)
+        → ComesTo result (world_of world.new io)
+        (prim_op codes_of id (value_of first.now ∷ value_of second.now ∷ value_of third.now ∷ [])
+        (world_of world.old io)) }
     ensures stop { IfStopped result (λ stop. stop ≡ NoMemory) }
     ensures unchanged { OnErr result (world.new ≡ world.old) }
 {

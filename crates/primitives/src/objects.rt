@@ -28,7 +28,10 @@ pub(crate) fn array(
     value: &Value,
     world: &mut World,
 ) -> Result<Outcome, Fault>
-    ensures answer { (io : Io) → ComesTo result (world_of world.new io) (returned (conv (to_text (value_of prototype.now)) (world_of world.old io) (λ s. array_op (array_prototype s) (value_of value.now) (world_of world.old io)))) }
+    ensures answer { (io : Io)
+        → ComesTo result (world_of world.new io)
+        (returned (conv (to_text (value_of prototype.now)) (world_of world.old io) (λ s.
+        array_op (array_prototype s) (value_of value.now) (world_of world.old io)))) }
     ensures stop { IfStopped result (λ stop. stop ≡ NoMemory) }
     ensures unchanged { OnErr result (world.new ≡ world.old) }
 {
@@ -41,7 +44,9 @@ pub(crate) fn array(
 
 /// TABLE.
 pub(crate) fn table(alloc: Global, world: &mut World) -> Result<Outcome, Fault>
-    ensures answer { (io : Io) → ComesTo result (world_of world.new io) (returned (new_object (TableOf []) (world_of world.old io))) }
+    ensures answer { (io : Io)
+        → ComesTo result (world_of world.new io)
+        (returned (new_object (TableOf []) (world_of world.old io))) }
     ensures stop { IfStopped result (λ stop. stop ≡ NoMemory) }
     ensures unchanged { OnErr result (world.new ≡ world.old) }
 {
@@ -50,7 +55,9 @@ pub(crate) fn table(alloc: Global, world: &mut World) -> Result<Outcome, Fault>
 
 /// COPY.
 pub(crate) fn copy(alloc: Global, value: &Value, world: &mut World) -> Result<Outcome, Fault>
-    ensures answer { (io : Io) → ComesTo result (world_of world.new io) (returned (copy_op (value_of value.now) (world_of world.old io))) }
+    ensures answer { (io : Io)
+        → ComesTo result (world_of world.new io)
+        (returned (copy_op (value_of value.now) (world_of world.old io))) }
     ensures stop { IfStopped result (λ stop. stop ≡ NoMemory) }
     ensures unchanged { OnErr result (world.new ≡ world.old) }
 {
@@ -59,7 +66,9 @@ pub(crate) fn copy(alloc: Global, value: &Value, world: &mut World) -> Result<Ou
 
 /// ITEM.
 pub(crate) fn item(arguments: &[Value], world: &World) -> Result<Outcome, Fault>
-    ensures answer { (io : Io) → ComesTo result (world_of world.now io) (item_op (map value_of arguments.now) (world_of world.now io)) }
+    ensures answer { (io : Io)
+        → ComesTo result (world_of world.now io)
+        (item_op (map value_of arguments.now) (world_of world.now io)) }
     ensures stop { IfStopped result (λ stop. stop ≡ NoMemory) }
 {
     let [base, subscripts @ ..] = arguments else {
@@ -78,7 +87,10 @@ pub(crate) fn convert(
     type_name: &Value,
     world: &mut World,
 ) -> Result<Outcome, Fault>
-    ensures answer { (io : Io) → ComesTo result (world_of world.new io) (returned (conv (to_text (value_of type_name.now)) (world_of world.old io) (λ t. converted codes_of (value_of value.now) t (world_of world.old io)))) }
+    ensures answer { (io : Io)
+        → ComesTo result (world_of world.new io)
+        (returned (conv (to_text (value_of type_name.now)) (world_of world.old io) (λ t.
+        converted codes_of (value_of value.now) t (world_of world.old io)))) }
     ensures stop { IfStopped result (λ stop. stop ≡ NoMemory) }
     ensures unchanged { OnErr result (world.new ≡ world.old) }
 {
@@ -93,7 +105,9 @@ fn converted(
     wanted: &[u8],
     world: &mut World,
 ) -> Result<Outcome, Fault>
-    ensures answer { (io : Io) → ComesTo result (world_of world.new io) (returned (converted codes_of (value_of value.now) wanted.now (world_of world.old io))) }
+    ensures answer { (io : Io)
+        → ComesTo result (world_of world.new io)
+        (returned (converted codes_of (value_of value.now) wanted.now (world_of world.old io))) }
     ensures stop { IfStopped result (λ stop. stop ≡ NoMemory) }
     ensures unchanged { OnErr result (world.new ≡ world.old) }
 {
@@ -114,7 +128,8 @@ fn converted(
 
 // The string that a value is, or failure.
 fn as_string(alloc: Global, value: &Value) -> Result<Outcome, Fault>
-    ensures answer { AnswersAs result (λ w. or_fail (to_text (value_of value.now)) w (λ s. Gives (Str s) w)) }
+    ensures answer { AnswersAs result (λ w.
+        or_fail (to_text (value_of value.now)) w (λ s. Gives (Str s) w)) }
     ensures stop { IfStopped result (λ stop. stop ≡ NoMemory) }
 {
     match value.to_text(alloc) {
@@ -126,7 +141,8 @@ fn as_string(alloc: Global, value: &Value) -> Result<Outcome, Fault>
 
 // The integer that a value is, or failure.
 fn as_integer(value: &Value) -> Result<Outcome, Fault>
-    ensures answer { AnswersAs result (λ w. or_fail (to_integer (value_of value.now)) w (λ z. Gives (Int z) w)) }
+    ensures answer { AnswersAs result (λ w.
+        or_fail (to_integer (value_of value.now)) w (λ z. Gives (Int z) w)) }
     ensures stop { IfStopped result (λ stop. stop ≡ NoMemory) }
 {
     match value.to_int() {
@@ -137,7 +153,8 @@ fn as_integer(value: &Value) -> Result<Outcome, Fault>
 
 // The pattern that a value is, or failure.
 fn as_pattern(alloc: Global, value: &Value) -> Result<Outcome, Fault>
-    ensures answer { AnswersAs result (λ w. or_fail (to_pattern codes_of (value_of value.now)) w (λ q. Gives (Pat q) w)) }
+    ensures answer { AnswersAs result (λ w.
+        or_fail (to_pattern codes_of (value_of value.now)) w (λ q. Gives (Pat q) w)) }
     ensures stop { IfStopped result (λ stop. stop ≡ NoMemory) }
 {
     match value.to_pattern(alloc) {
@@ -149,7 +166,9 @@ fn as_pattern(alloc: Global, value: &Value) -> Result<Outcome, Fault>
 
 // The array of a table's rows, or failure.
 fn as_array(alloc: Global, value: &Value, world: &mut World) -> Result<Outcome, Fault>
-    ensures answer { (io : Io) → ComesTo result (world_of world.new io) (returned (as_array (value_of value.now) (world_of world.old io))) }
+    ensures answer { (io : Io)
+        → ComesTo result (world_of world.new io)
+        (returned (as_array (value_of value.now) (world_of world.old io))) }
     ensures stop { IfStopped result (λ stop. stop ≡ NoMemory) }
     ensures unchanged { OnErr result (world.new ≡ world.old) }
 {

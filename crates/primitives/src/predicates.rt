@@ -2,7 +2,8 @@
 
 ghost use Rattle.std.specs.Prelude.{◌≡◌, not};
 ghost use Rattle.model.specs.Machine.Steps.{MW};
-ghost use Rattle.model.specs.Language.Primitives.{returned, compare_op, lgt_op, same_op, same_value, same_name, is_integer, holds_if, comes_after};
+ghost use Rattle.model.specs.Language.Primitives.{returned, compare_op, lgt_op, same_op, same_value};
+ghost use Rattle.model.specs.Language.Primitives.{same_name, is_integer, holds_if, comes_after};
 ghost use Rattle.model.specs.declared.run.Stop.TheVariants.{NoMemory};
 ghost use Rattle.pattern_compiler.specs.View.{name_of};
 ghost use Rattle.world.specs.Values.{value_of};
@@ -43,7 +44,9 @@ impl Comparison {
 
 /// EQ, NE, LT, LE, GT and GE.
 pub(crate) fn compare(test: Comparison, left: &Value, right: &Value) -> Result<Outcome, Fault>
-    ensures answer { (w : MW) → ComesTo result w (returned (compare_op (test_of test) (value_of left.now) (value_of right.now) w)) }
+    ensures answer { (w : MW)
+        → ComesTo result w (returned
+        (compare_op (test_of test) (value_of left.now) (value_of right.now) w)) }
     ensures stop { IfStopped result (λ stop. stop ≡ NoMemory) }
 {
     let i = left.to_int()?;
@@ -69,7 +72,8 @@ fn comes_after(s: &[u8], t: &[u8]) -> bool
 
 /// IDENT.
 pub(crate) fn ident(left: &Value, right: &Value) -> Result<Outcome, Fault>
-    ensures answer { AnswersAs result (same_op (λ b. b) (same_value (value_of left.now) (value_of right.now))) }
+    ensures answer { AnswersAs result
+        (same_op (λ b. b) (same_value (value_of left.now) (value_of right.now))) }
     ensures stop { IfStopped result (λ stop. stop ≡ NoMemory) }
 {
     match same_value(left, right) {
@@ -80,7 +84,8 @@ pub(crate) fn ident(left: &Value, right: &Value) -> Result<Outcome, Fault>
 
 /// DIFFER.
 pub(crate) fn differ(left: &Value, right: &Value) -> Result<Outcome, Fault>
-    ensures answer { AnswersAs result (same_op not (same_value (value_of left.now) (value_of right.now))) }
+    ensures answer { AnswersAs result
+        (same_op not (same_value (value_of left.now) (value_of right.now))) }
     ensures stop { IfStopped result (λ stop. stop ≡ NoMemory) }
 {
     match same_value(left, right) {

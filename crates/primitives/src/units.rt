@@ -22,7 +22,9 @@ pub(crate) fn input(
     unit: &Value,
     world: &mut World,
 ) -> Result<Outcome, Fault>
-    ensures answer { (io : Io) → ComesTo result (world_of world.new io) (returned (input_op (value_of variable.now) (value_of unit.now) (world_of world.old io))) }
+    ensures answer { (io : Io)
+        → ComesTo result (world_of world.new io)
+        (returned (input_op (value_of variable.now) (value_of unit.now) (world_of world.old io))) }
     ensures stop { IfStopped result (λ stop. stop ≡ NoMemory) }
     ensures unchanged { OnErr result (world.new ≡ world.old) }
 {
@@ -39,7 +41,9 @@ pub(crate) fn output(
     unit: &Value,
     world: &mut World,
 ) -> Result<Outcome, Fault>
-    ensures answer { (io : Io) → ComesTo result (world_of world.new io) (returned (output_op (value_of variable.now) (value_of unit.now) (world_of world.old io))) }
+    ensures answer { (io : Io)
+        → ComesTo result (world_of world.new io)
+        (returned (output_op (value_of variable.now) (value_of unit.now) (world_of world.old io))) }
     ensures stop { IfStopped result (λ stop. stop ≡ NoMemory) }
     ensures unchanged { OnErr result (world.new ≡ world.old) }
 {
@@ -51,7 +55,9 @@ pub(crate) fn output(
 
 /// DETACH.
 pub(crate) fn detach(alloc: Global, variable: &Value, world: &mut World) -> Result<Outcome, Fault>
-    ensures answer { (io : Io) → ComesTo result (world_of world.new io) (returned (detach_op (value_of variable.now) (world_of world.old io))) }
+    ensures answer { (io : Io)
+        → ComesTo result (world_of world.new io)
+        (returned (detach_op (value_of variable.now) (world_of world.old io))) }
     ensures stop { IfStopped result (λ stop. stop ≡ NoMemory) }
     ensures unchanged { OnErr result (world.new ≡ world.old) }
 {

@@ -10,7 +10,8 @@ use strings::read_int;
 
 /// The dimensions that a text gives an array, one for each part between commas; none if a part is no dimension.
 pub fn dimensions(alloc: Global, text: &[u8]) -> Result<Option<Vec<Bounds>>, AllocError>
-    ensures { IfOk result (λ made. option_map (λ bounds. bounds.items) made ≡ all_bounds (split_at 44 text.now)) }
+    ensures { IfOk result (λ made.
+        option_map (λ bounds. bounds.items) made ≡ all_bounds (split_at 44 text.now)) }
 {
     let mut all = Vec::new(alloc);
     let mut rest = text;

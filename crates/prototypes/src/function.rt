@@ -97,7 +97,12 @@ fn prototype_of(
     arguments: &[u8],
     locals: &[u8],
 ) -> Result<FunctionPrototype, AllocError>
-    ensures { IfOk result (λ f. f ≡ record { name = name.now; arguments = listed arguments.now; locals = listed locals.now }) }
+    ensures { IfOk result (λ f.
+        f ≡ record {
+          name = name.now;
+          arguments = listed arguments.now;
+          locals = listed locals.now;
+        }) }
 {
     let mut names = Vec::new(alloc);
     push_name(alloc, name, &mut names)?;

@@ -57,7 +57,8 @@ fn are_distinct(alloc: Global, names: &[Text]) -> Result<bool, AllocError>
 
 /// Whether they are names, no two of them the same.
 pub(crate) fn are_distinct_names(alloc: Global, names: &[Text]) -> Result<bool, AllocError>
-    ensures { IfOk result (λ answer. answer ≡ (list_all is_name names.now && are_distinct names.now)) }
+    ensures { IfOk result (λ answer.
+        answer ≡ (list_all is_name names.now && are_distinct names.now)) }
 {
     if !are_names(names) {
         return Ok(false);

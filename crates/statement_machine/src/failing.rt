@@ -22,7 +22,9 @@ impl State {
     /// A failure: on where the newest handler leads. Without a handler the frames tell.
     pub(crate) fn fail(&mut self) -> Result<(), Exit>
         ensures left { (im : Image) (fs : List Frame) (io : Io) →
-            Left im fs result self.new io (fail_to (handlers_in im self.old) (operands_of self.old.operands.top) (waiting im fs self.old) (world_of self.old.world io)) }
+            Left im fs result self.new io
+            (fail_to (handlers_in im self.old) (operands_of self.old.operands.top)
+            (waiting im fs self.old) (world_of self.old.world io)) }
         ensures stop { IfHalted result (λ stop. stop ≡ NoMemory) }
     {
         match fail(&mut self.operands, &mut self.handlers) {

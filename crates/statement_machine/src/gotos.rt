@@ -44,7 +44,9 @@ impl State {
         requires operands { self.old.operands.top ≡ [] }
         requires handlers { self.old.handlers.top ≡ [] }
         ensures left { (fs : List Frame) (io : Io) →
-            Left program.now fs result self.new io (go_to_return (module_of program.now) label.now (return_of label.now) (waiting program.now fs self.old) (world_of self.old.world io)) }
+            Left program.now fs result self.new io
+            (go_to_return (module_of program.now) label.now (return_of label.now)
+            (waiting program.now fs self.old) (world_of self.old.world io)) }
         ensures stop { IfHalted result (λ stop. stop ≡ NoMemory) }
     {
         if let Some(kind) = return_of(label) {
@@ -64,7 +66,8 @@ impl State {
 
     /// A label that isn't defined.
     pub(crate) fn no_label(&self) -> Exit
-        ensures left { (im : Image) (fs : List Frame) (next : ℕ) (io : Io) → Left im fs (Err result) self.now io (after im Instr.NoLabel next fs self.now io) }
+        ensures left { (im : Image) (fs : List Frame) (next : ℕ) (io : Io)
+            → Left im fs (Err result) self.now io (after im Instr.NoLabel next fs self.now io) }
         ensures stop { IfHalted (Err result) (λ stop. stop ≡ NoMemory) }
     {
         self.halted(Fault::Error(ErrorCode::UndefinedLabel))

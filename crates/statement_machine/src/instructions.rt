@@ -49,7 +49,8 @@ impl State {
     /// Puts on a value and goes on.
     pub(crate) fn put(&mut self, value: Value, next: usize) -> Result<(), Exit>
         ensures left { (im : Image) (fs : List Frame) (io : Io) → Left im fs result self.new io
-            (Run (offset_at im.code next) (OV (value_of value) ∷ operands_of self.old.operands.top) (handlers_in im self.old) (waiting im fs self.old) (world_of self.old.world io)) }
+            (Run (offset_at im.code next) (OV (value_of value) ∷ operands_of self.old.operands.top)
+            (handlers_in im self.old) (waiting im fs self.old) (world_of self.old.world io)) }
         ensures stop { IfHalted result (λ stop. stop ≡ NoMemory) }
     {
         self.operands.push(Operand::Value(value))?;
@@ -60,7 +61,8 @@ impl State {
     /// Puts on a name and goes on.
     pub(crate) fn put_name(&mut self, name: Name, next: usize) -> Result<(), Exit>
         ensures left { (im : Image) (fs : List Frame) (io : Io) → Left im fs result self.new io
-            (Run (offset_at im.code next) (ON (name_of name) ∷ operands_of self.old.operands.top) (handlers_in im self.old) (waiting im fs self.old) (world_of self.old.world io)) }
+            (Run (offset_at im.code next) (ON (name_of name) ∷ operands_of self.old.operands.top)
+            (handlers_in im self.old) (waiting im fs self.old) (world_of self.old.world io)) }
         ensures stop { IfHalted result (λ stop. stop ≡ NoMemory) }
     {
         self.operands.push(Operand::Name(name))?;
@@ -70,7 +72,8 @@ impl State {
 
     /// A statement begins, or the limit ends the run.
     pub(crate) fn begin(&mut self, target: usize, entered: u32, next: usize) -> Result<(), Exit>
-        ensures left { (im : Image) (fs : List Frame) (io : Io) → entered ≡ statement_number im.statements (offset_at im.code self.old.place) →
+        ensures left { (im : Image) (fs : List Frame) (io : Io)
+            → entered ≡ statement_number im.statements (offset_at im.code self.old.place) →
             Left im fs result self.new io (after im (Instr.Begin (offset_at im.code target)) next fs self.old io) }
         ensures stop { IfHalted result (λ stop. stop ≡ NoMemory) }
     {

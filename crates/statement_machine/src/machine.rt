@@ -36,7 +36,8 @@ impl<'m> Model for Machine<'m> {
 
     ghost view = { λ m. record { image = m.program.now; run = m.run; halt = m.halt } };
 
-    ghost invariant = { λ m. IsRunnable m.program.now × IsGoing m.halt (LacksNothing m.program.now m.run) };
+    ghost invariant = { λ m.
+        IsRunnable m.program.now × IsGoing m.halt (LacksNothing m.program.now m.run) };
 }
 
 impl<'m> Machine<'m> {
@@ -44,7 +45,9 @@ impl<'m> Machine<'m> {
     pub fn new(alloc: Global, program: &'m Module) -> Result<Machine<'m>, AllocError>
         ensures image { IfOk result (λ machine. machine.image ≡ program.now) }
         ensures going { IfOk result (λ machine. machine.halt ≡ None) }
-        ensures begun { IfOk result (λ machine. (io : Io) → Holds machine io (after_s io.printed (begun (module_of program.now) (first_m io.left)))) }
+        ensures begun { IfOk result (λ machine.
+            (io : Io) → Holds machine io
+            (after_s io.printed (begun (module_of program.now) (first_m io.left)))) }
     {
         let place = program.start();
         Ok(Machine {
@@ -58,9 +61,12 @@ impl<'m> Machine<'m> {
     pub fn run<U: Units>(&mut self, units: &mut U, bound: u64) -> Status
         ensures image { self.new.image ≡ self.old.image }
         ensures status { result ≡ status_at self.new.halt }
-        ensures served { Served U.Units (stopped_now self.old.halt result) units.old units.new (λ io io'.
-            IfRan result ((st : m.State) → Holds self.old io st → Holds self.new io' (steps (module_of self.old.image) bound st))) }
-        ensures again { (halt : RustHalt) → self.old.halt ≡ Some halt → (self.new ≡ self.old) × (units.new ≡ units.old) }
+        ensures served { Served U.Units
+            (stopped_now self.old.halt result) units.old units.new (λ io io'.
+            IfRan result ((st : m.State) → Holds self.old io st
+            → Holds self.new io' (steps (module_of self.old.image) bound st))) }
+        ensures again { (halt : RustHalt) → self.old.halt ≡ Some halt → (self.new ≡ self.old)
+            × (units.new ≡ units.old) }
     {
         if let Some(halt) = self.halt {
             return halt.status();

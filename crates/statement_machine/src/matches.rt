@@ -35,7 +35,8 @@ fn assign_all<U: Units>(
     pending: &[Assignment],
 ) -> Result<(), Fault>
     ensures served { Served U.Units (stopped_by result) units.old units.new (λ io io'.
-            AnswersAs (done result) (world_of world.new io') (assign_all (pending_of pending.now) (world_of world.old io))) }
+        AnswersAs (done result) (world_of world.new io')
+        (assign_all (pending_of pending.now) (world_of world.old io))) }
 {
     for assignment in pending {
         let value = Value::String(assignment.value.clone()?);
@@ -69,8 +70,12 @@ impl State {
     ) -> Result<(), Exit>
         ensures served { Served U.Units (halted_by result) units.old units.new (λ io io'.
             (im : Image) (fs : List Frame) → Left im fs result self.new io'
-            (on_event (module_of im) (Matched start end (pending_of pending.items)) (matching_in im matching self.old) matching.search.state (waiting im fs self.old) (world_of self.old.world io))) }
-        ensures shape { OnOk result ((self.new.place ≡ matching.place) × (self.new.handlers ≡ self.old.handlers) × (self.new.operands.under ≡ self.old.operands.under)
+            (on_event (module_of im) (Matched start end (pending_of pending.items))
+            (matching_in im matching self.old) matching.search.state (waiting im fs self.old)
+            (world_of self.old.world io))) }
+        ensures shape { OnOk result
+            ((self.new.place ≡ matching.place) × (self.new.handlers ≡ self.old.handlers)
+            × (self.new.operands.under ≡ self.old.operands.under)
             × (kinds_of self.new.operands.top ≡ found_kinds matching.keep (kinds_of self.old.operands.top))) }
     {
         if let Err(fault) = assign_all(self.alloc, &mut self.world, units, pending.as_slice()) {

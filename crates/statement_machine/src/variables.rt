@@ -27,10 +27,15 @@ use world::{Fault, Value};
 impl State {
     // On after an operation that gives nothing and may be an error.
     fn went(&mut self, answer: Result<(), Fault>, next: usize) -> Result<(), Exit>
-        ensures left { (im : Image) (fs : List Frame) (io : Io) (o : Op MW (record {})) → AnswersAs (done answer) (world_of self.old.world io) o →
-            Left im fs result self.new io (after_op o (handlers_in im self.old) (operands_of self.old.operands.top) (waiting im fs self.old)
-            (λ _ w. Run (offset_at im.code next) (operands_of self.old.operands.top) (handlers_in im self.old) (waiting im fs self.old) w)) }
-        ensures counts { (old new : ℕ → ℕ) → KeepsCounts (stopped_by answer) old new → KeepsCounts (halted_by result) old new }
+        ensures left { (im : Image) (fs : List Frame) (io : Io) (o : Op MW (record {}))
+            → AnswersAs (done answer) (world_of self.old.world io) o →
+            Left im fs result self.new io
+            (after_op o (handlers_in im self.old) (operands_of self.old.operands.top)
+            (waiting im fs self.old)
+            (λ _ w. Run (offset_at im.code next) (operands_of self.old.operands.top)
+            (handlers_in im self.old) (waiting im fs self.old) w)) }
+        ensures counts { (old new : ℕ → ℕ) → KeepsCounts (stopped_by answer) old new
+            → KeepsCounts (halted_by result) old new }
     {
         match answer {
             Ok(()) => {
@@ -43,10 +48,16 @@ impl State {
 
     // On with the value of an operation that may fail or be an error.
     fn gave(&mut self, answer: Result<Option<Value>, Fault>, next: usize) -> Result<(), Exit>
-        ensures left { (im : Image) (fs : List Frame) (io : Io) (o : Op MW MVal) → AnswersOrFails (answer_map (option_map value_of) answer) (world_of self.old.world io) o →
-            Left im fs result self.new io (after_op o (handlers_in im self.old) (operands_of self.old.operands.top) (waiting im fs self.old)
-            (λ v w. Run (offset_at im.code next) (OV v ∷ operands_of self.old.operands.top) (handlers_in im self.old) (waiting im fs self.old) w)) }
-        ensures counts { (old new : ℕ → ℕ) → KeepsCounts (stopped_by answer) old new → KeepsCounts (halted_by result) old new }
+        ensures left { (im : Image) (fs : List Frame) (io : Io) (o : Op MW MVal)
+            → AnswersOrFails (answer_map (option_map value_of) answer)
+            (world_of self.old.world io) o →
+            Left im fs result self.new io
+            (after_op o (handlers_in im self.old) (operands_of self.old.operands.top)
+            (waiting im fs self.old)
+            (λ v w. Run (offset_at im.code next) (OV v ∷ operands_of self.old.operands.top)
+            (handlers_in im self.old) (waiting im fs self.old) w)) }
+        ensures counts { (old new : ℕ → ℕ) → KeepsCounts (stopped_by answer) old new
+            → KeepsCounts (halted_by result) old new }
     {
         match answer {
             Ok(Some(value)) => self.put(value, next),
@@ -59,8 +70,10 @@ impl State {
     pub(crate) fn assign<U: Units>(&mut self, units: &mut U, next: usize) -> Result<(), Exit>
         requires { AreOnTop (V ∷ N ∷ []) self.old.operands.top }
         ensures served { Served U.Units (halted_by result) units.old units.new (λ io io'.
-            (im : Image) (fs : List Frame) → Left im fs result self.new io' (after im Instr.Assign next fs self.old io)) }
-        ensures sound { (im : Image) (fs : List Frame) → Meets im Instr.Assign next fs self.old → OnOk result (IsSound im fs self.new) }
+            (im : Image) (fs : List Frame)
+            → Left im fs result self.new io' (after im Instr.Assign next fs self.old io)) }
+        ensures sound { (im : Image) (fs : List Frame) → Meets im Instr.Assign next fs self.old
+            → OnOk result (IsSound im fs self.new) }
     {
         let value = pop_value(&mut self.operands);
         let name = pop_name(&mut self.operands);
@@ -72,8 +85,10 @@ impl State {
     pub(crate) fn fetch<U: Units>(&mut self, units: &mut U, next: usize) -> Result<(), Exit>
         requires { AreOnTop (N ∷ []) self.old.operands.top }
         ensures served { Served U.Units (halted_by result) units.old units.new (λ io io'.
-            (im : Image) (fs : List Frame) → Left im fs result self.new io' (after im Instr.Fetch next fs self.old io)) }
-        ensures sound { (im : Image) (fs : List Frame) → Meets im Instr.Fetch next fs self.old → OnOk result (IsSound im fs self.new) }
+            (im : Image) (fs : List Frame)
+            → Left im fs result self.new io' (after im Instr.Fetch next fs self.old io)) }
+        ensures sound { (im : Image) (fs : List Frame) → Meets im Instr.Fetch next fs self.old
+            → OnOk result (IsSound im fs self.new) }
     {
         let name = pop_name(&mut self.operands);
         let answer = self.world.fetch(units, &name);
@@ -84,8 +99,10 @@ impl State {
     pub(crate) fn fetch_above<U: Units>(&mut self, units: &mut U, next: usize) -> Result<(), Exit>
         requires { AreOnTop (N ∷ []) self.old.operands.top }
         ensures served { Served U.Units (halted_by result) units.old units.new (λ io io'.
-            (im : Image) (fs : List Frame) → Left im fs result self.new io' (after im Instr.FetchK next fs self.old io)) }
-        ensures sound { (im : Image) (fs : List Frame) → Meets im Instr.FetchK next fs self.old → OnOk result (IsSound im fs self.new) }
+            (im : Image) (fs : List Frame)
+            → Left im fs result self.new io' (after im Instr.FetchK next fs self.old io)) }
+        ensures sound { (im : Image) (fs : List Frame) → Meets im Instr.FetchK next fs self.old
+            → OnOk result (IsSound im fs self.new) }
     {
         let answer = self.world.fetch(units, top_name(&self.operands));
         self.gave(answer, next)
@@ -95,8 +112,10 @@ impl State {
     pub(crate) fn splice<U: Units>(&mut self, units: &mut U, next: usize) -> Result<(), Exit>
         requires { AreOnTop (V ∷ R ∷ N ∷ []) self.old.operands.top }
         ensures served { Served U.Units (halted_by result) units.old units.new (λ io io'.
-            (im : Image) (fs : List Frame) → Left im fs result self.new io' (after im Instr.Splice next fs self.old io)) }
-        ensures sound { (im : Image) (fs : List Frame) → Meets im Instr.Splice next fs self.old → OnOk result (IsSound im fs self.new) }
+            (im : Image) (fs : List Frame)
+            → Left im fs result self.new io' (after im Instr.Splice next fs self.old io)) }
+        ensures sound { (im : Image) (fs : List Frame) → Meets im Instr.Splice next fs self.old
+            → OnOk result (IsSound im fs self.new) }
     {
         let value = pop_value(&mut self.operands);
         let span = pop_span(&mut self.operands);

@@ -151,7 +151,8 @@ fn bracketed(alloc: Global, cursor: &mut Cursor<'_>, depth: usize) -> Result<Exp
 #[cycle(expr)]
 #[tactic(auto, unfolding(model::specs::Deck::Parse::after_name, model::specs::Deck::Parse::bind, model::specs::Deck::Parse::expect))]
 fn named(alloc: Global, cursor: &mut Cursor<'_>, depth: usize, name: &[u8]) -> Result<Expr, Stop>
-    ensures { Reads expr_of (spec.after_name (spec.whole depth) name.now cursor.old) result cursor.new }
+    ensures { Reads expr_of
+        (spec.after_name (spec.whole depth) name.now cursor.old) result cursor.new }
 {
     let name = Vec::from_slice(alloc, name)?;
     let turns = cursor.len();

@@ -11,7 +11,8 @@ use model::{ArithOp, ErrorCode, SignOp};
 
 /// A sum, a difference, a product, a quotient or a power.
 pub fn arith(op: ArithOp, left: &Value, right: &Value) -> Result<Value, ErrorCode>
-    ensures { (w : MW) → op_of (answer_map value_of result) w ≡ arith_op op (value_of left.now) (value_of right.now) w }
+    ensures { (w : MW) → op_of (answer_map value_of result) w
+        ≡ arith_op op (value_of left.now) (value_of right.now) w }
 {
     let a = left.to_int()?;
     let b = right.to_int()?;

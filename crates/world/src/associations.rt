@@ -12,7 +12,9 @@ use strings::Text;
 impl World {
     /// From now on a variable reads its value from a unit.
     pub fn read_from(&mut self, name: &Text, unit: u8) -> Result<(), AllocError>
-        ensures set { OnOk result ((io : Io) → world_of self.new io ≡ set_reads name.now (Some unit) (world_of self.old io)) }
+        ensures set { OnOk result
+            ((io : Io) → world_of self.new io
+            ≡ set_reads name.now (Some unit) (world_of self.old io)) }
         ensures err { OnErr result (self.new ≡ self.old) }
     {
         let (_input, output) = self.units(name);
@@ -21,7 +23,9 @@ impl World {
 
     /// From now on a variable writes its value to a unit.
     pub fn write_to(&mut self, name: &Text, unit: u8) -> Result<(), AllocError>
-        ensures set { OnOk result ((io : Io) → world_of self.new io ≡ set_writes name.now (Some unit) (world_of self.old io)) }
+        ensures set { OnOk result
+            ((io : Io) → world_of self.new io
+            ≡ set_writes name.now (Some unit) (world_of self.old io)) }
         ensures err { OnErr result (self.new ≡ self.old) }
     {
         let (input, _output) = self.units(name);
@@ -30,7 +34,9 @@ impl World {
 
     /// From now on a variable has no unit.
     pub fn detach(&mut self, name: &Text) -> Result<(), AllocError>
-        ensures set { OnOk result ((io : Io) → world_of self.new io ≡ set_writes name.now None (set_reads name.now None (world_of self.old io))) }
+        ensures set { OnOk result
+            ((io : Io) → world_of self.new io
+            ≡ set_writes name.now None (set_reads name.now None (world_of self.old io))) }
         ensures err { OnErr result (self.new ≡ self.old) }
     {
         self.set_units(name, None, None)

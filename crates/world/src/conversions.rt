@@ -1,7 +1,8 @@
 //! Conversions of values.
 
 ghost use Rattle.std.specs.Prelude.{◌≡◌};
-ghost use Rattle.model.specs.Language.Conversions.{to_text, to_integer, to_pattern, to_name, to_label, to_variable, read_integer};
+ghost use Rattle.model.specs.Language.Conversions.{to_text, to_integer, to_pattern, to_name, to_label};
+ghost use Rattle.model.specs.Language.Conversions.{to_variable, read_integer};
 ghost use Rattle.model.specs.Machine.Steps.{codes_of};
 ghost use Rattle.model.specs.declared.run.Stop.TheVariants.{NoMemory};
 ghost use Rattle.pattern_compiler.specs.View.{name_of};

@@ -21,7 +21,9 @@ use model::ErrorCode;
 impl World {
     /// An element of an array, or a field of a record.
     pub(crate) fn element(&self, object: usize, index: usize) -> Result<Option<Value>, Fault>
-        ensures value { (io : Io) → AnswersOrFails (answer_map (option_map value_of) result) (world_of self.now io) (fetch_op (Element object index) (world_of self.now io)) }
+        ensures value { (io : Io)
+            → AnswersOrFails (answer_map (option_map value_of) result) (world_of self.now io)
+            (fetch_op (Element object index) (world_of self.now io)) }
         ensures stop { IfStopped result (λ stop. stop ≡ NoMemory) }
     {
         match self.heap.get(object, &Place::Element(index)) {
@@ -32,7 +34,10 @@ impl World {
 
     /// The value that a table has for a key, which is null at first.
     pub(crate) fn entry(&self, object: usize, key: Key) -> Result<Option<Value>, Fault>
-        ensures value { (io : Io) → AnswersOrFails (answer_map (option_map value_of) result) (world_of self.now io) (there (entry_of (Str []) (slice_get (world_of self.now io).objects object) (key_of key)) (world_of self.now io)) }
+        ensures value { (io : Io)
+            → AnswersOrFails (answer_map (option_map value_of) result) (world_of self.now io)
+            (there (entry_of (Str []) (slice_get (world_of self.now io).objects object)
+            (key_of key)) (world_of self.now io)) }
         ensures stop { IfStopped result (λ stop. stop ≡ NoMemory) }
     {
         let Some(Kind::Table) = self.heap.kind(object) else {
@@ -46,7 +51,10 @@ impl World {
 
     /// Another value at a place of an object.
     pub(crate) fn store(&mut self, object: usize, place: Place, value: Value) -> Result<(), Fault>
-        ensures stored { (io : Io) → AnswersAs (done result) (world_of self.new io) (put_object object (stored_at place (value_of value) (slice_get (world_of self.old io).objects object)) (world_of self.old io)) }
+        ensures stored { (io : Io)
+            → AnswersAs (done result) (world_of self.new io)
+            (put_object object (stored_at place (value_of value)
+            (slice_get (world_of self.old io).objects object)) (world_of self.old io)) }
         ensures err { OnErr result (self.new ≡ self.old) }
         ensures stop { IfStopped result (λ stop. stop ≡ NoMemory) }
     {

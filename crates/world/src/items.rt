@@ -24,7 +24,9 @@ use pattern_compiler::Name;
 impl World {
     /// The name of an element, by its array or table and the subscripts; outside an array's bounds there is none.
     pub fn item(&self, base: &Value, subscripts: &[Value]) -> Result<Option<Name>, Fault>
-        ensures name { (io : Io) → AnswersOrFails (answer_map (option_map name_of) result) (world_of self.now io) (element_op (value_of base.now) (map value_of subscripts.now) (world_of self.now io)) }
+        ensures name { (io : Io)
+            → AnswersOrFails (answer_map (option_map name_of) result) (world_of self.now io)
+            (element_op (value_of base.now) (map value_of subscripts.now) (world_of self.now io)) }
         ensures stop { IfStopped result (λ stop. stop ≡ NoMemory) }
     {
         let Value::Object(object) = base else {
@@ -40,7 +42,10 @@ impl World {
 
     // The name of an array's element. Takes no memory.
     fn array_item(&self, object: usize, subscripts: &[Value]) -> Result<Option<Name>, ErrorCode>
-        ensures { (bs : List Bounds) (es : List Value) → slice_get self.now.objects object ≡ Some (ArrayOf bs es) → conv_of (answer_map (option_map name_of) result) ≡ item_at object bs (map value_of subscripts.now) }
+        ensures { (bs : List Bounds) (es : List Value)
+            → slice_get self.now.objects object ≡ Some (ArrayOf bs es)
+            → conv_of (answer_map (option_map name_of) result)
+            ≡ item_at object bs (map value_of subscripts.now) }
     {
         let count = subscripts.len();
         if self.heap.dimensions(object) != count {
@@ -58,7 +63,8 @@ impl World {
 // The integers that values convert to, put at the front of others.
 fn put_integers(values: &[Value], integers: &mut [i64]) -> Result<(), ErrorCode>
     requires { length values.now ≤ length integers.old }
-    ensures ok { OnOk result (all_integers (map value_of values.now) ≡ Got (take (length values.now) integers.new)) }
+    ensures ok { OnOk result
+        (all_integers (map value_of values.now) ≡ Got (take (length values.now) integers.new)) }
     ensures err { IfErr result (λ error. all_integers (map value_of values.now) ≡ Bad error) }
     ensures len { length integers.new ≡ length integers.old }
 {
@@ -70,7 +76,9 @@ fn put_integers(values: &[Value], integers: &mut [i64]) -> Result<(), ErrorCode>
 
 // The name of a key's value in a table.
 fn table_item(object: usize, subscripts: &[Value]) -> Result<Option<Name>, Fault>
-    ensures name { (w : MW) → AnswersOrFails (answer_map (option_map name_of) result) w (table_element object (map value_of subscripts.now) w) }
+    ensures name { (w : MW)
+        → AnswersOrFails (answer_map (option_map name_of) result) w
+        (table_element object (map value_of subscripts.now) w) }
     ensures stop { IfStopped result (λ stop. stop ≡ NoMemory) }
 {
     let [key] = subscripts else {

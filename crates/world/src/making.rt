@@ -20,7 +20,9 @@ use std::alloc::Global;
 impl World {
     /// A new table without entries.
     pub fn table(&mut self, alloc: Global) -> Result<Value, Fault>
-        ensures made { (io : Io) → AnswersAs (answer_map value_of result) (world_of self.new io) (new_object (TableOf []) (world_of self.old io)) }
+        ensures made { (io : Io)
+            → AnswersAs (answer_map value_of result) (world_of self.new io)
+            (new_object (TableOf []) (world_of self.old io)) }
         ensures stop { IfStopped result (λ stop. stop ≡ NoMemory) }
         ensures err { OnErr result (self.new ≡ self.old) }
     {
@@ -30,7 +32,9 @@ impl World {
 
     /// Another array like this one.
     pub fn copy(&mut self, alloc: Global, value: &Value) -> Result<Value, Fault>
-        ensures made { (io : Io) → AnswersAs (answer_map value_of result) (world_of self.new io) (copy_op (value_of value.now) (world_of self.old io)) }
+        ensures made { (io : Io)
+            → AnswersAs (answer_map value_of result) (world_of self.new io)
+            (copy_op (value_of value.now) (world_of self.old io)) }
         ensures stop { IfStopped result (λ stop. stop ≡ NoMemory) }
         ensures err { OnErr result (self.new ≡ self.old) }
     {
@@ -63,7 +67,10 @@ impl World {
         bounds: Vec<Bounds>,
         value: &Value,
     ) -> Result<Value, Fault>
-        ensures made { (io : Io) → AnswersAs (answer_map value_of result) (world_of self.new io) (array_op (passing are_bounds (Some bounds.items)) (value_of value.now) (world_of self.old io)) }
+        ensures made { (io : Io)
+            → AnswersAs (answer_map value_of result) (world_of self.new io)
+            (array_op (passing are_bounds (Some bounds.items)) (value_of value.now)
+            (world_of self.old io)) }
         ensures stop { IfStopped result (λ stop. stop ≡ NoMemory) }
         ensures err { OnErr result (self.new ≡ self.old) }
     {
@@ -76,7 +83,9 @@ impl World {
     /// A table's keys and values as an array, a row for each value that isn't null. What is no table, or has no row,
     /// gives none.
     pub fn rows(&mut self, alloc: Global, value: &Value) -> Result<Option<Value>, Fault>
-        ensures made { (io : Io) → AnswersOrFails (answer_map (option_map value_of) result) (world_of self.new io) (as_array (value_of value.now) (world_of self.old io)) }
+        ensures made { (io : Io)
+            → AnswersOrFails (answer_map (option_map value_of) result) (world_of self.new io)
+            (as_array (value_of value.now) (world_of self.old io)) }
         ensures stop { IfStopped result (λ stop. stop ≡ NoMemory) }
         ensures err { OnErr result (self.new ≡ self.old) }
     {

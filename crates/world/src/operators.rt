@@ -15,7 +15,9 @@ use std::alloc::Global;
 
 /// One pattern, or else the other.
 pub fn alt(alloc: Global, left: &Value, right: &Value) -> Result<Value, Fault>
-    ensures value { (w : MW) → AnswersAs (answer_map value_of result) w (alt_op codes_of (value_of left.now) (value_of right.now) w) }
+    ensures value { (w : MW)
+        → AnswersAs (answer_map value_of result) w
+        (alt_op codes_of (value_of left.now) (value_of right.now) w) }
     ensures stop { IfStopped result (λ stop. stop ≡ NoMemory) }
 {
     let first = left.to_pattern(alloc)?;
@@ -25,7 +27,9 @@ pub fn alt(alloc: Global, left: &Value, right: &Value) -> Result<Value, Fault>
 
 /// A pattern with a conditional assignment of what it matches.
 pub fn cond(alloc: Global, value: &Value, name: Name) -> Result<Value, Fault>
-    ensures value { (w : MW) → AnswersAs (answer_map value_of result) w (cond_op codes_of (value_of value.now) (name_of name) w) }
+    ensures value { (w : MW)
+        → AnswersAs (answer_map value_of result) w
+        (cond_op codes_of (value_of value.now) (name_of name) w) }
     ensures stop { IfStopped result (λ stop. stop ≡ NoMemory) }
 {
     let part = value.to_pattern(alloc)?;
@@ -34,7 +38,9 @@ pub fn cond(alloc: Global, value: &Value, name: Name) -> Result<Value, Fault>
 
 /// A pattern with an immediate assignment of what it matches.
 pub fn imm(alloc: Global, value: &Value, name: Name) -> Result<Value, Fault>
-    ensures value { (w : MW) → AnswersAs (answer_map value_of result) w (imm_op codes_of (value_of value.now) (name_of name) w) }
+    ensures value { (w : MW)
+        → AnswersAs (answer_map value_of result) w
+        (imm_op codes_of (value_of value.now) (name_of name) w) }
     ensures stop { IfStopped result (λ stop. stop ≡ NoMemory) }
 {
     let part = value.to_pattern(alloc)?;
@@ -43,7 +49,8 @@ pub fn imm(alloc: Global, value: &Value, name: Name) -> Result<Value, Fault>
 
 /// The name that a value stands for.
 pub fn indir(alloc: Global, value: &Value) -> Result<Name, Fault>
-    ensures name { (w : MW) → AnswersAs (answer_map name_of result) w (indir_op (value_of value.now) w) }
+    ensures name { (w : MW)
+        → AnswersAs (answer_map name_of result) w (indir_op (value_of value.now) w) }
     ensures stop { IfStopped result (λ stop. stop ≡ NoMemory) }
 {
     value.to_name(alloc)

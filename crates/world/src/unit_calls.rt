@@ -3,7 +3,8 @@
 ghost use Rattle.std.specs.Prelude.{◌≡◌, ◌≢◌, ◌⊎◌, Some, None, Ok, length, option_map, IfOk, IfErr, OnOk, OnErr};
 ghost use Rattle.model.specs.Language.Io.{Io};
 ghost use Rattle.model.specs.Deck.Target.{Variable};
-ghost use Rattle.model.specs.Language.Operators.{fetch_op, take_record, as_read, assign_op, splice_op, write_var, print_text};
+ghost use Rattle.model.specs.Language.Operators.{fetch_op, take_record, as_read, assign_op};
+ghost use Rattle.model.specs.Language.Operators.{splice_op, write_var, print_text};
 ghost use Rattle.model.specs.Language.Conversions.{to_text};
 ghost use Rattle.model.specs.Machine.Steps.{MVal};
 ghost use Rattle.model.specs.declared.run.Stop.TheVariants.{NoMemory};
@@ -29,7 +30,8 @@ impl World {
     /// world, and so does the end of a unit.
     pub fn fetch<U: Units>(&mut self, units: &mut U, name: &Name) -> Result<Option<Value>, Fault>
         ensures served { Served U.Units (stopped_by result) units.old units.new (λ io io'.
-            AnswersOrFails (answer_map (option_map value_of) result) (world_of self.new io') (fetch_op (name_of name.now) (world_of self.old io))) }
+            AnswersOrFails (answer_map (option_map value_of) result) (world_of self.new io')
+            (fetch_op (name_of name.now) (world_of self.old io))) }
         ensures err { OnErr result (self.new ≡ self.old) }
         ensures end { result ≡ Ok None → self.new ≡ self.old }
     {
@@ -44,7 +46,8 @@ impl World {
         slot: u32,
     ) -> Result<Option<Value>, Fault>
         ensures served { Served U.Units (stopped_by result) units.old units.new (λ io io'.
-            AnswersOrFails (answer_map (option_map value_of) result) (world_of self.new io') (fetch_op (name_of name.now) (world_of self.old io))) }
+            AnswersOrFails (answer_map (option_map value_of) result) (world_of self.new io')
+            (fetch_op (name_of name.now) (world_of self.old io))) }
         ensures err { OnErr result (self.new ≡ self.old) }
         ensures end { result ≡ Ok None → self.new ≡ self.old }
     {
@@ -64,7 +67,8 @@ impl World {
         slot: u32,
     ) -> Result<Option<Value>, Fault>
         ensures served { Served U.Units (stopped_by result) units.old units.new (λ io io'.
-            AnswersOrFails (answer_map (option_map value_of) result) (world_of self.new io') (fetch_op (Variable name.now) (world_of self.old io))) }
+            AnswersOrFails (answer_map (option_map value_of) result) (world_of self.new io')
+            (fetch_op (Variable name.now) (world_of self.old io))) }
         ensures err { OnErr result (self.new ≡ self.old) }
         ensures end { result ≡ Ok None → self.new ≡ self.old }
     {
@@ -88,7 +92,8 @@ impl World {
         unit: u8,
     ) -> Result<Option<Value>, Fault>
         ensures served { Served U.Units (stopped_by result) units.old units.new (λ io io'.
-            AnswersOrFails (answer_map (option_map value_of) result) (world_of self.new io') (take_record name.now unit (io.left unit) (world_of self.old io))) }
+            AnswersOrFails (answer_map (option_map value_of) result) (world_of self.new io')
+            (take_record name.now unit (io.left unit) (world_of self.old io))) }
         ensures err { OnErr result (self.new ≡ self.old) }
         ensures end { result ≡ Ok None → self.new ≡ self.old }
     {
@@ -101,7 +106,9 @@ impl World {
 
     // A variable takes a record as its value.
     fn take(&mut self, name: &Text, slot: u32, line: Text) -> Result<Option<Value>, Fault>
-        ensures taken { (io : Io) → AnswersOrFails (answer_map (option_map value_of) result) (world_of self.new io) (taken name.now line (world_of self.old io)) }
+        ensures taken { (io : Io)
+            → AnswersOrFails (answer_map (option_map value_of) result) (world_of self.new io)
+            (taken name.now line (world_of self.old io)) }
         ensures stop { IfStopped result (λ stop. stop ≡ NoMemory) }
         ensures err { OnErr result (self.new ≡ self.old) }
         ensures some { IfOk result (λ got. got ≢ None) }
@@ -127,8 +134,8 @@ impl World {
         line.sub(0, end)
     }
 
-    /// Assigns a value to a name. A variable that has a unit writes a record, after it has the value: a fault leaves the
-    /// world, or the variable with that value.
+    /// Assigns a value to a name. A variable that has a unit writes a record, after it has the value: a fault leaves
+    /// the world, or the variable with that value.
     pub fn assign<U: Units>(
         &mut self,
         alloc: Global,
@@ -137,9 +144,11 @@ impl World {
         value: Value,
     ) -> Result<(), Fault>
         ensures served { Served U.Units (stopped_by result) units.old units.new (λ io io'.
-            AnswersAs (done result) (world_of self.new io') (assign_op (name_of name.now) (value_of value) (world_of self.old io))) }
+            AnswersAs (done result) (world_of self.new io')
+            (assign_op (name_of name.now) (value_of value) (world_of self.old io))) }
         ensures ok { OnOk result (IsSet (name_of name.now) (value_of value) self.old self.new) }
-        ensures err { OnErr result (IsSetOrKept (name_of name.now) (value_of value) self.old self.new) }
+        ensures err { OnErr result
+            (IsSetOrKept (name_of name.now) (value_of value) self.old self.new) }
     {
         self.assign_at(alloc, units, name, NO_SLOT, value)
     }
@@ -154,9 +163,11 @@ impl World {
         value: Value,
     ) -> Result<(), Fault>
         ensures served { Served U.Units (stopped_by result) units.old units.new (λ io io'.
-            AnswersAs (done result) (world_of self.new io') (assign_op (name_of name.now) (value_of value) (world_of self.old io))) }
+            AnswersAs (done result) (world_of self.new io')
+            (assign_op (name_of name.now) (value_of value) (world_of self.old io))) }
         ensures ok { OnOk result (IsSet (name_of name.now) (value_of value) self.old self.new) }
-        ensures err { OnErr result (IsSetOrKept (name_of name.now) (value_of value) self.old self.new) }
+        ensures err { OnErr result
+            (IsSetOrKept (name_of name.now) (value_of value) self.old self.new) }
     {
         match name {
             Name::Variable(name) => self.assign_variable(alloc, units, name, slot, value),
@@ -181,9 +192,11 @@ impl World {
         value: Value,
     ) -> Result<(), Fault>
         ensures served { Served U.Units (stopped_by result) units.old units.new (λ io io'.
-            AnswersAs (done result) (world_of self.new io') (assign_op (Variable name.now) (value_of value) (world_of self.old io))) }
+            AnswersAs (done result) (world_of self.new io')
+            (assign_op (Variable name.now) (value_of value) (world_of self.old io))) }
         ensures ok { OnOk result (IsSet (Variable name.now) (value_of value) self.old self.new) }
-        ensures err { OnErr result (IsSetOrKept (Variable name.now) (value_of value) self.old self.new) }
+        ensures err { OnErr result
+            (IsSetOrKept (Variable name.now) (value_of value) self.old self.new) }
     {
         match self.set(name, slot, value)? {
             Some(unit) => self.write(alloc, units, name, slot, unit),
@@ -201,8 +214,11 @@ impl World {
         value: &Value,
     ) -> Result<(), Fault>
         ensures served { Served U.Units (stopped_by result) units.old units.new (λ io io'.
-            AnswersAs (done result) (world_of self.new io') (splice_op (name_of name.now) span.now.subject span.now.start span.now.end (value_of value.now) (world_of self.old io))) }
-        ensures only { (self.new ≡ self.old) ⊎ ((v : MVal) × IsSet (name_of name.now) v self.old self.new) }
+            AnswersAs (done result) (world_of self.new io')
+            (splice_op (name_of name.now) span.now.subject span.now.start span.now.end
+            (value_of value.now) (world_of self.old io))) }
+        ensures only { (self.new ≡ self.old) ⊎
+            ((v : MVal) × IsSet (name_of name.now) v self.old self.new) }
     {
         self.splice_at(alloc, units, name, NO_SLOT, span, value)
     }
@@ -218,8 +234,11 @@ impl World {
         value: &Value,
     ) -> Result<(), Fault>
         ensures served { Served U.Units (stopped_by result) units.old units.new (λ io io'.
-            AnswersAs (done result) (world_of self.new io') (splice_op (name_of name.now) span.now.subject span.now.start span.now.end (value_of value.now) (world_of self.old io))) }
-        ensures only { (self.new ≡ self.old) ⊎ ((v : MVal) × IsSet (name_of name.now) v self.old self.new) }
+            AnswersAs (done result) (world_of self.new io')
+            (splice_op (name_of name.now) span.now.subject span.now.start span.now.end
+            (value_of value.now) (world_of self.old io))) }
+        ensures only { (self.new ≡ self.old) ⊎
+            ((v : MVal) × IsSet (name_of name.now) v self.old self.new) }
     {
         let whole = self.replaced(alloc, span, value)?;
         self.assign_at(alloc, units, name, slot, whole)
@@ -236,7 +255,9 @@ impl World {
         unit: u8,
     ) -> Result<(), Fault>
         ensures served { Served U.Units (stopped_by result) units.old units.new (λ io io'.
-            AnswersAs (done result) (world_of self.now io') (write_var (Some unit) (value_in (variable_at name.now self.now.variables)) (world_of self.now io))) }
+            AnswersAs (done result) (world_of self.now io')
+            (write_var (Some unit) (value_in (variable_at name.now self.now.variables))
+            (world_of self.now io))) }
     {
         if is_zero(&self.keywords, KeyId::Output) {
             return Ok(());
@@ -251,7 +272,8 @@ impl World {
 // Writes a value as a record.
 fn print<U: Units>(alloc: Global, units: &mut U, unit: u8, value: &Value) -> Result<(), Fault>
     ensures served { Served U.Units (stopped_by result) units.old units.new (λ io io'.
-        (h : WorldView) → AnswersAs (done result) (world_of h io') (print_text unit (to_text (value_of value.now)) (world_of h io))) }
+        (h : WorldView) → AnswersAs (done result) (world_of h io')
+        (print_text unit (to_text (value_of value.now)) (world_of h io))) }
 {
     let text = match value.to_text(alloc) {
         Ok(text) => text,

@@ -1,6 +1,7 @@
 //! The world of a run.
 
-ghost use Rattle.std.specs.Prelude.{◌≡◌, [], pos, Some, None, is_some, option_copied, slice_get, IfOk, IfSome, OnOk, OnErr, if◌then◌else◌};
+ghost use Rattle.std.specs.Prelude.{◌≡◌, [], pos, Some, None, is_some, option_copied, slice_get};
+ghost use Rattle.std.specs.Prelude.{IfOk, IfSome, OnOk, OnErr, if◌then◌else◌};
 ghost use Rattle.model.specs.Language.Io.{Io};
 ghost use Rattle.model.specs.Language.Values.{set_var};
 ghost use Rattle.model.specs.Language.Primitives.{set_reads, set_writes};
@@ -8,7 +9,8 @@ ghost use Rattle.model.specs.Language.Keywords.{key_value};
 ghost use Rattle.model.specs.Laws.Agreement.{first_m};
 ghost use Rattle.model.specs.Laws.PrintedBefore.{after_w};
 ghost use Rattle.world.specs.Values.{value_of};
-ghost use Rattle.world.specs.Held.{world_of, name_at, zero_in, variable_at, input_in, output_in, with_variable, pattern_variable, first_patterns, first_variables};
+ghost use Rattle.world.specs.Held.{world_of, name_at, zero_in, variable_at, input_in, output_in};
+ghost use Rattle.world.specs.Held.{with_variable, pattern_variable, first_patterns, first_variables};
 ghost use Rattle.world.specs.declared.value.Value.TheVariants.{String};
 ghost use Rattle.world.specs.declared.world.Variable.{Variable};
 
@@ -94,13 +96,18 @@ impl Model for World {
 
     ghost Value = { WorldView };
 
-    ghost view = { λ w. record { variables = w.variables.entries; objects = w.heap; keys = w.keywords } };
+    ghost view = { λ w. record {
+      variables = w.variables.entries;
+      objects = w.heap;
+      keys = w.keywords;
+    } };
 }
 
 impl World {
     /// The world as a run begins.
     pub fn new(alloc: Global) -> Result<World, AllocError>
-        ensures { IfOk result (λ world. (io : Io) → world_of world io ≡ after_w io.printed (first_m io.left)) }
+        ensures { IfOk result (λ world.
+            (io : Io) → world_of world io ≡ after_w io.printed (first_m io.left)) }
     {
         let Ok(keywords) = Keywords::new(alloc) else {
             return Err(AllocError);
@@ -186,7 +193,9 @@ impl World {
     #[inline]
     fn slot(&self, name: &Text, slot: u32) -> Option<usize>
         ensures there { is_some result ≡ is_some (variable_at name.now self.now.variables) }
-        ensures entry { IfSome result (λ at. (v : Variable) × (slice_get self.now.variables at ≡ Some (name.now, v)) × (variable_at name.now self.now.variables ≡ Some v)) }
+        ensures entry { IfSome result (λ at.
+            (v : Variable) × (slice_get self.now.variables at ≡ Some (name.now, v))
+            × (variable_at name.now self.now.variables ≡ Some v)) }
     {
         let slot = slot as usize;
         if let Some((key, _variable)) = self.variables.get_index(slot) {
@@ -213,7 +222,8 @@ impl World {
     /// The unit that a variable reads from, unless `&INPUT` is 0.
     #[inline]
     pub(crate) fn reads(&self, variable: &Variable) -> Option<u8>
-        ensures { result ≡ (if zero_in (key_value KeyId.Input self.now.keys) then None else variable.now.input) }
+        ensures { result ≡ (if zero_in
+            (key_value KeyId.Input self.now.keys) then None else variable.now.input) }
     {
         let unit = variable.input?;
         if is_zero(&self.keywords, KeyId::Input) {
@@ -230,8 +240,11 @@ impl World {
         slot: u32,
         value: Value,
     ) -> Result<Option<u8>, AllocError>
-        ensures set { OnOk result ((io : Io) → world_of self.new io ≡ set_var name.now (value_of value) (world_of self.old io)) }
-        ensures output { IfOk result (λ unit. unit ≡ output_in (variable_at name.now self.old.variables)) }
+        ensures set { OnOk result
+            ((io : Io) → world_of self.new io
+            ≡ set_var name.now (value_of value) (world_of self.old io)) }
+        ensures output { IfOk result (λ unit.
+            unit ≡ output_in (variable_at name.now self.old.variables)) }
         ensures err { OnErr result (self.new ≡ self.old) }
     {
         let Some(at) = self.slot(name, slot) else {
@@ -250,7 +263,11 @@ impl World {
 
     /// The units that a variable reads from and writes to.
     pub(crate) fn units(&self, name: &Text) -> (Option<u8>, Option<u8>)
-        ensures { result ≡ (input_in (variable_at name.now self.now.variables), output_in (variable_at name.now self.now.variables)) }
+        ensures { result ≡ (
+          input_in (variable_at name.now self.now.variables),
+          output_in
+              (variable_at name.now self.now.variables),
+        ) }
     {
         match self.variables.get(name) {
             Some(variable) => (variable.input, variable.output),
@@ -265,7 +282,9 @@ impl World {
         input: Option<u8>,
         output: Option<u8>,
     ) -> Result<(), AllocError>
-        ensures set { OnOk result ((io : Io) → world_of self.new io ≡ set_writes name.now output (set_reads name.now input (world_of self.old io))) }
+        ensures set { OnOk result
+            ((io : Io) → world_of self.new io
+            ≡ set_writes name.now output (set_reads name.now input (world_of self.old io))) }
         ensures err { OnErr result (self.new ≡ self.old) }
     {
         if let Some(variable) = self.variables.get_mut(name) {

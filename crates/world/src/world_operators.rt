@@ -54,8 +54,12 @@ fn behind(subject: &[u8], place: usize) -> &[u8]
 
 // The subject with the text in the place of the part.
 fn spliced(alloc: Global, span: &Span, text: &[u8], limit: usize) -> Result<Text, StrFault>
-    ensures ok { IfOk result (λ all. all ≡ take span.now.start span.now.subject ++ (text.now ++ drop span.now.end span.now.subject)) }
-    ensures too_long { (result ≡ Err StrFault.TooLong) ↔ (limit < length (take span.now.start span.now.subject ++ (text.now ++ drop span.now.end span.now.subject))) }
+    ensures ok { IfOk result (λ all.
+        all ≡ take span.now.start span.now.subject
+        ++ (text.now ++ drop span.now.end span.now.subject)) }
+    ensures too_long { (result ≡ Err StrFault.TooLong)
+        ↔ (limit < length (take span.now.start span.now.subject
+        ++ (text.now ++ drop span.now.end span.now.subject))) }
 {
     let front = before(span.subject.as_slice(), span.start);
     let back = behind(span.subject.as_slice(), span.end);
@@ -76,7 +80,11 @@ fn spliced(alloc: Global, span: &Span, text: &[u8], limit: usize) -> Result<Text
 impl World {
     /// The subject of a replacement with a value in the place of the part: what is to be assigned.
     pub(crate) fn replaced(&self, alloc: Global, span: &Span, value: &Value) -> Result<Value, Fault>
-        ensures value { (io : Io) (name : Name) → LeadsTo (answer_map value_of result) (world_of self.now io) (λ v. assign_op name v (world_of self.now io)) (splice_op name span.now.subject span.now.start span.now.end (value_of value.now) (world_of self.now io)) }
+        ensures value { (io : Io) (name : Name)
+            → LeadsTo (answer_map value_of result) (world_of self.now io) (λ v.
+            assign_op name v (world_of self.now io))
+            (splice_op name span.now.subject span.now.start span.now.end (value_of value.now)
+            (world_of self.now io)) }
         ensures stop { IfStopped result (λ stop. stop ≡ NoMemory) }
     {
         let text = value.to_text(alloc)?;
@@ -87,7 +95,9 @@ impl World {
     /// Two values one after the other. The null string gives the other, unconverted. Bytes of the left one that nothing
     /// else shares aren't copied while they have room.
     pub fn cat(&self, alloc: Global, left: Value, right: Value) -> Result<Value, Fault>
-        ensures value { (io : Io) → AnswersAs (answer_map value_of result) (world_of self.now io) (cat_op codes_of (value_of left) (value_of right) (world_of self.now io)) }
+        ensures value { (io : Io)
+            → AnswersAs (answer_map value_of result) (world_of self.now io)
+            (cat_op codes_of (value_of left) (value_of right) (world_of self.now io)) }
         ensures stop { IfStopped result (λ stop. stop ≡ NoMemory) }
     {
         if left.is_null() {
@@ -109,7 +119,9 @@ impl World {
 
     /// The value of a keyword.
     pub fn keyword(&self, id: KeyId) -> Result<Value, Fault>
-        ensures value { (io : Io) → AnswersAs (answer_map value_of result) (world_of self.now io) (keyget_op id (world_of self.now io)) }
+        ensures value { (io : Io)
+            → AnswersAs (answer_map value_of result) (world_of self.now io)
+            (keyget_op id (world_of self.now io)) }
         ensures stop { IfStopped result (λ stop. stop ≡ NoMemory) }
     {
         match self.keywords.get(id) {
@@ -120,7 +132,8 @@ impl World {
 
     /// Assigns to a keyword; a refused assignment changes nothing.
     pub fn set_keyword(&mut self, id: KeyId, value: &Value) -> Result<(), ErrorCode>
-        ensures { (io : Io) → op_of (done result) (world_of self.new io) ≡ keyset_op id (value_of value.now) (world_of self.old io) }
+        ensures { (io : Io) → op_of (done result) (world_of self.new io)
+            ≡ keyset_op id (value_of value.now) (world_of self.old io) }
     {
         let n = value.to_int()?;
         let Ok(()) = self.keywords.set(id, n) else {
@@ -136,7 +149,10 @@ impl World {
         subject: &Value,
         pattern: &Value,
     ) -> Result<Begun, Fault>
-        ensures begun { (io : Io) → AnswersAs (answer_map begun_of result) (world_of self.now io) (match_op codes_of (value_of subject.now) (value_of pattern.now) (world_of self.now io)) }
+        ensures begun { (io : Io)
+            → AnswersAs (answer_map begun_of result) (world_of self.now io)
+            (match_op codes_of (value_of subject.now) (value_of pattern.now)
+            (world_of self.now io)) }
         ensures stop { IfStopped result (λ stop. stop ≡ NoMemory) }
     {
         let subject = subject.to_text(alloc)?;
