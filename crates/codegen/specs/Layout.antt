@@ -2,6 +2,7 @@
 use Rattle.std.specs.Prelude.{ℕ, zero, suc, ◌+◌, List, [], ◌∷◌, ◌++◌, length, Option, Some, None}
 use Rattle.model.specs.declared.image.Image.{Image}
 use Rattle.model.specs.declared.image.Label as image
+use Rattle.model.specs.declared.image.Level.TheVariants as levels
 use Rattle.model.specs.declared.instr.Instr.{Instr}
 use Rattle.model.specs.declared.instr.Instr.TheVariants as op
 use Rattle.model.specs.declared.instr.ReturnKind.{ReturnKind}
@@ -130,15 +131,18 @@ code_of ss = joined (statements_of ss) >> joined (expressions_of ss)
 abbrev pub texts_of : List Stmt → List Bytes
 texts_of ss = with_texts (label_texts ss) (with_texts (code_of ss).texts [])
 
-abbrev pub image_of : List Stmt → Image
-image_of ss =
+-- the image of a program whose statements begin at these cards
+abbrev pub image_of : (cards : List ℕ) → List Stmt → Image
+image_of cards ss =
     let texts : List Bytes = texts_of ss in
     let statements : Part = joined (statements_of ss) in
     record {
+      level = levels.Two;
       entry = entry_in ss (entry_label ss);
       strings = texts;
       labels = labels texts 1 ss;
       statements = offsets (statements_of ss) texts 0 0;
+      cards = cards;
       expressions = offsets (expressions_of ss) texts (length statements.later) (total (statements.code texts 0 0));
       patterns = [];
       code = (code_of ss).code texts 0 0;

@@ -4,6 +4,7 @@ use Rattle.std.specs.Prelude.{nat_lt}
 use Rattle.std.specs.List.{Contains, list_any}
 use Rattle.model.specs.declared.format.ModuleFault.{ModuleFault}
 use Rattle.model.specs.declared.format.ModuleRule.TheVariants.{BadIndex, BadTarget, NoEnd}
+use Rattle.model.specs.declared.format.Version.TheVariants as versions
 use Rattle.model.specs.declared.image.Image.{Image}
 use Rattle.model.specs.declared.image.Label.{Label}
 use Rattle.model.specs.declared.instr.Instr.{Instr}
@@ -193,7 +194,7 @@ last_is (Plain l b g ∷ ss) ends = let (j, e, h, c) = last_is ss ends in (suc j
 
 module _ (ss : List Stmt) (fit : IsFit ss) where
   abbrev im : Image
-  im = image_of ss
+  im = image_of [] ss
 
   sound : IsSound (Fits im) im
   sound = is_sound ss fit.ends fit.statements
@@ -243,11 +244,11 @@ module _ (ss : List Stmt) (fit : IsFit ss) where
       code_fine im sound o code.0 new code.1 pos
 
   -- the law
-  pub parts : part_fault im ≡ None
+  pub parts : part_fault versions.Two im ≡ None
   parts =
       let a = entry_fine in
-      let b = labels_fine im 1 ss (statement_there ss fit.ends fit.statements) (all_held (label_texts ss) (with_texts (code_of ss).texts [])) [] [] tt fit.labels (labels_at im) in
-      let c = statements_fine (statements_at im) in
-      let d = expressions_fine (expressions_at im) in
-      let e = instructions_fine (code_at im) in
-      (λ i. first (told entry_at (a i)) (first (b i) (first (c i) (first (d i) (first None (e i))))))
+      let b = labels_fine im 1 ss (statement_there ss fit.ends fit.statements) (all_held (label_texts ss) (with_texts (code_of ss).texts [])) [] [] tt fit.labels (labels_at versions.Two im) in
+      let c = statements_fine (statements_at versions.Two im) in
+      let d = expressions_fine (expressions_at versions.Two im) in
+      let e = instructions_fine (code_at versions.Two im) in
+      (λ i. first (told (entry_at versions.Two) (a i)) (first (b i) (first (c i) (first (d i) (first None (e i))))))

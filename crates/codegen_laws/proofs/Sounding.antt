@@ -215,7 +215,7 @@ statements_end f texts n (Plain l b g ∷ ss) ends k p =
 
 module _ (ss : List Stmt) (ends : EndsInEnd ss) (fit : AllByRecursion FitStmt ss) where
   abbrev im : Image
-  im = image_of ss
+  im = image_of [] ss
 
   abbrev first : Part
   first = joined (statements_of ss)

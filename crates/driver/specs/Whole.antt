@@ -3,6 +3,7 @@ use Rattle.std.specs.Prelude.{◌≡◌, ℕ, ◌+◌, ◌*◌, ◌≤◌, List,
 use Rattle.model.specs.declared.run.Ending.{Ending}
 use Rattle.model.specs.declared.image.Image.{Image}
 use Rattle.model.specs.declared.run.Status.{Status}
+use Rattle.model.specs.Cards.{first_cards}
 use Rattle.model.specs.Agreement.{Agrees, Inputs, IsBeginning, Records, Seen, mach, mean}
 use Rattle.model.specs.PrintedBefore.{seen_after}
 use Rattle.model.specs.Faults.{verdict, Accepted}
@@ -21,7 +22,7 @@ pub record IsRunOf (deck : List ℕ) (bound : ℕ) (status : Status) (before aft
   pub statements : List Stmt
   pub trees : verdict deck ≡ Accepted statements
   pub image : Image
-  pub generated : image ≡ image_of statements
+  pub generated : image ≡ image_of (first_cards deck) statements
   pub agrees : Agrees statements image
   pub in_time : EndsInTime statements image
   pub run : IfRan status (IfTold before after (λ io io'. record { ending = ending_of status; printed = io'.printed } ≡ seen_after io.printed (mach image io.left bound)))

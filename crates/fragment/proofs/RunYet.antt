@@ -203,13 +203,13 @@ none_left ss e = none_queued (weights.total weights.weight ss) (joined (statemen
 
 -- ---- the laws
 
-pub run_yet : (ss : List Stmt) → not_yet 1 ss ≡ [] → AreRunYet (image_of ss).code
-run_yet ss e =
+pub run_yet : (cards : List ℕ) (ss : List Stmt) → not_yet 1 ss ≡ [] → AreRunYet (image_of cards ss).code
+run_yet cards ss e =
     let first : RunsYet (joined (statements_of ss)) = statements_run (labelled_from 1 ss) 1 ss e in
     let last : RunsYet (joined (expressions_of ss)) = subst (λ ps. RunsYet (joined ps)) (sym (none_left ss e)) none in
     (both first last).code (texts_of ss) 0 0
 
-pub evaluated : (ss : List Stmt) → not_yet 1 ss ≡ [] → (image_of ss).expressions ≡ []
-evaluated ss e =
+pub evaluated : (cards : List ℕ) (ss : List Stmt) → not_yet 1 ss ≡ [] → (image_of cards ss).expressions ≡ []
+evaluated cards ss e =
     let first : Part = joined (statements_of ss) in
     ap (λ ps. offsets ps (texts_of ss) (length first.later) (total (first.code (texts_of ss) 0 0))) (none_left ss e)

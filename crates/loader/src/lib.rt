@@ -1,7 +1,8 @@
 //! From bytes to a checked module, as the machine reads it.
 //!
 //! `load(alloc, bytes)` gives a `Module` or the fault that is told: F1 to F7 of the bytes, W1 to W5 of the image. A
-//! module is read by offset (`instr`), by number (`statement`, `string`, ..) and by name (`label`).
+//! module is read by offset (`instr`), by number (`statement`, `card`, `string`, ..) and by name (`label`).
+//! `load_v1` gives the image of bytes that were written in version 1 of the format.
 //!
 //! Promised: bytes are accepted exactly if they spell a well-formed image of instructions that run yet (`runs_yet`),
 //! want of memory aside; else the one defined fault is told. So a `Module` is well-formed by its type. CALLING.md has
@@ -20,6 +21,6 @@ mod places;
 mod tables;
 
 pub use code::{Found, has_primitive, runs_yet};
-pub use loading::load;
+pub use loading::{load, load_v1};
 pub use module::Module;
 pub use names::return_of;

@@ -4,6 +4,7 @@ use Rattle.std.proofs.lemmas.Bool.{ltb-true}
 use Rattle.std.proofs.lemmas.Option.{slice_get-get_or}
 use Rattle.model.specs.declared.format.ModuleRule.{ModuleRule}
 use Rattle.model.specs.declared.format.ModuleRule.TheVariants.{BadIndex}
+use Rattle.model.specs.declared.format.Version.TheVariants as versions
 use Rattle.model.specs.declared.image.Image.{Image}
 use Rattle.model.specs.declared.image.PatInstr.{PatInstr}
 use Rattle.model.specs.declared.image.PatInstr.TheVariants as part
@@ -98,12 +99,12 @@ module _ (im : Image) where
 
   code_fits : IsWellFormed im → (at : ℕ) → Fits (fetch_from 0 im.code at)
   code_fits w at =
-      let labels = scan (λ front at l. told at (label_rule im front l)) (λ l. 8) [] (labels_at im) im.labels in
-      let statements = scan (λ front at o. told at (statement_rule im front o)) (λ o. 4) [] (statements_at im) im.statements in
-      let expressions = scan (λ front at o. told at (expression_rule im front o)) (λ o. 4) [] (expressions_at im) im.expressions in
-      let patterns = scan (pattern_fault im) pattern_bytes [] (patterns_at im) im.patterns in
-      each_fits [] (code_at im) im.code 0 at
-      (first_right patterns _ (first_right expressions _ (first_right statements _ (first_right labels _ (first_right (told entry_at (entry_rule im)) _ w.parts)))))
+      let labels = scan (λ front at l. told at (label_rule im front l)) (λ l. 8) [] (labels_at versions.Two im) im.labels in
+      let statements = scan (λ front at o. told at (statement_rule im front o)) (λ o. 4) [] (statements_at versions.Two im) im.statements in
+      let expressions = scan (λ front at o. told at (expression_rule im front o)) (λ o. 4) [] (expressions_at versions.Two im) im.expressions in
+      let patterns = scan (pattern_fault im) pattern_bytes [] (patterns_at versions.Two im) im.patterns in
+      each_fits [] (code_at versions.Two im) im.code 0 at
+      (first_right patterns _ (first_right expressions _ (first_right statements _ (first_right labels _ (first_right (told (entry_at versions.Two) (entry_rule im)) _ w.parts)))))
 
   pub well_formed_in : IsWellFormed im → ModuleIn (length im.expressions) (module_of im)
   well_formed_in w = image_in (length im.expressions) im (λ at next k e. ltb-true k (length im.expressions) (subst Fits e (code_fits w at)))

@@ -6,6 +6,8 @@ use Rattle.std.proofs.lemmas.Bool.Decides.{nat_tests}
 use Rattle.model.specs.declared.format.ModuleFault.{ModuleFault}
 use Rattle.model.specs.declared.format.ModuleRule.{ModuleRule}
 use Rattle.model.specs.declared.format.ModuleRule.TheVariants.{BadIndex, BadTarget, BadFlow, BadJump, NoEnd}
+use Rattle.model.specs.declared.format.Version.{Version}
+use Rattle.model.specs.declared.format.Version.TheVariants as versions
 use Rattle.model.specs.declared.image.Image.{Image}
 use Rattle.model.specs.declared.image.PatInstr.{PatInstr}
 use Rattle.model.specs.declared.image.PatInstr.TheVariants as pats
@@ -150,7 +152,7 @@ some_pat_bytes : (i : PatInstr) → 0 < pat_bytes i
 some_pat_bytes (pats.Len n) = omega arith
 some_pat_bytes _ = omega arith
 
-module _ (im : Image) where
+module _ (v : Version) (im : Image) where
   rule_is : (r : ModuleRule) (b : Bool) (f : ModuleFault) → rule r b ≡ Some f.rule → r ≡ f.rule
   rule_is r true f e = absurd (cc)
   rule_is r false f e = cc
@@ -208,71 +210,71 @@ module _ (im : Image) where
       (omega (arith, w), omega (arith, w))
 
   abbrev Labels : Faults
-  Labels = Among (λ front at l. IsAt at (label_rule im front l)) (λ l. 8) (labels_at im) im.labels
+  Labels = Among (λ front at l. IsAt at (label_rule im front l)) (λ l. 8) (labels_at v im) im.labels
 
   abbrev Statements : Faults
-  Statements = Among (λ front at o. IsAt at (statement_rule im front o)) (λ o. 4) (statements_at im) im.statements
+  Statements = Among (λ front at o. IsAt at (statement_rule im front o)) (λ o. 4) (statements_at v im) im.statements
 
   abbrev Expressions : Faults
-  Expressions = Among (λ front at o. IsAt at (expression_rule im front o)) (λ o. 4) (expressions_at im) im.expressions
+  Expressions = Among (λ front at o. IsAt at (expression_rule im front o)) (λ o. 4) (expressions_at v im) im.expressions
 
   abbrev Patterns : Faults
-  Patterns = Among (InPattern im) pattern_bytes (patterns_at im) im.patterns
+  Patterns = Among (InPattern im) pattern_bytes (patterns_at v im) im.patterns
 
   abbrev Code : Faults
-  Code = Among (InInstr im) bytes (code_at im) im.code
+  Code = Among (InInstr im) bytes (code_at v im) im.code
 
   -- each part stands before the next one
-  from_code : AtLeast (code_at im) Code
-  from_code = from_within _ _ Code (within_among (instr_fault im) bytes (InInstr im) least_in_instr within_instr (code_at im) im.code)
+  from_code : AtLeast (code_at v im) Code
+  from_code = from_within _ _ Code (within_among (instr_fault im) bytes (InInstr im) least_in_instr within_instr (code_at v im) im.code)
 
-  in_patterns : Within (patterns_at im) (sum (map pattern_bytes im.patterns)) Patterns
-  in_patterns = within_among (pattern_fault im) pattern_bytes (InPattern im) least_in_pattern within_pattern (patterns_at im) im.patterns
+  in_patterns : Within (patterns_at v im) (sum (map pattern_bytes im.patterns)) Patterns
+  in_patterns = within_among (pattern_fault im) pattern_bytes (InPattern im) least_in_pattern within_pattern (patterns_at v im) im.patterns
 
-  from_patterns : AtLeast (patterns_at im) (λ f. Patterns f ⊎ Code f)
-  from_patterns = from_either (patterns_at im) Patterns Code (from_within _ _ Patterns in_patterns) (from_later (patterns_at im) (code_at im) Code (omega arith) from_code)
+  from_patterns : AtLeast (patterns_at v im) (λ f. Patterns f ⊎ Code f)
+  from_patterns = from_either (patterns_at v im) Patterns Code (from_within _ _ Patterns in_patterns) (from_later (patterns_at v im) (code_at v im) Code (omega arith) from_code)
 
-  in_expressions : Within (expressions_at im) (4 * length im.expressions) Expressions
-  in_expressions = within_table 4 (omega arith) (expression_rule im) (expressions_at im) im.expressions
+  in_expressions : Within (expressions_at v im) (4 * length im.expressions) Expressions
+  in_expressions = within_table 4 (omega arith) (expression_rule im) (expressions_at v im) im.expressions
 
-  from_expressions : AtLeast (expressions_at im) (λ f. Expressions f ⊎ (Patterns f ⊎ Code f))
-  from_expressions = from_either (expressions_at im) Expressions _ (from_within _ _ Expressions in_expressions) (from_later (expressions_at im) (patterns_at im) _ (omega arith) from_patterns)
+  from_expressions : AtLeast (expressions_at v im) (λ f. Expressions f ⊎ (Patterns f ⊎ Code f))
+  from_expressions = from_either (expressions_at v im) Expressions _ (from_within _ _ Expressions in_expressions) (from_later (expressions_at v im) (patterns_at v im) _ (omega arith) from_patterns)
 
-  in_statements : Within (statements_at im) (4 * length im.statements) Statements
-  in_statements = within_table 4 (omega arith) (statement_rule im) (statements_at im) im.statements
+  in_statements : Within (statements_at v im) (4 * length im.statements) Statements
+  in_statements = within_table 4 (omega arith) (statement_rule im) (statements_at v im) im.statements
 
-  from_statements : AtLeast (statements_at im) (λ f. Statements f ⊎ (Expressions f ⊎ (Patterns f ⊎ Code f)))
-  from_statements = from_either (statements_at im) Statements _ (from_within _ _ Statements in_statements) (from_later (statements_at im) (expressions_at im) _ (omega arith) from_expressions)
+  from_statements : AtLeast (statements_at v im) (λ f. Statements f ⊎ (Expressions f ⊎ (Patterns f ⊎ Code f)))
+  from_statements = from_either (statements_at v im) Statements _ (from_within _ _ Statements in_statements) (from_later (statements_at v im) (expressions_at v im) _ (omega arith) from_expressions)
 
-  in_labels : Within (labels_at im) (8 * length im.labels) Labels
-  in_labels = within_table 8 (omega arith) (label_rule im) (labels_at im) im.labels
+  in_labels : Within (labels_at v im) (8 * length im.labels) Labels
+  in_labels = within_table 8 (omega arith) (label_rule im) (labels_at v im) im.labels
 
-  from_labels : AtLeast (labels_at im) (λ f. Labels f ⊎ (Statements f ⊎ (Expressions f ⊎ (Patterns f ⊎ Code f))))
-  from_labels = from_either (labels_at im) Labels _ (from_within _ _ Labels in_labels) (from_later (labels_at im) (statements_at im) _ (omega arith) from_statements)
+  from_labels : AtLeast (labels_at v im) (λ f. Labels f ⊎ (Statements f ⊎ (Expressions f ⊎ (Patterns f ⊎ Code f))))
+  from_labels = from_either (labels_at v im) Labels _ (from_within _ _ Labels in_labels) (from_later (labels_at v im) (statements_at v im) _ (omega arith) from_statements)
 
   abbrev Parts : Faults
-  Parts f = IsAt entry_at (entry_rule im) f ⊎ (Labels f ⊎ (Statements f ⊎ (Expressions f ⊎ (Patterns f ⊎ Code f))))
+  Parts f = IsAt (entry_at v) (entry_rule im) f ⊎ (Labels f ⊎ (Statements f ⊎ (Expressions f ⊎ (Patterns f ⊎ Code f))))
 
-  least_parts : IsLeastOf Parts (part_fault im)
+  least_parts : IsLeastOf Parts (part_fault v im)
   least_parts =
-      least_join _ _ _ _ (within_before entry_at 1 (labels_at im) _ _ (omega arith) (within_at entry_at 1 (entry_rule im) (omega arith)) from_labels) (least_at entry_at (entry_rule im))
-      (least_join _ _ _ _ (within_before (labels_at im) (8 * length im.labels) (statements_at im) _ _ (omega arith) in_labels from_statements) (least_table 8 (omega arith) (label_rule im) (labels_at im) im.labels)
-      (least_join _ _ _ _ (within_before (statements_at im) (4 * length im.statements) (expressions_at im) _ _ (omega arith) in_statements from_expressions) (least_table 4 (omega arith) (statement_rule im) (statements_at im) im.statements)
-      (least_join _ _ _ _ (within_before (expressions_at im) (4 * length im.expressions) (patterns_at im) _ _ (omega arith) in_expressions from_patterns) (least_table 4 (omega arith) (expression_rule im) (expressions_at im) im.expressions)
-      (least_join _ _ _ _ (within_before (patterns_at im) (sum (map pattern_bytes im.patterns)) (code_at im) _ _ (omega arith) in_patterns from_code)
-      (least_among (pattern_fault im) pattern_bytes (InPattern im) least_in_pattern within_pattern (patterns_at im) im.patterns)
-      (least_among (instr_fault im) bytes (InInstr im) least_in_instr within_instr (code_at im) im.code)))))
+      least_join _ _ _ _ (within_before (entry_at v) 1 (labels_at v im) _ _ (omega arith) (within_at (entry_at v) 1 (entry_rule im) (omega arith)) from_labels) (least_at (entry_at v) (entry_rule im))
+      (least_join _ _ _ _ (within_before (labels_at v im) (8 * length im.labels) (statements_at v im) _ _ (omega arith) in_labels from_statements) (least_table 8 (omega arith) (label_rule im) (labels_at v im) im.labels)
+      (least_join _ _ _ _ (within_before (statements_at v im) (4 * length im.statements) (expressions_at v im) _ _ (omega arith) in_statements from_expressions) (least_table 4 (omega arith) (statement_rule im) (statements_at v im) im.statements)
+      (least_join _ _ _ _ (within_before (expressions_at v im) (4 * length im.expressions) (patterns_at v im) _ _ (omega arith) in_expressions from_patterns) (least_table 4 (omega arith) (expression_rule im) (expressions_at v im) im.expressions)
+      (least_join _ _ _ _ (within_before (patterns_at v im) (sum (map pattern_bytes im.patterns)) (code_at v im) _ _ (omega arith) in_patterns from_code)
+      (least_among (pattern_fault im) pattern_bytes (InPattern im) least_in_pattern within_pattern (patterns_at v im) im.patterns)
+      (least_among (instr_fault im) bytes (InInstr im) least_in_instr within_instr (code_at v im) im.code)))))
 
 -- ---- with the flow
 
-abbrev InFlowAt : Image → Faults
-InFlowAt im f = (at : ℕ) × BreaksFlow im at × (f ≡ record { offset = code_at im + at; rule = BadFlow })
+abbrev InFlowAt : Version → Image → Faults
+InFlowAt v im f = (at : ℕ) × BreaksFlow im at × (f ≡ record { offset = code_at v im + at; rule = BadFlow })
 
-least_flow : (im : Image) (flow : Option ℕ) → IsLeast (BreaksFlow im) flow → IsLeastOf (InFlowAt im) (flow_fault im flow)
-least_flow im None h = λ f (at, b, e). h at b
-least_flow im (Some n) h = ((n, h.0, refl), λ g (at, b, e). subst (NotAfter (record { offset = code_at im + n; rule = BadFlow })) (sym e) (by at (h.1 at b)))
+least_flow : (v : Version) (im : Image) (flow : Option ℕ) → IsLeast (BreaksFlow im) flow → IsLeastOf (InFlowAt v im) (flow_fault v im flow)
+least_flow v im None h = λ f (at, b, e). h at b
+least_flow v im (Some n) h = ((n, h.0, refl), λ g (at, b, e). subst (NotAfter (record { offset = code_at v im + n; rule = BadFlow })) (sym e) (by at (h.1 at b)))
   where
-    by : (at : ℕ) → n ≤ at → NotAfter (record { offset = code_at im + n; rule = BadFlow }) (record { offset = code_at im + at; rule = BadFlow })
+    by : (at : ℕ) → n ≤ at → NotAfter (record { offset = code_at v im + n; rule = BadFlow }) (record { offset = code_at v im + at; rule = BadFlow })
     by at le = elim (cases_lt n at) [ inl lt ↦ inl (omega (arith, lt)) | inr ge ↦ inr (omega (arith, le, ge), omega arith) ]
 
 -- the one that comes first isn't after the other
@@ -307,8 +309,8 @@ least_lesser P Q (Some f) (Some g) h k = elim (chosen f g) [
   | inr (e, n) ↦ rw e (inl h.0, λ i s. elim s [ inl p ↦ h.1 i p | inr q ↦ not_after f g i n (k.1 i q) ])
 ]
 
-module _ (im : Image) where
-  to_has : (f : ModuleFault) → Parts im f ⊎ InFlowAt im f → Has im f
+module _ (v : Version) (im : Image) where
+  to_has : (f : ModuleFault) → Parts v im f ⊎ InFlowAt v im f → Has v im f
   to_has f (inl (inl h)) = InEntry h
   to_has f (inl (inr (inl h))) = InLabels h
   to_has f (inl (inr (inr (inl h)))) = InStatements h
@@ -317,7 +319,7 @@ module _ (im : Image) where
   to_has f (inl (inr (inr (inr (inr (inr h)))))) = InCode h
   to_has f (inr (at, b, q)) = InFlow at b q
 
-  of_has : (f : ModuleFault) → Has im f → Parts im f ⊎ InFlowAt im f
+  of_has : (f : ModuleFault) → Has v im f → Parts v im f ⊎ InFlowAt v im f
   of_has f (InEntry h) = inl (inl h)
   of_has f (InLabels h) = inl (inr (inl h))
   of_has f (InStatements h) = inl (inr (inr (inl h)))
@@ -327,21 +329,63 @@ module _ (im : Image) where
   of_has f (InFlow at b q) = inr (at, b, q)
 
 pub least_is_told : LeastIsTold
-least_is_told im fault (flow, least, e) =
-    subst (IsLeastOf (Has im)) (sym e)
-    (least_same _ (Has im) (lesser (part_fault im) (flow_fault im flow)) (to_has im) (of_has im) (least_lesser _ (InFlowAt im) (part_fault im) (flow_fault im flow) (least_parts im) (least_flow im flow least)))
+least_is_told v im fault (flow, least, e) =
+    subst (IsLeastOf (Has v im)) (sym e)
+    (least_same _ (Has v im) (lesser (part_fault v im) (flow_fault v im flow)) (to_has v im) (of_has v im) (least_lesser _ (InFlowAt v im) (part_fault v im) (flow_fault v im flow) (least_parts v im) (least_flow v im flow least)))
+
+-- ---- an image without faults has none in either version
+
+both_none : {A : Type 0} (x y : Option A) → first x y ≡ None → (x ≡ None) × (y ≡ None)
+both_none None y e = (refl, e)
+both_none (Some x) y e = absurd (cc)
+
+none_both : {A : Type 0} (x y : Option A) → x ≡ None → y ≡ None → first x y ≡ None
+none_both x y e f = rw (e, f) refl
+
+told_elsewhere : (at place : ℕ) (r : Option ModuleRule) → told at r ≡ None → told place r ≡ None
+told_elsewhere at place None e = refl
+told_elsewhere at place (Some r) e = absurd (cc)
+
+-- parts that are fine at one place are fine at another
+module _ {A : Type 0} (fault : List A → ℕ → A → Option ModuleFault) (width : A → ℕ) (elsewhere : (front : List A) (at place : ℕ) (x : A) → fault front at x ≡ None → fault front place x ≡ None) where
+  scan_elsewhere : (front : List A) (at place : ℕ) (xs : List A) → scan fault width front at xs ≡ None → scan fault width front place xs ≡ None
+  scan_elsewhere front at place [] e = refl
+  scan_elsewhere front at place (x ∷ xs) e =
+      let n = both_none (fault front at x) (scan fault width (front ++ x ∷ []) (at + width x) xs) e in
+      none_both _ _ (elsewhere front at place x n.0) (scan_elsewhere (front ++ x ∷ []) (at + width x) (place + width x) xs n.1)
+
+rule_elsewhere : {A : Type 0} (broken : List A → A → Option ModuleRule) (k at place : ℕ) (xs : List A)
+    → scan (λ front at x. told at (broken front x)) (λ x. k) [] at xs ≡ None → scan (λ front at x. told at (broken front x)) (λ x. k) [] place xs ≡ None
+rule_elsewhere broken k at place xs e = scan_elsewhere (λ front at x. told at (broken front x)) (λ x. k) (λ front at place x. told_elsewhere at place (broken front x)) [] at place xs e
+
+pub fine_in_each : (v w : Version) (im : Image) → part_fault v im ≡ None → part_fault w im ≡ None
+fine_in_each v w im e =
+    let a = both_none _ _ e in
+    let b = both_none _ _ a.1 in
+    let c = both_none _ _ b.1 in
+    let d = both_none _ _ c.1 in
+    let f = both_none _ _ d.1 in
+    none_both _ _ (told_elsewhere (entry_at v) (entry_at w) (entry_rule im) a.0)
+    (none_both _ _ (rule_elsewhere (label_rule im) 8 (labels_at v im) (labels_at w im) im.labels b.0)
+    (none_both _ _ (rule_elsewhere (statement_rule im) 4 (statements_at v im) (statements_at w im) im.statements c.0)
+    (none_both _ _ (rule_elsewhere (expression_rule im) 4 (expressions_at v im) (expressions_at w im) im.expressions d.0)
+    (none_both _ _
+    (scan_elsewhere (pattern_fault im) pattern_bytes
+        (λ front at place is. scan_elsewhere (λ before place i. told place (pat_rule im (length is) before i)) pat_bytes (λ before at place i. told_elsewhere at place (pat_rule im (length is) before i)) [] (at + 4) (place + 4) is)
+        [] (patterns_at v im) (patterns_at w im) im.patterns f.0)
+    (scan_elsewhere (instr_fault im) bytes (λ front at place i. told_elsewhere at place _) [] (code_at v im) (code_at w im) im.code f.1)))))
 
 pub well_formed_has_none : WellFormedHasNone
-well_formed_has_none im w = least_is_told im None (None, w.flow, rw (w.parts) refl)
+well_formed_has_none v im w = least_is_told v im None (None, w.flow, rw (fine_in_each versions.Two v im w.parts) refl)
 
 none_least : (P : Faults) (o : Option ModuleFault) → IsLeastOf P o → ((f : ModuleFault) → P f → ⊥) → o ≡ None
 none_least P None h free = refl
 none_least P (Some f) h free = absurd (free f h.0)
 
 pub none_is_well_formed : NoneIsWellFormed
-none_is_well_formed im free = record {
-  parts = none_least (Parts im) (part_fault im) (least_parts im) (λ f p. free f (to_has im f (inl p)));
-  flow = λ at b. free (record { offset = code_at im + at; rule = BadFlow }) (InFlow at b refl);
+none_is_well_formed v im free = record {
+  parts = fine_in_each v versions.Two im (none_least (Parts v im) (part_fault v im) (least_parts v im) (λ f p. free f (to_has v im f (inl p))));
+  flow = λ at b. free (record { offset = code_at v im + at; rule = BadFlow }) (InFlow at b refl);
 }
 
 -- ---- one alone
@@ -374,4 +418,4 @@ least_once P (Some f) None h k = absurd (k f h.0)
 least_once P (Some f) (Some g) h k = ap Some (both_ways f g (h.1 g k.0) (k.1 f h.0))
 
 pub one_is_told : OneIsTold
-one_is_told im fault other h k = least_once (Has im) fault other (least_is_told im fault h) (least_is_told im other k)
+one_is_told v im fault other h k = least_once (Has v im) fault other (least_is_told v im fault h) (least_is_told v im other k)

@@ -5,6 +5,8 @@ use Rattle.std.specs.List.{list_any, sum}
 use Rattle.model.specs.declared.format.ModuleFault.{ModuleFault}
 use Rattle.model.specs.declared.format.ModuleRule.{ModuleRule}
 use Rattle.model.specs.declared.format.ModuleRule.TheVariants.{BadIndex, BadTarget, BadFlow, BadJump, NoEnd}
+use Rattle.model.specs.declared.format.Version.{Version}
+use Rattle.model.specs.declared.format.Version.TheVariants as versions
 use Rattle.model.specs.declared.image.Image.{Image}
 use Rattle.model.specs.declared.image.Label.{Label}
 use Rattle.model.specs.declared.image.PatInstr.{PatInstr}
@@ -36,24 +38,30 @@ pat_bytes _ = 5
 abbrev pub pattern_bytes : List PatInstr → ℕ
 pattern_bytes is = 4 + sum (map pat_bytes is)
 
--- where the entry stands, and the first entry of each table
-abbrev pub entry_at : ℕ
-entry_at = 6
+-- where the entry stands, and the first entry of each table, in a version of the format
+abbrev pub entry_at : Version → ℕ
+entry_at versions.One = 6
+entry_at versions.Two = 8
 
-abbrev pub labels_at : Image → ℕ
-labels_at im = 10 + 4 + sum (map string_bytes im.strings) + 4
+abbrev pub labels_at : Version → Image → ℕ
+labels_at v im = entry_at v + 4 + 4 + sum (map string_bytes im.strings) + 4
 
-abbrev pub statements_at : Image → ℕ
-statements_at im = labels_at im + 8 * length im.labels + 4
+abbrev pub statements_at : Version → Image → ℕ
+statements_at v im = labels_at v im + 8 * length im.labels + 4
 
-abbrev pub expressions_at : Image → ℕ
-expressions_at im = statements_at im + 4 * length im.statements + 4
+-- how many bytes the cards have
+abbrev pub cards_bytes : Version → Image → ℕ
+cards_bytes versions.One im = 0
+cards_bytes versions.Two im = 4 * length im.statements
 
-abbrev pub patterns_at : Image → ℕ
-patterns_at im = expressions_at im + 4 * length im.expressions + 4
+abbrev pub expressions_at : Version → Image → ℕ
+expressions_at v im = statements_at v im + 4 * length im.statements + cards_bytes v im + 4
 
-abbrev pub code_at : Image → ℕ
-code_at im = patterns_at im + sum (map pattern_bytes im.patterns) + 4
+abbrev pub patterns_at : Version → Image → ℕ
+patterns_at v im = expressions_at v im + 4 * length im.expressions + 4
+
+abbrev pub code_at : Version → Image → ℕ
+code_at v im = patterns_at v im + sum (map pattern_bytes im.patterns) + 4
 
 -- ---- what an index, a name and an offset may be
 
@@ -195,20 +203,20 @@ pattern_fault im front at is = scan (λ before place i. told place (pat_rule im 
 abbrev pub instr_fault : Image → List Instr → ℕ → Instr → Option ModuleFault
 instr_fault im front at i = told at (instr_rule im (total front) (total front + bytes i) i)
 
-abbrev pub part_fault : Image → Option ModuleFault
-part_fault im =
-    first (told entry_at (entry_rule im))
-    (first (scan (λ front at l. told at (label_rule im front l)) (λ l. 8) [] (labels_at im) im.labels)
-    (first (scan (λ front at o. told at (statement_rule im front o)) (λ o. 4) [] (statements_at im) im.statements)
-    (first (scan (λ front at o. told at (expression_rule im front o)) (λ o. 4) [] (expressions_at im) im.expressions)
-    (first (scan (pattern_fault im) pattern_bytes [] (patterns_at im) im.patterns)
-    (scan (instr_fault im) bytes [] (code_at im) im.code)))))
+abbrev pub part_fault : Version → Image → Option ModuleFault
+part_fault v im =
+    first (told (entry_at v) (entry_rule im))
+    (first (scan (λ front at l. told at (label_rule im front l)) (λ l. 8) [] (labels_at v im) im.labels)
+    (first (scan (λ front at o. told at (statement_rule im front o)) (λ o. 4) [] (statements_at v im) im.statements)
+    (first (scan (λ front at o. told at (expression_rule im front o)) (λ o. 4) [] (expressions_at v im) im.expressions)
+    (first (scan (pattern_fault im) pattern_bytes [] (patterns_at v im) im.patterns)
+    (scan (instr_fault im) bytes [] (code_at v im) im.code)))))
 
 -- ---- all conditions
 
-abbrev pub flow_fault : Image → Option ℕ → Option ModuleFault
-flow_fault im None = None
-flow_fault im (Some at) = Some (record { offset = code_at im + at; rule = BadFlow })
+abbrev pub flow_fault : Version → Image → Option ℕ → Option ModuleFault
+flow_fault v im None = None
+flow_fault v im (Some at) = Some (record { offset = code_at v im + at; rule = BadFlow })
 
 abbrev pub number_of : ModuleRule → ℕ
 number_of BadIndex = 1
@@ -226,10 +234,11 @@ lesser None g = g
 lesser (Some f) None = Some f
 lesser (Some f) (Some g) = if comes_first g f then Some g else Some f
 
+-- whichever version its bytes are in
 pub record IsWellFormed (im : Image) : Type 0 where
-  pub parts : part_fault im ≡ None
+  pub parts : part_fault versions.Two im ≡ None
   pub flow : IsLeast (BreaksFlow im) None
 
--- what is told of an image: its least fault, or none
-abbrev pub IsTold : Image → Option ModuleFault → Type 0
-IsTold im fault = (flow : Option ℕ) × IsLeast (BreaksFlow im) flow × (fault ≡ lesser (part_fault im) (flow_fault im flow))
+-- what is told of an image that is spelt in a version: its least fault, or none
+abbrev pub IsTold : Version → Image → Option ModuleFault → Type 0
+IsTold v im fault = (flow : Option ℕ) × IsLeast (BreaksFlow im) flow × (fault ≡ lesser (part_fault v im) (flow_fault v im flow))

@@ -1,7 +1,7 @@
 //! Modules as bytes: the one spelling of an image, and the image that bytes spell.
 //!
 //! `write_image(alloc, &image)` gives the bytes, `read_image(alloc, bytes)` the image or the first fault and its
-//! offset.
+//! offset; `read_image_v1` reads what was written in version 1 of the format.
 //!
 //! Promised: what is written is the image's one spelling (`model`'s `Spelling`); bytes are read exactly where they
 //! spell an image, and else the defined fault F1 to F6 is told at its offset; F7 says that a growth of memory was
@@ -16,5 +16,5 @@ mod strings;
 mod tables;
 mod writing;
 
-pub use reading::read_image;
+pub use reading::{read_image, read_image_v1};
 pub use writing::write_image;
