@@ -12,14 +12,72 @@ ghost use Rattle.statement_machine.specs.Answers.{IsStop};
 ghost use Rattle.statement_machine.specs.Stopped.{IfRan, IfStopped, ending_of};
 ghost use Rattle.statement_machine.specs.Runs.{left_after};
 ghost use Rattle.unit_io.specs.Counts.{Same};
+ghost use Rattle.driver.specs.Cards.{card_told};
 ghost use Rattle.driver.specs.Compiled.{IsModuleOf};
 ghost use Rattle.driver.specs.Whole.{IsInTime, IsMeant};
 
-use loader::load;
-use model::{LoadFault, Status};
+use loader::{Module, load};
+use model::{Ending, LoadFault, Status};
 use statement_machine::run_from_entry;
 use std::alloc::Global;
 use unit_io::Units;
+
+/// How a run came out, and the card where the statement begins that this tells of.
+#[derive(Clone, Copy, Debug)]
+pub struct Ran {
+    /// How it came out.
+    pub status: Status,
+    /// 0 where no card is known, or no statement is told of.
+    pub card: u32,
+}
+
+// The card that is told beside a status.
+fn card_told(program: &Module, status: Status) -> u32
+    requires { IsLoaded program.now }
+    ensures { result ≡ card_told program.now status }
+{
+    match status {
+        Status::Ended(Ending::Error { statement, .. }) => match u32::try_from(statement) {
+            Ok(number) => program.card(number),
+            Err(_) => 0,
+        },
+        Status::Ended(Ending::StLimit { statement }) => program.card(statement),
+        _ => 0,
+    }
+}
+
+/// Runs the module that bytes spell, at most so many steps, or tells why it is refused. The card is the one where the
+/// statement begins that the status tells of.
+pub fn run_with_card<U: Units>(
+    alloc: Global,
+    bytes: &[u8],
+    units: &mut U,
+    bound: u64,
+) -> Result<Ran, LoadFault>
+    ensures refused { IfErr result (λ fault. IsAnswer bytes.now (Err fault)) }
+    ensures untouched { OnErr result (units.new ≡ units.old) }
+    ensures accepted { OnOk result ((m : Image) × (image_of bytes.now ≡ Ok m) × IsLoaded m) }
+    // What was printed is what was printed before, followed by what the machine prints.
+    ensures run { IfOk result (λ ran. (m : Image) → image_of bytes.now ≡ Ok m → IfRan ran.status (IfTold (U.told units.old) (U.told units.new) (λ io io'.
+        record { ending = ending_of ran.status; printed = io'.printed } ≡ seen_after io.printed (mach m io.left bound)))) }
+    // What is left to be read on each unit is what the machine leaves there.
+    ensures left { IfOk result (λ ran. (m : Image) → image_of bytes.now ≡ Ok m → IfRan ran.status (IfTold (U.told units.old) (U.told units.new) (λ io io'. io'.left ≡ left_after m io.left bound))) }
+    // A run that nothing stopped met no failure of a unit.
+    ensures kept { IfOk result (λ ran. IfRan ran.status (Same (U.failures units.old) (U.failures units.new))) }
+    // Of a module that compile_deck wrote, in the words of its deck alone: it ended as the deck's meaning does at some
+    // depth, with exactly that printed, or runs on, and what it printed is a beginning of what the meaning prints.
+    ensures meant { IfOk result (λ ran. (deck : List ℕ) → IsModuleOf deck bytes.now → IsMeant deck ran.status (U.told units.old) (U.told units.new)) }
+    // Where that meaning ends having used r rules, a run of STEPS_PER_RULE * (r + 1) steps or more has ended so.
+    ensures in_time { IfOk result (λ ran. (deck : List ℕ) → IsModuleOf deck bytes.now → IsInTime deck bound ran.status (U.told units.old) (U.told units.new)) }
+    ensures stop { IfOk result (λ ran. IfStopped ran.status (λ stop. IsStop stop (U.failures units.old) (U.failures units.new))) }
+    // The card of the statement at which the run ended by an error or the limit.
+    ensures card { IfOk result (λ ran. (m : Image) → image_of bytes.now ≡ Ok m → ran.card ≡ card_told m ran.status) }
+{
+    let program = load(alloc, bytes)?;
+    let status = run_from_entry(alloc, &program, units, bound);
+    let card = card_told(&program, status);
+    Ok(Ran { status, card })
+}
 
 /// Runs the module that bytes spell, at most so many steps, or tells why it is refused.
 pub fn run_module<U: Units>(
@@ -45,6 +103,6 @@ pub fn run_module<U: Units>(
     ensures in_time { IfOk result (λ status. (deck : List ℕ) → IsModuleOf deck bytes.now → IsInTime deck bound status (U.told units.old) (U.told units.new)) }
     ensures stop { IfOk result (λ status. IfStopped status (λ stop. IsStop stop (U.failures units.old) (U.failures units.new))) }
 {
-    let program = load(alloc, bytes)?;
-    Ok(run_from_entry(alloc, &program, units, bound))
+    let ran = run_with_card(alloc, bytes, units, bound)?;
+    Ok(ran.status)
 }

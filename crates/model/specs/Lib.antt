@@ -50,6 +50,7 @@ pub mod Modules
 pub mod Placed
 pub mod Alike
 pub mod Agreement
+pub mod SameRuns
 pub mod PrintedBefore
 pub mod Told
 pub mod MatchLaws

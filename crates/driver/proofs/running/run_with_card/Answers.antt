@@ -1,4 +1,4 @@
-use Rattle.std.proofs.Common.{◌≡◌, refl, subst, sym, ◌∙◌}
+use Rattle.std.proofs.Common.{◌≡◌, refl, ap, subst, sym, ◌∙◌}
 use Rattle.model.specs.declared.image.Image.{Image}
 use Rattle.model.specs.Agreement.{mach}
 use Rattle.model.specs.PrintedBefore.{seen_after}
@@ -6,8 +6,9 @@ use Rattle.model.specs.Told.{IfTold}
 use Rattle.model.proofs.SpeltNumbers.{ok_is}
 use Rattle.statement_machine.specs.Runs.{left_after}
 use Rattle.statement_machine.specs.Stopped.{IfRan, ending_of}
+use Rattle.driver.specs.Cards.{card_told}
 use Rattle.driver.proofs.WholeRuns.{is_run, is_meant, is_in_time}
-use Rattle.driver.proofs.running.run_module.Goals as goal
+use Rattle.driver.proofs.running.run_with_card.Goals as goal
 
 pub returns-clause-run : goal.returns-clause-run
 returns-clause-run g c = λ m e.
@@ -32,3 +33,8 @@ returns-clause-in_time g c deck m =
     let after = g.U.Units.told c.run_from_entry.new.units in
     let bytes = c.args.bytes.now in
     is_in_time deck c.args.bound c.run_from_entry.result before after (is_run deck bytes bytes c.args.bound c.run_from_entry.result before after refl m (returns-clause-run g c))
+
+pub returns-clause-card : goal.returns-clause-card
+returns-clause-card g c = λ m e.
+    let same : c.in_ok-program.program ≡ m = ok_is c.in_ok-program.program m (sym c.in_ok-program.ensures.loaded.0 ∙ e) in
+    c.card_told.ensures ∙ ap (λ (im : Image). card_told im c.run_from_entry.result) same
