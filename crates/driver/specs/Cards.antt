@@ -1,15 +1,19 @@
 -- The card that is told beside a run's status.
-use Rattle.std.specs.Prelude.{ℕ, pos, negsuc}
+use Rattle.std.specs.Prelude.{ℕ, ℤ, pos, negsuc}
 use Rattle.model.specs.declared.image.Image.{Image}
 use Rattle.model.specs.declared.run.Ending.TheVariants.{Normal, Error, StLimit}
 use Rattle.model.specs.declared.run.Status.{Status}
 use Rattle.model.specs.declared.run.Status.TheVariants.{Running, Ended, Stopped}
 use Rattle.model.specs.Modules.{card_of}
 
+-- the number of a statement, as a keyword has it
+abbrev pub number_in : ℤ → ℕ
+number_in (pos n) = n
+number_in (negsuc n) = 0
+
 -- the number of the statement that a status tells of; 0 where it tells of none
 abbrev pub statement_told : Status → ℕ
-statement_told (Ended (Error e (pos n))) = n
-statement_told (Ended (Error e (negsuc n))) = 0
+statement_told (Ended (Error e k)) = number_in k
 statement_told (Ended (StLimit n)) = n
 statement_told (Ended Normal) = 0
 statement_told Running = 0

@@ -3,6 +3,7 @@
 ghost use Rattle.std.specs.Prelude.{◌≡◌, ℕ, List, Err, Ok, IfErr, IfOk, OnErr, OnOk};
 ghost use Rattle.model.specs.declared.image.Image.{Image};
 ghost use Rattle.model.specs.Agreement.{mach};
+ghost use Rattle.model.specs.Modules.{card_of};
 ghost use Rattle.model.specs.PrintedBefore.{seen_after};
 ghost use Rattle.model.specs.Reading.{image_of};
 ghost use Rattle.model.specs.Told.{IfTold};
@@ -12,7 +13,7 @@ ghost use Rattle.statement_machine.specs.Answers.{IsStop};
 ghost use Rattle.statement_machine.specs.Stopped.{IfRan, IfStopped, ending_of};
 ghost use Rattle.statement_machine.specs.Runs.{left_after};
 ghost use Rattle.unit_io.specs.Counts.{Same};
-ghost use Rattle.driver.specs.Cards.{card_told};
+ghost use Rattle.driver.specs.Cards.{card_told, number_in};
 ghost use Rattle.driver.specs.Compiled.{IsModuleOf};
 ghost use Rattle.driver.specs.Whole.{IsInTime, IsMeant};
 
@@ -31,16 +32,27 @@ pub struct Ran {
     pub card: u32,
 }
 
+// The card of a statement whose number a keyword has.
+fn card_at(program: &Module, statement: i64) -> u32
+    requires { IsLoaded program.now }
+    ensures { result ≡ card_of program.now.cards (number_in statement) }
+{
+    if statement < 0 {
+        return 0;
+    }
+    match u32::try_from(statement.unsigned_abs()) {
+        Ok(number) => program.card(number),
+        Err(_) => 0,
+    }
+}
+
 // The card that is told beside a status.
 fn card_told(program: &Module, status: Status) -> u32
     requires { IsLoaded program.now }
     ensures { result ≡ card_told program.now status }
 {
     match status {
-        Status::Ended(Ending::Error { statement, .. }) => match u32::try_from(statement) {
-            Ok(number) => program.card(number),
-            Err(_) => 0,
-        },
+        Status::Ended(Ending::Error { statement, .. }) => card_at(program, statement),
         Status::Ended(Ending::StLimit { statement }) => program.card(statement),
         _ => 0,
     }
