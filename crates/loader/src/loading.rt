@@ -94,13 +94,15 @@ fn older_answer(alloc: Global, bytes: &[u8]) -> Result<Image, LoadFault>
     }
 }
 
-/// The image of level 1 that bytes of version 1 spell, or why they are refused: the first format fault, or else the least
-/// fault of the conditions, at its offset there. An instruction that doesn't run yet is none. Where a growth was refused
-/// that is told in place of any other answer.
+/// The image of level 1 that bytes of version 1 spell, or why they are refused: the first format fault, or else the
+/// least fault of the conditions, at its offset there. An instruction that doesn't run yet is none. Where a growth was
+/// refused that is told in place of any other answer.
 pub fn load_v1(alloc: Global, bytes: &[u8]) -> Result<Image, LoadFault>
     ensures exact { (result ≡ Err no_memory) ⊎ LoadsIn versions.One bytes.now result }
-    ensures loaded { IfOk result (λ m. (image_in versions.One bytes.now ≡ Ok m) × IsImageIn versions.One m × IsWellFormed m) }
-    ensures accepted { (m : Image) → image_in versions.One bytes.now ≡ Ok m → IsWellFormed m → (result ≡ Ok m) ⊎ (result ≡ Err no_memory) }
+    ensures loaded { IfOk result (λ m.
+        (image_in versions.One bytes.now ≡ Ok m) × IsImageIn versions.One m × IsWellFormed m) }
+    ensures accepted { (m : Image) → image_in versions.One bytes.now ≡ Ok m → IsWellFormed m
+        → (result ≡ Ok m) ⊎ (result ≡ Err no_memory) }
 {
     older_answer(alloc, bytes)
 }
