@@ -29,6 +29,7 @@ pub struct Ran {
 }
 
 // The card of a statement whose number a keyword has.
+#[tactic(auto, using(crate::proofs::CardsTold::no_card))]
 fn card_at(program: &Module, statement: i64) -> u32
     requires { IsLoaded program.now }
     ensures { result ≡ card_of program.now.cards (number_in statement) }
