@@ -2,7 +2,7 @@
 //!
 //! `Stack<T>` holds operands or handlers; `pop_value`, `pop_name`, `pop_span` and `pop_values` take operands off,
 //! `fail` tells where a failure leads. `Matching` is a match with what goes on after it: `advance` makes steps,
-//! `supply` answers.
+//! `supply` answers, with what `answer_of` makes of a value.
 //!
 //!     operands.push(Operand::Value(value))?;
 //!     let value = pop_value(&mut operands);
@@ -11,11 +11,13 @@
 //! tells. Popping asks that such an operand lies on top. CALLING.md has a row for each call.
 #![tactic(auto)]
 
+mod answering;
 mod handler;
 mod matching;
 mod operand;
 mod stack;
 
+pub use answering::answer_of;
 pub use handler::{Caught, Handler, fail, pop_begin, pop_try};
 pub use matching::Matching;
 pub use operand::{Operand, pop_name, pop_span, pop_value, pop_values, top_name};

@@ -12,6 +12,7 @@ ghost use Rattle.world.specs.Held.{world_of, name_at, zero_in, variable_at, inpu
 ghost use Rattle.world.specs.declared.value.Value.TheVariants.{String};
 ghost use Rattle.world.specs.declared.world.Variable.{Variable};
 
+use crate::functions::FunctionTable;
 use crate::value::Value;
 use aggregates::Heap;
 use indexmap::IndexMap;
@@ -76,6 +77,7 @@ impl Variable {
 pub struct World {
     variables: IndexMap<Text, Variable>,
     pub(crate) heap: Heap<Value>,
+    pub(crate) functions: FunctionTable,
     pub(crate) keywords: Keywords,
 }
 
@@ -84,6 +86,7 @@ impl Drop for World {
         let World {
             variables: _,
             heap: _,
+            functions: _,
             keywords: _,
         } = self;
     }
@@ -94,7 +97,7 @@ impl Model for World {
 
     ghost Value = { Held };
 
-    ghost view = { λ w. record { variables = w.variables.entries; objects = w.heap; keys = w.keywords } };
+    ghost view = { λ w. record { variables = w.variables.entries; objects = w.heap; functions = w.functions; keys = w.keywords } };
 }
 
 impl World {
@@ -108,6 +111,7 @@ impl World {
         let mut world = World {
             variables: IndexMap::new(alloc),
             heap: Heap::new(alloc),
+            functions: FunctionTable::new(alloc),
             keywords,
         };
         world.put_patterns(alloc)?;
