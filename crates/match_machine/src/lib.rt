@@ -12,6 +12,7 @@ mod ends;
 mod event;
 mod matcher;
 mod run;
+mod starts;
 mod state;
 mod step;
 mod trail;

@@ -17,4 +17,4 @@ mod single;
 
 pub use code::PatCode;
 pub use instr::{Basic, Instr, Kind, Name};
-pub use set::Set;
+pub use set::{Set, break_at};
