@@ -1,6 +1,7 @@
 //! Prototypes: the texts by which DEFINE, DATA and ARRAY are told what to make.
 //!
-//! `function_prototype(alloc, text)` reads `NAME(ARGUMENT,..)LOCAL,..`, `dimensions` what ARRAY takes, as `0:9,20`. `Names` is a list of names that clones share.
+//! `function_prototype(alloc, text)` reads `NAME(ARGUMENT,..)LOCAL,..`, `type_prototype` what DATA takes, as
+//! `TYPE(FIELD,..)`, `dimensions` what ARRAY takes, as `0:9,20`. `Names` is a list of names that clones share.
 //!
 //! Promised: each is its definition in `model`'s `Prototypes`, for every text; only a refused growth of memory gives
 //! another answer.
@@ -11,7 +12,9 @@ mod function;
 mod listed;
 mod names;
 mod parts;
+mod types;
 
 pub use array::dimensions;
 pub use function::{FunctionPrototype, function_prototype};
 pub use listed::Names;
+pub use types::{TypePrototype, type_prototype};
