@@ -15,7 +15,8 @@ use world::{Fault, Value};
 
 /// The answer that a value is to a match that wants a pattern, a count or bytes.
 pub fn answer_of(alloc: Global, want: Want, value: &Value) -> Result<Answer, Fault>
-    ensures answer { Converts (answer_map match_machine.answer_of result) (answer_of codes_of (want_of want) (value_of value.now)) }
+    ensures answer { Converts (answer_map match_machine.answer_of result)
+        (answer_of codes_of (want_of want) (value_of value.now)) }
     ensures stop { IfStopped result (λ stop. stop ≡ NoMemory) }
 {
     match want {

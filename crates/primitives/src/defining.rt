@@ -35,7 +35,9 @@ pub fn define(
     label: &Value,
     world: &mut World,
 ) -> Result<Outcome, Fault>
-    ensures answer { (io : Io) → ComesTo result (world_of world.new io) (returned (define_row (value_of prototype.now) (value_of label.now) (world_of world.old io))) }
+    ensures answer { (io : Io)
+        → ComesTo result (world_of world.new io)
+        (returned (define_row (value_of prototype.now) (value_of label.now) (world_of world.old io))) }
     ensures stop { IfStopped result (λ stop. stop ≡ NoMemory) }
     ensures unchanged { OnErr result (world.new ≡ world.old) }
 {

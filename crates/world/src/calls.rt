@@ -87,7 +87,8 @@ impl World {
 
     // Each variable gets its argument; a missing one is null.
     fn bind(&mut self, names: &[Text], arguments: &[Value]) -> Result<(), AllocError>
-        ensures { OnOk result ((io : Io) → world_of self.new io ≡ bind_arguments names.now (map value_of arguments.now) (world_of self.old io)) }
+        ensures { OnOk result ((io : Io)
+            → world_of self.new io ≡ bind_arguments names.now (map value_of arguments.now) (world_of self.old io)) }
     {
         let null = Value::null();
         for (number, name) in names.iter().enumerate() {
@@ -99,9 +100,11 @@ impl World {
 
     // Gives the variables back the values at the end, the last one first.
     fn restore(&mut self, names: &[Text], saved: &mut Vec<Value>) -> Result<(), AllocError>
-        ensures values { (below vs : List Item) → Ends saved.old.items names.now below vs → OnOk result (saved.new.items ≡ below) }
+        ensures values { (below vs : List Item) → Ends saved.old.items names.now below vs →
+            OnOk result (saved.new.items ≡ below) }
         ensures restored { (below vs : List Item) → Ends saved.old.items names.now below vs →
-            OnOk result ((io : Io) → world_of self.new io ≡ calls.restore (saved_as names.now vs) (world_of self.old io)) }
+            OnOk result ((io : Io)
+            → world_of self.new io ≡ calls.restore (saved_as names.now vs) (world_of self.old io)) }
     {
         let mut count = names.len();
         while count > 0 {
@@ -114,15 +117,18 @@ impl World {
         Ok(())
     }
 
-    /// Begins a call: puts the values that it changes at the end of `saved`, and gives each argument its value. Reads no
-    /// unit. Without memory the keywords stay as they were.
+    /// Begins a call: puts the values that it changes at the end of `saved`, and gives each argument its value. Reads
+    /// no unit. Without memory the keywords stay as they were.
     pub fn enter_call(
         &mut self,
         prototype: FunctionPrototype,
         arguments: &[Value],
         saved: &mut Vec<Value>,
     ) -> Result<Kept, AllocError>
-        ensures entered { OnOk result ((io : Io) → world_of self.new io ≡ enter_call prototype.name prototype.arguments prototype.locals (map value_of arguments.now) (world_of self.old io)) }
+        ensures entered { OnOk result ((io : Io)
+            → world_of self.new io
+            ≡ enter_call prototype.name prototype.arguments prototype.locals
+            (map value_of arguments.now) (world_of self.old io)) }
         ensures kept { IfOk result (λ kept. IsKept kept prototype saved.old.items saved.new.items self.old) }
     {
         let statement = self.statement();
@@ -141,7 +147,9 @@ impl World {
 
     // What the end of a call gives.
     fn given(&self, alloc: Global, kind: ReturnKind, name: &Text) -> Result<Option<Given>, Fault>
-        ensures given { (io : Io) (c : calls.Kept PCode ℕ) → c.name ≡ name.now → LeavesTo result (world_of self.now io) (back_to_caller kind c (world_of self.now io)) (leave_op kind c (world_of self.now io)) }
+        ensures given { (io : Io) (c : calls.Kept PCode ℕ) → c.name ≡ name.now
+            → LeavesTo result (world_of self.now io)
+            (back_to_caller kind c (world_of self.now io)) (leave_op kind c (world_of self.now io)) }
         ensures stop { IfStopped result (λ stop. stop ≡ NoMemory) }
     {
         match kind {
@@ -162,9 +170,11 @@ impl World {
         kept: &Kept,
         saved: &mut Vec<Value>,
     ) -> Result<(), AllocError>
-        ensures values { (below vs : List Item) → Ends saved.old.items (names_of kept.now.prototype) below vs → OnOk result (saved.new.items ≡ below) }
+        ensures values { (below vs : List Item) → Ends saved.old.items (names_of kept.now.prototype) below vs →
+            OnOk result (saved.new.items ≡ below) }
         ensures back { (below vs : List Item) → Ends saved.old.items (names_of kept.now.prototype) below vs →
-            OnOk result ((io : Io) → world_of self.new io ≡ back_to_caller kind (kept_as kept.now vs) (world_of self.old io)) }
+            OnOk result ((io : Io)
+            → world_of self.new io ≡ back_to_caller kind (kept_as kept.now vs) (world_of self.old io)) }
     {
         self.restore(kept.prototype.names(), saved)?;
         self.put_back(kind, kept.statement, kept.level);
@@ -180,9 +190,11 @@ impl World {
         kept: &Kept,
         saved: &mut Vec<Value>,
     ) -> Result<Option<Given>, Fault>
-        ensures values { (below vs : List Item) → Ends saved.old.items (names_of kept.now.prototype) below vs → OnOk result (saved.new.items ≡ below) }
+        ensures values { (below vs : List Item) → Ends saved.old.items (names_of kept.now.prototype) below vs →
+            OnOk result (saved.new.items ≡ below) }
         ensures left { (below vs : List Item) → Ends saved.old.items (names_of kept.now.prototype) below vs →
-            (io : Io) → AnswersOrFails (answer_map (option_map given_of) result) (world_of self.new io) (leave_op kind (kept_as kept.now vs) (world_of self.old io)) }
+            (io : Io) → AnswersOrFails (answer_map (option_map given_of) result) (world_of self.new io)
+            (leave_op kind (kept_as kept.now vs) (world_of self.old io)) }
         ensures stop { IfStopped result (λ stop. stop ≡ NoMemory) }
     {
         let given = self.given(alloc, kind, kept.prototype.name())?;

@@ -94,7 +94,8 @@ impl FunctionTable {
     // Puts a function in the place of the one that has its name.
     fn put(&mut self, name: Text, function: Function) -> Result<(), AllocError>
         requires { IsNamed name function }
-        ensures ok { OnOk result ((x : Bytes) → function_at x self.new ≡ cond (bytes_eq name x) (Some function) (function_at x self.old)) }
+        ensures ok { OnOk result ((x : Bytes)
+            → function_at x self.new ≡ cond (bytes_eq name x) (Some function) (function_at x self.old)) }
         ensures err { OnErr result (self.new ≡ self.old) }
     {
         let _old = self.functions.insert(name, function)?;
@@ -115,7 +116,8 @@ fn label_or(entry: Option<Text>, name: &Text) -> Result<Text, AllocError>
 impl World {
     /// The function of a name, if it has one that isn't primitive.
     pub fn function(&self, name: &Text) -> Result<Option<Function>, AllocError>
-        ensures function { IfOk result (λ found. (io : Io) → option_map function_of found ≡ (world_of self.now io).plain.functions name.now) }
+        ensures function { IfOk result (λ found. (io : Io)
+            → option_map function_of found ≡ (world_of self.now io).plain.functions name.now) }
         ensures named { IfOk result (λ found. IfNamed name.now found) }
     {
         match self.functions.get(name) {
@@ -127,7 +129,8 @@ impl World {
     /// Gives a name another function.
     pub(crate) fn put_function(&mut self, name: Text, function: Function) -> Result<(), AllocError>
         requires { IsNamed name function }
-        ensures ok { OnOk result ((io : Io) → world_of self.new io ≡ set_function name (function_of function) (world_of self.old io)) }
+        ensures ok { OnOk result ((io : Io)
+            → world_of self.new io ≡ set_function name (function_of function) (world_of self.old io)) }
         ensures err { OnErr result (self.new ≡ self.old) }
     {
         self.functions.put(name, function)
@@ -139,7 +142,8 @@ impl World {
         entry: Option<Text>,
         prototype: FunctionPrototype,
     ) -> Result<(), AllocError>
-        ensures ok { OnOk result ((io : Io) → define_op entry (Some prototype) (world_of self.old io) ≡ Gives (Str []) (world_of self.new io)) }
+        ensures ok { OnOk result ((io : Io)
+            → define_op entry (Some prototype) (world_of self.old io) ≡ Gives (Str []) (world_of self.new io)) }
         ensures err { OnErr result (self.new ≡ self.old) }
     {
         let name = prototype.name().clone()?;
