@@ -1,8 +1,7 @@
 //! The answers of evaluations.
 
 ghost use Rattle.std.specs.Prelude.{◌≡◌};
-ghost use Rattle.match_machine.specs.View as match_machine;
-ghost use Rattle.match_machine.specs.View.{want_of};
+ghost use Rattle.match_machine.specs.View.{answer_view, want_of};
 ghost use Rattle.model.specs.Language.Conversions.{answer_of};
 ghost use Rattle.model.specs.Machine.Steps.{codes_of};
 ghost use Rattle.model.specs.declared.run.Stop.TheVariants.{NoMemory};
@@ -15,7 +14,7 @@ use world::{Fault, Value};
 
 /// The answer that a value is to a match that wants a pattern, a count or bytes.
 pub fn answer_of(alloc: Global, want: Want, value: &Value) -> Result<Answer, Fault>
-    ensures answer { Converts (answer_map match_machine.answer_of result)
+    ensures answer { Converts (answer_map answer_view result)
         (answer_of codes_of (want_of want) (value_of value.now)) }
     ensures stop { IfStopped result (λ stop. stop ≡ NoMemory) }
 {
