@@ -6,7 +6,7 @@ ghost use Rattle.model.specs.Reading.{image_of};
 ghost use Rattle.loader.specs.Answers.{IsAnswer};
 ghost use Rattle.loader.specs.Loaded.{IsLoaded};
 
-use loader::{bytes, load};
+use loader::load;
 use model::{Instr, LoadFault};
 use std::alloc::Global;
 use std::io::{self, Write};
@@ -130,7 +130,7 @@ pub fn show<W: Write>(alloc: Global, bytes: &[u8], out: &mut W) -> Result<(), Sh
         let instr = module.at(place).instr;
         show_instr(at, instr, out)?;
         // No code is as long as that.
-        at = at.wrapping_add(bytes(instr));
+        at = at.wrapping_add(loader::bytes(instr));
     }
     Ok(())
 }
