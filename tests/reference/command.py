@@ -43,7 +43,8 @@ def seen_of(deck, units, most=float("inf"), search=Search):
     run = Run(trees, units, most, search)
     try:
         ending = run.run()
-        told, status = ending.told(), ending.status()
+        cards = [statement.card for statement in statements_of(deck)]
+        told, status = ending.told(cards), ending.status()
     except UnitFault as fault:
         told, status = f"unit {fault.unit} U{fault.rule}\n", 6
     except TooLong:

@@ -31,20 +31,20 @@ DECKS = [
     Worked([" P = LEN(1) $ C *C", " 'ABB' P", " OUTPUT = C", " 'XYY' P", " OUTPUT = C"], "B\nY\n"),
     Worked([" P = 'A' *P 'B' | 'C'", " 'AACBB' POS(0) P RPOS(0) :F(END)", " OUTPUT = 'YES'"], "YES\n"),
     Worked([" 'AB' 'A' (*EQ(1,2) | 'B') :F(END)", " OUTPUT = 'YES'"], "YES\n"),
-    Worked([" 'A' LEN(*(0 - 1))"], "", "error E10 statement 1\n"),
+    Worked([" 'A' LEN(*(0 - 1))"], "", "error E10 statement 1 card 1\n"),
     Worked([" 'ABAC' FENCE('A') 'C' :F(X)"] + YES, "YES\n"),
     Worked([" 'AB' (FENCE('A') 'X' | 'AB') :F(X)"] + YES, "YES\n"),
     Worked([" 'AAB' ARBNO(FENCE('A' | 'AA')) 'B' :F(X)"] + YES, "YES\n"),
     Worked([" 'ABC' FENCE('A' | 'AB') 'C' :F(X)"] + YES, "NO\n"),
     # calls
     Worked(FACT + ["E OUTPUT = FACT(20)"], "2432902008176640000\n"),
-    Worked(FACT + ["E OUTPUT = FACT(21)"], "", "error E2 statement 3\n"),
+    Worked(FACT + ["E OUTPUT = FACT(21)"], "", "error E2 statement 3 card 3\n"),
     Worked([" F = 'OLD'", " DEFINE('F()') :(E)", "F F = 'NEW' :(RETURN)", "E OUTPUT = F() F"], "NEWOLD\n"),
     Worked([" DEFINE('F()') :(E)", "F F = .X :(NRETURN)", "E F() = 5", " OUTPUT = X"], "5\n"),
     Worked([" DEFINE('F(INPUT)') :(E)", "F F = 'K' :(RETURN)", "E OUTPUT = F('Q') INPUT"], "KA\n", "", "A\n"),
-    Worked([" OUTPUT = G(1)"], "", "error E4 statement 1\n"),
+    Worked([" OUTPUT = G(1)"], "", "error E4 statement 1 card 1\n"),
     Worked([" OUTPUT = APPLY('SIZE','ABC')"], "3\n"),
-    Worked([" OUTPUT = APPLY('SIZE','ABC','B')"], "", "error E16 statement 1\n"),
+    Worked([" OUTPUT = APPLY('SIZE','ABC','B')"], "", "error E16 statement 1 card 1\n"),
     Worked(
         [" DEFINE('F()') :(E)", "F 'QR' LEN(1) . OUTPUT :(RETURN)", "E 'AB' 'A' *F() 'B' :F(END)", " OUTPUT = 'DONE'"],
         "Q\nDONE\n",
@@ -66,7 +66,7 @@ DECKS = [
     ),
     Worked([" A = ARRAY('0:2')", " ITEM(A,2) = 4", " OUTPUT = A<2>"], "4\n"),
     Worked(
-        [" A = ARRAY('0:2')", " ITEM(A,2) = 4", " OUTPUT = A<2>", " OUTPUT = A<1,2>"], "4\n", "error E13 statement 4\n"
+        [" A = ARRAY('0:2')", " ITEM(A,2) = 4", " OUTPUT = A<2>", " OUTPUT = A<1,2>"], "4\n", "error E13 statement 4 card 4\n"
     ),
     Worked([" T = TABLE()", " T<1> = 'A'", " T<'1'> = 'B'", " OUTPUT = T<1> T<'1'>"], "AB\n"),
     Worked([" T = TABLE()", " T<'K'> = 1", " A = CONVERT(T,'ARRAY')", " OUTPUT = A<1,1> A<1,2>"], "K1\n"),
@@ -81,19 +81,19 @@ DECKS = [
     Worked([" 'AB' 'B'"], "", rules=8),
     Worked([" OUTPUT = SIZE('AB')"], "2\n", rules=4),
     Worked([" 'AB' FENCE('A') 'B'"], "", rules=13),
-    Worked([" 'AA' LEN(*'X')"], "", "error E3 statement 1\n", rules=7),
+    Worked([" 'AA' LEN(*'X')"], "", "error E3 statement 1 card 1\n", rules=7),
     Worked(
-        [" S = DUPL('A',2)", " S POS(0) (ARB ARB 'B' | *(1 / 0))"], "", "error E2 statement 2\n", rules=46
+        [" S = DUPL('A',2)", " S POS(0) (ARB ARB 'B' | *(1 / 0))"], "", "error E2 statement 2 card 2\n", rules=46
     ),
     Worked(
-        [" S = DUPL('A',5)", " S POS(0) (ARB ARB 'B' | *(1 / 0))"], "", "error E2 statement 2\n", rules=82
+        [" S = DUPL('A',5)", " S POS(0) (ARB ARB 'B' | *(1 / 0))"], "", "error E2 statement 2 card 2\n", rules=82
     ),
     Worked([" DEFINE('F()')", " 'A' ('B' | *F())", "F :(END)"], "", rules=14),
     Worked(
-        [" &STLIMIT = 3", " DEFINE('F()')", " 'A' ('B' | *F())", "F :(END)"], "", "stlimit statement 4\n", rules=15
+        [" &STLIMIT = 3", " DEFINE('F()')", " 'A' ('B' | *F())", "F :(END)"], "", "stlimit statement 4 card 4\n", rules=15
     ),
     Worked(
-        [" DEFINE('F()')", " 'A' LEN(1) *F()", "F 'A' *(1 / 0)"], "", "error E2 statement 3\n", rules=22
+        [" DEFINE('F()')", " 'A' LEN(1) *F()", "F 'A' *(1 / 0)"], "", "error E2 statement 3 card 3\n", rules=22
     ),
 ]
 

@@ -124,10 +124,10 @@ if_memory (Err f) cs o h = λ e. absurd (let m = deck_memory cs o f h in let t :
 
 -- ---- the length of the deck
 
-pub not_too_long : (text : List ℕ) → length text ≤ 1048576 → deck text ≡ deck_of (cards text) (ended (cards text))
+pub not_too_long : (text : List ℕ) → length text ≤ 16777216 → deck text ≡ deck_of (cards text) (ended (cards text))
 unfolding deck
-not_too_long text h = let short : nat_lt 1048576 (length text) ≡ false = grind (arith, nat_tests) in rw short refl
+not_too_long text h = let short : nat_lt 16777216 (length text) ≡ false = grind (arith, nat_tests) in rw short refl
 
-pub too_long : (text : List ℕ) → 1048576 < length text → deck text ≡ Err (fault 0 rule.DeckTooLong)
+pub too_long : (text : List ℕ) → 16777216 < length text → deck text ≡ Err (fault 0 rule.DeckTooLong)
 unfolding deck
-too_long text h = let long : nat_lt 1048576 (length text) ≡ true = grind (arith, nat_tests) in rw long refl
+too_long text h = let long : nat_lt 16777216 (length text) ≡ true = grind (arith, nat_tests) in rw long refl

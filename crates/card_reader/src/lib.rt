@@ -23,11 +23,11 @@ use model::{CardFault, CardRule, Deck};
 use std::alloc::{AllocError, Global};
 
 /// The most bytes of a deck.
-const LONGEST_DECK: usize = 1_048_576;
+const LONGEST_DECK: usize = 16_777_216;
 
 // The deck's statements or its first fault, for a deck that isn't too long.
 fn read_cards(alloc: Global, deck: &[u8]) -> Result<Result<Deck, CardFault>, AllocError>
-    requires { length deck.now ≤ 1048576 }
+    requires { length deck.now ≤ 16777216 }
     ensures statements { IfOk result (λ read.
         IfOk read (λ d. cards.deck_of (cards.cards deck.now) (cards.ended (cards.cards deck.now))
         ≡ Ok d.statements)) }

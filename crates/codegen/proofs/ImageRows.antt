@@ -1,6 +1,7 @@
 -- Worked cases: the images of some programs.
 use Rattle.std.proofs.Common.{◌≡◌, ℕ, zero, suc, List, [], ◌∷◌, Option, Some, None, codes, refl}
 use Rattle.model.specs.declared.image.Image.{Image}
+use Rattle.model.specs.declared.image.Level.TheVariants as levels
 use Rattle.model.specs.declared.instr.Instr.TheVariants as op
 use Rattle.model.specs.declared.trees.Unary.TheVariants as u
 use Rattle.model.specs.declared.trees.Binary.TheVariants as b
@@ -10,11 +11,13 @@ use Rattle.expr_codegen.specs.Code.{nothing, one, with_string, unevaluated, ◌>
 use Rattle.codegen.specs.Layout.{generated_image}
 
 -- ` OUTPUT = 'HI'`, `END`: 18 bytes of code
-hi : generated_image (Plain None (Assign (Name (codes "OUTPUT")) (Some (Literal (codes "HI")))) Next ∷ End None ∷ []) ≡ record {
+hi : generated_image (1 ∷ 2 ∷ []) (Plain None (Assign (Name (codes "OUTPUT")) (Some (Literal (codes "HI")))) Next ∷ End None ∷ []) ≡ record {
+  level = levels.Two;
   entry = 1;
   strings = codes "OUTPUT" ∷ codes "HI" ∷ [];
   labels = [];
   statements = 0 ∷ 17 ∷ [];
+  cards = 1 ∷ 2 ∷ [];
   expressions = [];
   patterns = [];
   code = op.Begin 17 ∷ op.Var 0 ∷ op.Str 1 ∷ op.Assign ∷ op.Body ∷ op.End ∷ [];
@@ -23,14 +26,16 @@ unfolding nothing one with_string ◌>>◌ handled
 hi = refl
 
 -- `L X 'A' = *B :S(L)`, ` OUTPUT = ~Y :F(NONE)`, `END L`
-ways : generated_image (
+ways : generated_image (1 ∷ 2 ∷ 3 ∷ []) (
     Plain (Some (codes "L")) (Replace (Name (codes "X")) (Literal (codes "A")) (Some (Apply u.Unevaluated (Name (codes "B"))))) (OnSuccess (Label (codes "L")))
     ∷ Plain None (Assign (Name (codes "OUTPUT")) (Some (Apply u.Negate (Name (codes "Y"))))) (OnFailure (Label (codes "NONE")))
     ∷ End (Some (codes "L")) ∷ []) ≡ record {
+      level = levels.Two;
       entry = 1;
       strings = codes "X" ∷ codes "A" ∷ codes "OUTPUT" ∷ codes "Y" ∷ codes "B" ∷ codes "L" ∷ [];
       labels = record { string = 5; statement = 1 } ∷ [];
       statements = 0 ∷ 29 ∷ 62 ∷ [];
+      cards = 1 ∷ 2 ∷ 3 ∷ [];
       expressions = 63 ∷ [];
       patterns = [];
       code =
@@ -43,13 +48,15 @@ unfolding nothing one with_string unevaluated ◌>>◌ handled
 ways = refl
 
 -- ` X = **A *B`, `END`: the expression inside the first has its number behind the second
-queue : generated_image (
+queue : generated_image (1 ∷ 2 ∷ []) (
     Plain None (Assign (Name (codes "X")) (Some (Combine b.Concatenate (Apply u.Unevaluated (Apply u.Unevaluated (Name (codes "A")))) (Apply u.Unevaluated (Name (codes "B")))))) Next
     ∷ End None ∷ []) ≡ record {
+      level = levels.Two;
       entry = 1;
       strings = codes "X" ∷ codes "B" ∷ codes "A" ∷ [];
       labels = [];
       statements = 0 ∷ 23 ∷ [];
+      cards = 1 ∷ 2 ∷ [];
       expressions = 24 ∷ 30 ∷ 37 ∷ [];
       patterns = [];
       code =

@@ -1,6 +1,7 @@
 -- The image of a program, from what was put.
 use Rattle.std.proofs.Common.{◌≡◌, ℕ, zero, suc, ◌+◌, ◌*◌, ◌<◌, ◌≤◌, List, [], ◌∷◌, ◌++◌, length, map, refl, sym, ap, ◌∙◌, subst, append_assoc, append-nil, arith, drop, get_or, Option, Some, None}
 use Rattle.std.specs.List.{AllByRecursion}
+use Rattle.model.specs.declared.image.Level.TheVariants as levels
 use Rattle.model.specs.declared.image.Image.{Image}
 use Rattle.model.specs.declared.image.Label as image
 use Rattle.model.specs.declared.trees.Stmt.{Stmt as Statement}
@@ -126,11 +127,11 @@ entry_is : (ss : List Stmt) (o : Option Bytes) → entry_by (labelled_from 1 ss)
 entry_is ss None = refl
 entry_is ss (Some l) = refl
 
-pub image_is : (ss : List Stmt) (f : Bytes → Option ℕ) (os es : List ℕ) (ls : List image.Label) (entry : ℕ) (strings : List Bytes) (g0 g1 g2 g3 : Gen) → ((l : Bytes) → f l ≡ labelled_from 1 ss l) → g0 ≡ empty
+pub image_is : (cards : List ℕ) (ss : List Stmt) (f : Bytes → Option ℕ) (os es : List ℕ) (ls : List image.Label) (entry : ℕ) (strings : List Bytes) (g0 g1 g2 g3 : Gen) → ((l : Bytes) → f l ≡ labelled_from 1 ss l) → g0 ≡ empty
     → Laid (layout.statements f 1 ss) os g0 g1 → g1.taken ≡ g0.taken → ((fuel : ℕ) → weights.total weights.of_expr (left g1) ≤ fuel → Laid (layout.expressions fuel (left g1)) es g1 g2) → Fits ss
     → g3.texts ≡ with_texts (label_texts ss) g2.texts → g3.code ≡ g2.code → ls ≡ layout.label_entries g3.texts 1 ss → entry ≡ entry_by f (entry_label ss) → strings ≡ g3.texts
-    → record { entry = entry; strings = strings; labels = ls; statements = os; expressions = es; patterns = []; code = g3.code } ≡ generated_image ss
-image_is ss f os es ls entry strings g0 g1 g2 g3 known begin laid taken work fits named same labels enters all =
+    → record { level = levels.Two; entry = entry; strings = strings; labels = ls; statements = os; cards = cards; expressions = es; patterns = []; code = g3.code } ≡ generated_image cards ss
+image_is cards ss f os es ls entry strings g0 g1 g2 g3 known begin laid taken work fits named same labels enters all =
     let fe : f ≡ labelled_from 1 ss = λ j l. known l j in
     let laid1 : Laid (program_parts ss) os empty g1 = subst (λ g. Laid (program_parts ss) os g g1) begin (subst (λ f. Laid (layout.statements f 1 ss) os g0 g1) fe laid) in
     let left1 : left g1 ≡ (joined_parts (program_parts ss)).later = left_is ss (labelled_from 1 ss) os empty g1 refl laid1 (taken ∙ ap (λ (g : Gen). g.taken) begin) in
@@ -139,10 +140,10 @@ image_is ss f os es ls entry strings g0 g1 g2 g3 known begin laid taken work fit
     let t : g3.texts ≡ texts_of ss = named ∙ ap (with_texts (label_texts ss)) whole.texts in
     let l2 : Longer g2.texts (texts_of ss) = subst (λ u. Longer g2.texts u) (ap (with_texts (label_texts ss)) whole.texts) (longer_texts (label_texts ss) g2.texts) in
     let l1 : Longer g1.texts (texts_of ss) = longer_trans g1.texts g2.texts (texts_of ss) (subst (λ u. Longer g1.texts u) (sym x.parts.texts) (longer_texts (joined_parts (expressions_of ss)).texts g1.texts)) l2 in
-    let s : os ≡ (generated_image ss).statements = laid1.offsets (texts_of ss) l1 in
-    let e : es ≡ (generated_image ss).expressions = x.offsets (texts_of ss) l2 ∙ ap (λ w. layout.offsets (expressions_of ss) (texts_of ss) (length w) (code_size g1.code)) laid1.parts.waiting ∙ ap (λ c. layout.offsets (expressions_of ss) (texts_of ss) (length (joined_parts (program_parts ss)).later) (code_size c)) (laid1.parts.code (texts_of ss) l1) in
-    let c : g3.code ≡ (generated_image ss).code = same ∙ whole.code (texts_of ss) l2 in
-    let n : entry ≡ (generated_image ss).entry = enters ∙ ap (λ f. entry_by f (entry_label ss)) fe ∙ entry_is ss (entry_label ss) in
-    let l : ls ≡ (generated_image ss).labels = labels ∙ ap (λ u. layout.label_entries u 1 ss) t in
-    let u : strings ≡ (generated_image ss).strings = all ∙ t in
-    λ j. record { entry = n j; strings = u j; labels = l j; statements = s j; expressions = e j; patterns = []; code = c j }
+    let s : os ≡ (generated_image cards ss).statements = laid1.offsets (texts_of ss) l1 in
+    let e : es ≡ (generated_image cards ss).expressions = x.offsets (texts_of ss) l2 ∙ ap (λ w. layout.offsets (expressions_of ss) (texts_of ss) (length w) (code_size g1.code)) laid1.parts.waiting ∙ ap (λ c. layout.offsets (expressions_of ss) (texts_of ss) (length (joined_parts (program_parts ss)).later) (code_size c)) (laid1.parts.code (texts_of ss) l1) in
+    let c : g3.code ≡ (generated_image cards ss).code = same ∙ whole.code (texts_of ss) l2 in
+    let n : entry ≡ (generated_image cards ss).entry = enters ∙ ap (λ f. entry_by f (entry_label ss)) fe ∙ entry_is ss (entry_label ss) in
+    let l : ls ≡ (generated_image cards ss).labels = labels ∙ ap (λ u. layout.label_entries u 1 ss) t in
+    let u : strings ≡ (generated_image cards ss).strings = all ∙ t in
+    λ j. record { level = levels.Two; entry = n j; strings = u j; labels = l j; statements = s j; cards = cards; expressions = e j; patterns = []; code = c j }

@@ -42,5 +42,5 @@ of_failure (Both p q) = of_place q
 -- statements whose code has a place for each offset and each number
 pub record Fits (ss : List Stmt) : Type 0 where
   pub countable : AllByRecursion CountableStmt ss
-  pub together : total weight ss ≤ 1048576
-  pub count : length ss ≤ 1048576
+  pub together : total weight ss ≤ 16777216
+  pub count : length ss ≤ 16777216

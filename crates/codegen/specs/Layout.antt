@@ -2,6 +2,7 @@
 use Rattle.std.specs.Prelude.{ℕ, zero, suc, ◌+◌, List, [], ◌∷◌, ◌++◌, length, Option, Some, None}
 use Rattle.model.specs.declared.image.Image.{Image}
 use Rattle.model.specs.declared.image.Label as image
+use Rattle.model.specs.declared.image.Level.TheVariants as levels
 use Rattle.model.specs.declared.instr.Instr.{Instr}
 use Rattle.model.specs.declared.instr.Instr.TheVariants as op
 use Rattle.model.specs.declared.instr.ReturnKind.{ReturnKind}
@@ -130,15 +131,18 @@ code_of ss = joined_parts (program_parts ss) >> joined_parts (expressions_of ss)
 abbrev pub texts_of : List Stmt → List Bytes
 texts_of ss = with_texts (label_texts ss) (with_texts (code_of ss).texts [])
 
-abbrev pub generated_image : List Stmt → Image
-generated_image ss =
+-- the image of a program whose statements begin at these cards
+abbrev pub generated_image : (cards : List ℕ) → List Stmt → Image
+generated_image cards ss =
     let texts : List Bytes = texts_of ss in
     let statements : Part = joined_parts (program_parts ss) in
     record {
+      level = levels.Two;
       entry = entry_in ss (entry_label ss);
       strings = texts;
       labels = label_entries texts 1 ss;
       statements = offsets (program_parts ss) texts 0 0;
+      cards = cards;
       expressions = offsets (expressions_of ss) texts (length statements.later) (code_size (statements.code texts 0 0));
       patterns = [];
       code = (code_of ss).code texts 0 0;

@@ -17,7 +17,7 @@ ghost use Rattle.codegen.specs.Layout as layout;
 use crate::labels::{Labels, entry_number, labels_of, own_label};
 use crate::statements::statement;
 use expr_codegen::{Generator, value};
-use model::{Image, Instr, Label, Program, Seq, Stmt};
+use model::{Image, Instr, Label, Level, Program, Seq, Stmt};
 use std::alloc::{AllocError, Global};
 
 // Puts the code of each statement; the offsets.
@@ -103,7 +103,7 @@ fn put_labels<'a>(
 /// The image of a program.
 pub fn generate(alloc: Global, program: &Program) -> Result<Image, AllocError>
     requires { Fits (program_of program.now) }
-    ensures image { IfOk result (λ image. image ≡ layout.generated_image (program_of program.now)) }
+    ensures image { IfOk result (λ image. image ≡ layout.generated_image program.now.cards (program_of program.now)) }
 {
     let statements = program.statements.as_slice();
     let labels = labels_of(alloc, statements)?;
@@ -112,11 +112,14 @@ pub fn generate(alloc: Global, program: &Program) -> Result<Image, AllocError>
     let expressions = put_expressions(alloc, &mut g)?;
     let named = put_labels(alloc, &mut g, statements)?;
     let strings = g.strings(alloc)?;
+    let cards = Vec::from_slice(alloc, program.cards.as_slice())?;
     Ok(Image {
+        level: Level::Two,
         entry: entry_number(&labels, statements),
         strings,
         labels: Seq::from_vec(named),
         statements: Seq::from_vec(offsets),
+        cards: Seq::from_vec(cards),
         expressions: Seq::from_vec(expressions),
         patterns: Seq::new(alloc),
         code: g.into_code(),

@@ -8,6 +8,7 @@ use Rattle.std.proofs.lemmas.Bool.Decides.{nat_tests}
 use Rattle.std.proofs.lemmas.Bool.{and_parts}
 use Rattle.model.specs.declared.image.Image.{Image}
 use Rattle.model.specs.declared.image.Label.{Label}
+use Rattle.model.specs.declared.image.Level.TheVariants as levels
 use Rattle.model.specs.declared.instr.Instr.{Instr}
 use Rattle.model.specs.declared.instr.Instr.TheVariants as op
 use Rattle.model.specs.declared.primitives.PrimId.{PrimId}
@@ -16,7 +17,7 @@ use Rattle.model.specs.Module.Flow.{Shape, bare}
 use Rattle.model.specs.Module.Images.{instr_size, code_size}
 use Rattle.model.specs.Language.Names.{most_args}
 use Rattle.model.specs.Language.Programs.{labelled_from, entry_in, entry_label}
-use Rattle.model.specs.Module.Spelling.{u16, u32, u64, instr, code_bytes, InstrFits, most, most_code, Follow, is_new, newest, rises, statement_of, StringFits, LabelFits, StatementFits, OffsetFits, IsImage}
+use Rattle.model.specs.Module.Spelling.{u16, u32, u64, instr, code_bytes, InstrFits, most, most_code, Follow, is_new, newest, rises, statement_of, StringFits, LabelFits, StatementFits, AreCards, IsOf, OffsetFits, IsImage}
 use Rattle.model.specs.Deck.Trees.{Bytes, Expr, Stmt, Plain, End}
 use Rattle.model.specs.Module.WellFormed.{is_nonnull, is_statement, is_nonnull_string}
 use Rattle.model.specs.Deck.Weights as weights
@@ -25,6 +26,7 @@ use Rattle.model.proofs.Module.CodeBytes.{some_bytes, code_long, total_append}
 use Rattle.expr_codegen.specs.Texts.{number_of_text, with_text, with_texts}
 use Rattle.expr_codegen.specs.Code.{Part, ◌>>◌}
 use Rattle.codegen.specs.Layout.{program_parts, expressions_of, joined_parts, offsets, label_entries, label_texts, code_of, generated_image}
+use Rattle.model.proofs.Decks.FirstCards.{newest_snoc}
 use Rattle.codegen_laws.specs.Fit.{IsFit}
 use Rattle.codegen_laws.proofs.Flows.{Fits}
 use Rattle.codegen_laws.proofs.Offsets.{HasCode, full_some, offsets_length, statements_full}
@@ -73,13 +75,6 @@ place_within t (s ∷ ss) = elim (bytes_eq t s) as (λ b. (if b then 0 else suc 
 ]
 
 -- ---- labels and offsets
-
-get_snoc : {A : Type 0} (xs : List A) (x : A) → slice_get (xs ++ x ∷ []) (length xs) ≡ Some x
-get_snoc [] x = refl
-get_snoc (y ∷ xs) x = get_snoc xs x
-
-newest_snoc : {A : Type 0} (xs : List A) (x : A) → newest (xs ++ x ∷ []) ≡ Some x
-newest_snoc xs x = ap (slice_get (xs ++ x ∷ [])) (let h = length-append xs (x ∷ []) in let e : length (xs ++ x ∷ []) - 1 ≡ length xs = omega (arith, h) in e) ∙ get_snoc xs x
 
 labels_follow : (texts : List Bytes) → length texts < 2 ^ 32 → (n : ℕ) (ss : List Stmt) → n + length ss < 2 ^ 32 → (front : List Label)
     → ((m : ℕ) → n ≤ m → rises (option_map statement_of (newest front)) m ≡ true) → Follow LabelFits front (label_entries texts n ss)
@@ -204,6 +199,11 @@ code_fits : (im : Image) → Few im → (os : List ℕ) (p : ℕ) (s : Shape) (i
 code_fits im few os p s [] small h = tt
 code_fits im few os p s (i ∷ is) small (f, a, t, h) = (instr_fits im few os i p s is small f t, code_fits im few os (p + instr_size i) (next_shape i s) is (omega (arith, small)) h)
 
+-- level 2 has each instruction
+all_of_two : (is : List Instr) → AllByRecursion (IsOf levels.Two) is
+all_of_two [] = tt
+all_of_two (i ∷ is) = (refl, all_of_two is)
+
 -- ---- the image
 
 due_is : (es : List Expr) → due es ≡ 9 * of_later es + length es
@@ -212,7 +212,7 @@ due_is (e ∷ es) = let h = due_is es in omega (arith, h)
 
 module _ (ss : List Stmt) (fit : IsFit ss) where
   abbrev im : Image
-  im = generated_image ss
+  im = generated_image [] ss
 
   abbrev first : Part
   first = joined_parts (program_parts ss)
@@ -226,7 +226,7 @@ module _ (ss : List Stmt) (fit : IsFit ss) where
   abbrev code_second : List Instr
   code_second = second.code im.strings (length first.later) (code_size code_first)
 
-  both_small : code_size code_first + code_size code_second ≤ 15728640
+  both_small : code_size code_first + code_size code_second ≤ 251658240
   both_small =
       let a = (statements_weigh (labelled_from 1 ss) 1 ss).code im.strings 0 0 in
       let b = queue_code (weights.total weight ss) first.later im.strings (length first.later) (code_size code_first) in
@@ -234,10 +234,10 @@ module _ (ss : List Stmt) (fit : IsFit ss) where
       let d = fit.together in
       omega (arith, a, b, c, d)
 
-  pub code_small : code_size im.code ≤ 15728640
+  pub code_small : code_size im.code ≤ 251658240
   code_small = let a = both_small in let b = total_append code_first code_second in let c : code_size im.code ≡ code_size (code_first ++ code_second) = ap code_size (code_is ss fit.ends fit.statements) in omega (arith, a, b, c)
 
-  texts_small : of_texts (label_texts ss) + of_texts (code_of ss).texts ≤ 1048576
+  texts_small : of_texts (label_texts ss) + of_texts (code_of ss).texts ≤ 16777216
   unfolding ◌>>◌
   texts_small =
       let a = (statements_weigh (labelled_from 1 ss) 1 ss).texts in
@@ -247,17 +247,17 @@ module _ (ss : List Stmt) (fit : IsFit ss) where
       let e = sum_join of_name first.texts second.texts in
       omega (arith, a, b, c, d, e)
 
-  strings_count : length im.strings ≤ 1048576
+  strings_count : length im.strings ≤ 16777216
   strings_count =
       let a = few_strings (label_texts ss) (with_texts (code_of ss).texts []) in
       let b = few_strings (code_of ss).texts [] in
       let c = texts_small in
       omega (arith, a, b, c)
 
-  statements_count : length im.statements ≤ 1048576
+  statements_count : length im.statements ≤ 16777216
   statements_count = let a = offsets_count ss fit.ends fit.statements in let b = fit.count in omega (arith, a, b)
 
-  expressions_count : length im.expressions ≤ 1048576
+  expressions_count : length im.expressions ≤ 16777216
   expressions_count =
       let a = offsets_length (expressions_of ss) im.strings (length first.later) (code_size code_first) in
       let b = queue_length (weights.total weight ss) first.later in
@@ -273,8 +273,8 @@ module _ (ss : List Stmt) (fit : IsFit ss) where
   }
 
   -- the law
-  pub spelt : IsImage im
-  spelt = record {
+  pub spelt : (cards : List ℕ) → AreCards levels.Two im.statements cards → IsImage (generated_image cards ss)
+  spelt cards are = record {
     entry = (let (j, is, less) = entry_among ss fit.ends fit.statements (entry_label ss) in let c = fit.count in let h : entry_in ss (entry_label ss) < 2 ^ 32 = omega (arith, is, less, c) in h);
     strings = record {
       count = (let h = strings_count in let e : length im.strings ≤ most = omega (arith, h) in e);
@@ -290,6 +290,7 @@ module _ (ss : List Stmt) (fit : IsFit ss) where
       count = (let h = statements_count in let e : length im.statements ≤ most = omega (arith, h) in e);
       entries = statements_follow im.strings (program_parts ss) (statements_full (labelled_from 1 ss) 1 ss) 0 0 [] refl (let h = both_small in omega (arith, h));
     };
+    cards = are;
     expressions = record {
       count = (let h = expressions_count in let e : length im.expressions ≤ most = omega (arith, h) in e);
       entries = expressions_follow im.strings (expressions_of ss) (length first.later) (code_size code_first) [] (let h = both_small in omega (arith, h));
@@ -297,4 +298,5 @@ module _ (ss : List Stmt) (fit : IsFit ss) where
     patterns = record { count = omega arith; entries = tt };
     code = code_fits im few im.statements 0 bare im.code (let h = code_small in omega (arith, h)) (is_sound ss fit.ends fit.statements).sound;
     code_length = (let h = code_small in let l = code_long im.code in let e : length (code_bytes im.code) ≤ most_code = omega (arith, h, l) in e);
+    level = all_of_two im.code;
   }

@@ -4,6 +4,7 @@ use Rattle.std.specs.Prelude.{nat_lt}
 use Rattle.std.specs.List.{Contains, list_any}
 use Rattle.model.specs.declared.format.ModuleFault.{ModuleFault}
 use Rattle.model.specs.declared.format.ModuleRule.TheVariants.{BadIndex, BadTarget, NoEnd}
+use Rattle.model.specs.declared.format.Version.TheVariants as versions
 use Rattle.model.specs.declared.image.Image.{Image}
 use Rattle.model.specs.declared.image.Label.{Label}
 use Rattle.model.specs.declared.instr.Instr.{Instr}
@@ -194,7 +195,7 @@ last_is (Plain l b g ∷ ss) ends = let (j, e, h, c) = last_is ss ends in (suc j
 
 module _ (ss : List Stmt) (fit : IsFit ss) where
   abbrev im : Image
-  im = generated_image ss
+  im = generated_image [] ss
 
   sound : IsSound (Fits im) im
   sound = is_sound ss fit.ends fit.statements
@@ -244,11 +245,11 @@ module _ (ss : List Stmt) (fit : IsFit ss) where
       code_fine im sound o code.0 new code.1 pos
 
   -- the law
-  pub parts : part_fault im ≡ None
+  pub parts : part_fault versions.Two im ≡ None
   parts =
       let a = entry_fine in
-      let b = labels_fine im 1 ss (statement_there ss fit.ends fit.statements) (all_held (label_texts ss) (with_texts (code_of ss).texts [])) [] [] tt fit.labels (labels_offset im) in
-      let c = statements_fine (statements_offset im) in
-      let d = expressions_fine (expressions_offset im) in
-      let e = instructions_fine (code_offset im) in
-      (λ i. or_else (fault_if entry_offset (a i)) (or_else (b i) (or_else (c i) (or_else (d i) (or_else None (e i))))))
+      let b = labels_fine im 1 ss (statement_there ss fit.ends fit.statements) (all_held (label_texts ss) (with_texts (code_of ss).texts [])) [] [] tt fit.labels (labels_offset versions.Two im) in
+      let c = statements_fine (statements_offset versions.Two im) in
+      let d = expressions_fine (expressions_offset versions.Two im) in
+      let e = instructions_fine (code_offset versions.Two im) in
+      (λ i. or_else (fault_if (entry_offset versions.Two) (a i)) (or_else (b i) (or_else (c i) (or_else (d i) (or_else None (e i))))))

@@ -146,7 +146,7 @@ module _ (ss : List Stmt) (ends : EndsInEnd ss) (fit : AllByRecursion FitStmt ss
   later_of = (code_of ss).later
 
   abbrev img : Module
-  img = module_of (generated_image ss)
+  img = module_of (generated_image [] ss)
 
   abbrev prog : Program
   prog = program ss

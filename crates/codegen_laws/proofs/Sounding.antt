@@ -215,7 +215,7 @@ statements_end f texts n (Plain l b g ∷ ss) ends k p =
 
 module _ (ss : List Stmt) (ends : EndsInEnd ss) (fit : AllByRecursion FitStmt ss) where
   abbrev im : Image
-  im = generated_image ss
+  im = generated_image [] ss
 
   abbrev first : Part
   first = joined_parts (program_parts ss)

@@ -2,6 +2,7 @@
 use Rattle.std.specs.Prelude.{◌≡◌, ◌≤◌, ℕ, List, Option}
 use Rattle.std.specs.List.{AllByRecursion}
 use Rattle.model.specs.Laws.Agreement.{Agrees}
+use Rattle.model.specs.Deck.Cards.{first_cards}
 use Rattle.model.specs.Deck.Faults.{Accepted, verdict}
 use Rattle.model.specs.Module.Images.{module_of, code_size}
 use Rattle.model.specs.Module.Placed.{Placed}
@@ -24,24 +25,24 @@ AreCountable = (text : List ℕ) (ss : List Stmt) → verdict text ≡ Accepted 
 
 -- the code of each statement and expression stands in its image
 abbrev pub IsPlaced : Type 0
-IsPlaced = (text : List ℕ) (ss : List Stmt) → verdict text ≡ Accepted ss → (trees_at : ℕ → Option Expr) × Placed (program ss) (module_of (generated_image ss)) trees_at
+IsPlaced = (text cards : List ℕ) (ss : List Stmt) → verdict text ≡ Accepted ss → (trees_at : ℕ → Option Expr) × Placed (program ss) (module_of (generated_image cards ss)) trees_at
 
--- it has a spelling
+-- it has a spelling, with the cards where its statements begin
 abbrev pub IsSpelt : Type 0
-IsSpelt = (text : List ℕ) (ss : List Stmt) → verdict text ≡ Accepted ss → IsImage (generated_image ss)
+IsSpelt = (text : List ℕ) (ss : List Stmt) → verdict text ≡ Accepted ss → IsImage (generated_image (first_cards text) ss)
 
 -- it is well-formed
 abbrev pub IsSound : Type 0
-IsSound = (text : List ℕ) (ss : List Stmt) → verdict text ≡ Accepted ss → IsWellFormed (generated_image ss)
+IsSound = (text cards : List ℕ) (ss : List Stmt) → verdict text ≡ Accepted ss → IsWellFormed (generated_image cards ss)
 
 -- it does what the deck means
 abbrev pub DoesAsMeant : Type 0
-DoesAsMeant = (text : List ℕ) (ss : List Stmt) → verdict text ≡ Accepted ss → Agrees ss (generated_image ss)
+DoesAsMeant = (text cards : List ℕ) (ss : List Stmt) → verdict text ≡ Accepted ss → Agrees ss (generated_image cards ss)
 
 -- it ends in time
 abbrev pub IsInTime : Type 0
-IsInTime = (text : List ℕ) (ss : List Stmt) → verdict text ≡ Accepted ss → EndsInTime ss (generated_image ss)
+IsInTime = (text cards : List ℕ) (ss : List Stmt) → verdict text ≡ Accepted ss → EndsInTime ss (generated_image cards ss)
 
 -- its code has at most 15 bytes for each byte that a deck may have
 abbrev pub IsSmall : Type 0
-IsSmall = (text : List ℕ) (ss : List Stmt) → verdict text ≡ Accepted ss → code_size (generated_image ss).code ≤ 15728640
+IsSmall = (text cards : List ℕ) (ss : List Stmt) → verdict text ≡ Accepted ss → code_size (generated_image cards ss).code ≤ 251658240

@@ -73,5 +73,5 @@ pub record IsFit (ss : List Stmt) : Type 0 where
   pub ends : EndsInEnd ss
   pub statements : AllByRecursion FitStmt ss
   pub labels : NewLabels [] (label_texts ss)
-  pub count : length ss ≤ 1048576
-  pub together : total weight ss ≤ 1048576
+  pub count : length ss ≤ 16777216
+  pub together : total weight ss ≤ 16777216

@@ -1,2 +1,4 @@
 pub mod WholeDecks
 pub mod WholeRuns
+pub mod Upgrades
+pub mod CardsTold

@@ -41,6 +41,12 @@ card_is : (deck : List ℕ) (f : CardFault) → cards.deck deck ≡ Err f → ve
 unfolding verdict
 card_is deck f e = ap verdict_of_cards e
 
+pub cards_are : (deck : List ℕ) (statements : List Statement) (cs : List ℕ) → cards.deck deck ≡ Ok statements → cs ≡ map (λ (s : Statement). s.card) statements → cs ≡ cards.first_cards deck
+cards_are deck statements cs e c = c ∙ sym (ap cards.cards_of e)
+
+pub image_is : (deck : List ℕ) (cs : List ℕ) (ss : List Stmt) (image : Image) → image ≡ generated_image cs ss → cs ≡ cards.first_cards deck → image ≡ generated_image (cards.first_cards deck) ss
+image_is deck cs ss image i c = i ∙ ap (λ (xs : List ℕ). generated_image xs ss) c
+
 -- ---- refusals
 
 pub of_cards : (deck : List ℕ) (f : CardFault) (r : Refusal) → (f.rule ≢ rule.Memory → cards.deck deck ≡ Err f) → OfCards f r → IsRefusalOf deck r
@@ -57,18 +63,18 @@ of_statements deck statements fault.Memory r e i o = subst (IsRefusalOf deck) (s
 pub fits : (deck : List ℕ) (ss : List Stmt) → verdict deck ≡ Accepted ss → Fits ss
 fits deck ss a = let f = are_fit deck ss a in record { countable = are_countable deck ss a; together = f.together; count = f.count }
 
-pub is_module : (deck bytes : List ℕ) (ss : List Stmt) (image : Image) → verdict deck ≡ Accepted ss → not_yet 1 ss ≡ [] → image ≡ generated_image ss → bytes ≡ spelling image → IsModuleOf deck bytes
+pub is_module : (deck bytes : List ℕ) (ss : List Stmt) (image : Image) → verdict deck ≡ Accepted ss → not_yet 1 ss ≡ [] → image ≡ generated_image (cards.first_cards deck) ss → bytes ≡ spelling image → IsModuleOf deck bytes
 is_module deck bytes ss image a none i s = record {
   statements = ss;
   trees = a;
-  image = generated_image ss;
+  image = generated_image (cards.first_cards deck) ss;
   generated = refl;
   has_spelling = is_spelt deck ss a;
   spelt = s ∙ ap spelling i;
-  sound = is_sound deck ss a;
-  agrees = does_as_meant deck ss a;
-  in_time = ends_in_time deck ss a;
-  loads = record { spelt = is_spelt deck ss a; formed = is_sound deck ss a; run_yet = run_yet ss none; evaluated = evaluated ss none };
+  sound = is_sound deck (cards.first_cards deck) ss a;
+  agrees = does_as_meant deck (cards.first_cards deck) ss a;
+  in_time = ends_in_time deck (cards.first_cards deck) ss a;
+  loads = record { spelt = is_spelt deck ss a; formed = is_sound deck (cards.first_cards deck) ss a; run_yet = run_yet (cards.first_cards deck) ss none; evaluated = evaluated (cards.first_cards deck) ss none };
 }
 
 -- ---- by lists, as the code has them
@@ -77,7 +83,7 @@ length_map : {A B : Type 0} (f : A → B) (xs : List A) → length (map f xs) �
 length_map f [] = refl
 length_map f (x ∷ xs) = ap suc (length_map f xs)
 
-pub few_given : (deck : List ℕ) (ss given : List code.Stmt) → given ≡ ss → verdict deck ≡ Accepted (map stmt_of ss) → length given ≤ 1048576
+pub few_given : (deck : List ℕ) (ss given : List code.Stmt) → given ≡ ss → verdict deck ≡ Accepted (map stmt_of ss) → length given ≤ 16777216
 few_given deck ss given g a = let h = (are_fit deck (map stmt_of ss) a).count in let e = length_map stmt_of ss in let f = ap length g in omega (arith, h, e, f)
 
 pub none_told : (ss given : List code.Stmt) (fs : List StmtFault) → given ≡ ss → fs ≡ not_yet 1 (map stmt_of given) → fs ≡ [] → not_yet 1 (map stmt_of ss) ≡ []

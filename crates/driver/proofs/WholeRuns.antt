@@ -1,6 +1,7 @@
 -- From the module of a deck to its run.
 use Rattle.std.proofs.Common.{◌≡◌, ◌⊎◌, ◌∙◌, refl, sym, ap, subst, ℕ, List, ◌++◌, Option, Some, None, Result, Ok, Err, inl, inr}
 use Rattle.model.specs.declared.format.LoadFault.{LoadFault}
+use Rattle.model.specs.declared.format.Version.TheVariants as versions
 use Rattle.model.specs.declared.image.Image.{Image}
 use Rattle.model.specs.declared.run.Status.{Status}
 use Rattle.model.specs.declared.run.Ending.{Ending}
@@ -21,7 +22,7 @@ use Rattle.statement_machine.proofs.Telling.{told_on}
 use Rattle.driver.specs.Whole.{IsRunOf, OfRun, IsSeenOf, Mean, EndIn, IsMeant, IsInTime}
 
 read : (deck bytes : List ℕ) (m : IsModuleOf deck bytes) → reading.read_image bytes ≡ Ok m.image
-read deck bytes m = ap reading.read_image m.spelt ∙ spelt_is_read m.image m.has_spelling
+read deck bytes m = ap reading.read_image m.spelt ∙ spelt_is_read versions.Two m.image (record { image = m.has_spelling; level = tt })
 
 pub is_run : (deck given bytes : List ℕ) (bound : ℕ) (status : Status) (before after : Option Io) → given ≡ bytes → IsModuleOf deck bytes
     → ((m : Image) → reading.read_image given ≡ Ok m → IfTold before after (λ io io'. IfRan status (IsRun m bound (ending_of status) io io')))

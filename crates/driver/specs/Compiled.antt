@@ -7,6 +7,7 @@ use Rattle.model.specs.declared.causes.DeckFault.TheVariants as fault
 use Rattle.model.specs.declared.causes.StmtFault.{StmtFault}
 use Rattle.model.specs.declared.image.Image.{Image}
 use Rattle.model.specs.Laws.Agreement.{Agrees}
+use Rattle.model.specs.Deck.Cards.{first_cards}
 use Rattle.model.specs.Deck.Faults.{verdict, CardRefused, Refused, Accepted}
 use Rattle.model.specs.Module.Spelling.{IsImage, spelling}
 use Rattle.model.specs.Laws.StepBound.{EndsInTime}
@@ -25,13 +26,14 @@ pub record IsAccepted (deck : List ℕ) (ss : List Stmt) : Type 0 where
   pub faultless : verdict deck ≡ Accepted ss
   pub runs : not_yet 1 ss ≡ []
 
--- the bytes are the module of the deck: they spell its image, which is well-formed, does what the deck's statements mean
--- in as many steps as the step bound says, and has no instruction that the machine doesn't run yet
+-- the bytes are the module of the deck: they spell its image, of level 2 and with the card where each statement begins.
+-- It is well-formed, does what the deck's statements mean in as many steps as the step bound says, and has no instruction
+-- that the machine doesn't run yet
 pub record IsModuleOf (deck bytes : List ℕ) : Type 0 where
   pub statements : List Stmt
   pub trees : verdict deck ≡ Accepted statements
   pub image : Image
-  pub generated : image ≡ generated_image statements
+  pub generated : image ≡ generated_image (first_cards deck) statements
   pub has_spelling : IsImage image
   pub spelt : bytes ≡ spelling image
   pub sound : IsWellFormed image

@@ -1,2 +1,4 @@
 pub mod Compiled
 pub mod Whole
+pub mod Cards
+pub mod Upgraded

@@ -3,6 +3,7 @@ use Rattle.std.specs.Prelude.{◌≡◌, ℕ, ◌+◌, ◌*◌, ◌≤◌, List,
 use Rattle.model.specs.declared.run.Ending.{Ending}
 use Rattle.model.specs.declared.image.Image.{Image}
 use Rattle.model.specs.declared.run.Status.{Status}
+use Rattle.model.specs.Deck.Cards.{first_cards}
 use Rattle.model.specs.Laws.Agreement.{Agrees, Inputs, IsBeginning, Records, Seen, machine_at, meaning_at}
 use Rattle.model.specs.Laws.PrintedBefore.{seen_after}
 use Rattle.model.specs.Deck.Faults.{verdict, Accepted}
@@ -21,7 +22,7 @@ pub record IsRunOf (deck : List ℕ) (bound : ℕ) (status : Status) (before aft
   pub statements : List Stmt
   pub trees : verdict deck ≡ Accepted statements
   pub image : Image
-  pub generated : image ≡ generated_image statements
+  pub generated : image ≡ generated_image (first_cards deck) statements
   pub agrees : Agrees statements image
   pub in_time : EndsInTime statements image
   pub run : IfRan status (IfTold before after (λ io io'. record { ending = ending_of status; printed = io'.printed } ≡ seen_after io.printed (machine_at image io.left bound)))

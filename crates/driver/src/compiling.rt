@@ -1,6 +1,7 @@
 //! From a deck to a module.
 
 ghost use Rattle.std.specs.Prelude.{◌≡◌, List, IfOk, IfErr, OnOk};
+ghost use Rattle.model.specs.Deck.Cards.{first_cards};
 ghost use Rattle.model.specs.Deck.Faults.{verdict, Accepted};
 ghost use Rattle.model.specs.Deck.Trees as tree;
 ghost use Rattle.model.specs.Deck.TreeViews.{program_of};
@@ -37,9 +38,10 @@ impl From<DeckFault> for Refusal {
     }
 }
 
-// The trees of a deck without faults.
+// The trees of a deck without faults, and the cards where its statements begin.
 fn read_program(alloc: Global, deck: &[u8]) -> Result<Program, Refusal>
     ensures trees { IfOk result (λ p. verdict deck.now ≡ Accepted (program_of p)) }
+    ensures cards { IfOk result (λ p. p.cards ≡ first_cards deck.now) }
     ensures refused { IfErr result (IsRefusalOf deck.now) }
 {
     let deck = read_deck(alloc, deck)?;

@@ -1,7 +1,8 @@
 //! Whole calls: from a deck to a module, from a module to what it prints, and the words of the program `sno`.
 //!
 //! `run_deck(alloc, deck, units, bound)` compiles a deck and runs its module, at most `bound` steps; `compile_deck` and
-//! `run_module` are its halves, `check_module` and `show` look at a module.
+//! `run_module` are its halves, `run_with_card` tells the card of an error beside, `check_module` and `show` look at a
+//! module, and `upgrade` writes one of version 1 of the format anew.
 //!
 //!     let status = run_deck(alloc, b" OUTPUT = 'HI'\nEND\n", &mut units, 1_000)?;
 //!
@@ -16,13 +17,15 @@ mod refusal;
 mod running;
 mod showing;
 mod telling;
+mod upgrading;
 mod whole;
 mod words;
 
 pub use compiling::compile_deck;
 pub use refusal::Refusal;
-pub use running::run_module;
+pub use running::{Ran, run_module, run_with_card};
 pub use showing::{ShowFault, check_module, show};
 pub use telling::{Told, WriteFault, report};
+pub use upgrading::upgrade;
 pub use whole::run_deck;
 pub use words::{Job, UnitFile, read_words};

@@ -1,6 +1,7 @@
 //! What the program tells on standard error, and its exit status.
 
 use crate::refusal::Refusal;
+use crate::running::Ran;
 use model::{Ending, FormatFault, FormatRule, LoadFault, Status, Stop, UnitFault};
 use std::io::{self, Write};
 
@@ -10,7 +11,7 @@ pub enum Told<'a> {
     BadCommandLine,
     Refused(Refusal),
     BadModule(LoadFault),
-    Ran(Status),
+    Ran(Ran),
     CannotRead(&'a str),
     CannotWrite(&'a str),
     NoMemory,
@@ -28,15 +29,26 @@ impl From<io::Error> for WriteFault {
     }
 }
 
-fn report_ending<W: Write>(ending: Ending, out: &mut W) -> Result<u8, WriteFault> {
+// The end of a line that tells of a statement: the card where it begins, if that is known.
+fn end_with_card<W: Write>(card: u32, out: &mut W) -> io::Result<()> {
+    if card == 0 {
+        writeln!(out)
+    } else {
+        writeln!(out, " card {card}")
+    }
+}
+
+fn report_ending<W: Write>(ending: Ending, card: u32, out: &mut W) -> Result<u8, WriteFault> {
     match ending {
         Ending::Normal => Ok(0),
         Ending::Error { code, statement } => {
-            writeln!(out, "error {code} statement {statement}")?;
+            write!(out, "error {code} statement {statement}")?;
+            end_with_card(card, out)?;
             Ok(1)
         }
         Ending::StLimit { statement } => {
-            writeln!(out, "stlimit statement {statement}")?;
+            write!(out, "stlimit statement {statement}")?;
+            end_with_card(card, out)?;
             Ok(5)
         }
     }
@@ -75,13 +87,13 @@ fn report_bad_module<W: Write>(fault: LoadFault, out: &mut W) -> Result<u8, Writ
     Ok(4)
 }
 
-fn report_status<W: Write>(status: Status, out: &mut W) -> Result<u8, WriteFault> {
-    match status {
+fn report_run<W: Write>(ran: Ran, out: &mut W) -> Result<u8, WriteFault> {
+    match ran.status {
         Status::Running => {
             writeln!(out, "steps used up")?;
             Ok(5)
         }
-        Status::Ended(ending) => report_ending(ending, out),
+        Status::Ended(ending) => report_ending(ending, ran.card, out),
         Status::Stopped(stop) => report_stop(stop, out),
     }
 }
@@ -108,7 +120,7 @@ pub fn report<W: Write>(told: &Told<'_>, out: &mut W) -> Result<u8, WriteFault> 
         }
         Told::Refused(refusal) => report_refusal(refusal, out),
         Told::BadModule(fault) => report_bad_module(*fault, out),
-        Told::Ran(status) => report_status(*status, out),
+        Told::Ran(ran) => report_run(*ran, out),
         Told::CannotRead(file) => {
             writeln!(out, "cannot read {file}")?;
             Ok(6)

@@ -30,6 +30,11 @@ pub enum Job<'a> {
         deck: &'a str,
         module: &'a str,
     },
+    /// Write a module of version 1 of the format anew in version 2.
+    Upgrade {
+        old: &'a str,
+        new: &'a str,
+    },
     /// Say whether a module is accepted.
     Check {
         module: &'a str,
@@ -70,6 +75,12 @@ fn compile_words<'a>(alloc: Global) -> Result<Command<'a>, AllocError> {
         .arg(file(alloc, "MODULE"))
 }
 
+fn upgrade_words<'a>(alloc: Global) -> Result<Command<'a>, AllocError> {
+    bare(alloc, "upgrade")
+        .arg(file(alloc, "OLD"))?
+        .arg(file(alloc, "NEW"))
+}
+
 fn run_words<'a>(alloc: Global) -> Result<Command<'a>, AllocError> {
     let run = of_module(alloc, "run")?;
     let files = Arg::new(alloc, "UNIT=FILE")
@@ -95,6 +106,7 @@ fn with<'a>(
 fn command<'a>(alloc: Global) -> Result<Command<'a>, AllocError> {
     let top = bare(alloc, "sno").no_binary_name(true);
     let top = with(top, compile_words(alloc))?;
+    let top = with(top, upgrade_words(alloc))?;
     let top = with(top, of_module(alloc, "check"))?;
     let top = with(top, of_module(alloc, "show"))?;
     with(top, run_words(alloc))
@@ -163,12 +175,22 @@ fn run_job<'a>(
     })
 }
 
+// What the words of `upgrade` ask for.
+fn upgrade_job<'a>(matches: &ArgMatches<'a>) -> Result<Job<'a>, Told<'static>> {
+    let old = matches.get_str("OLD").ok_or(Told::BadCommandLine)?;
+    let new = matches.get_str("NEW").ok_or(Told::BadCommandLine)?;
+    Ok(Job::Upgrade { old, new })
+}
+
 // What the words of a subcommand ask for.
 fn subcommand_job<'a>(
     alloc: Global,
     name: &str,
     matches: &ArgMatches<'a>,
 ) -> Result<Job<'a>, Told<'static>> {
+    if name == "upgrade" {
+        return upgrade_job(matches);
+    }
     let module = matches.get_str("MODULE").ok_or(Told::BadCommandLine)?;
     match name {
         "compile" => {

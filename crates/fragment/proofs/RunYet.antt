@@ -200,13 +200,13 @@ none_left ss e = none_queued (weights.total weights.weight ss) (joined_parts (pr
 
 -- ---- the laws
 
-pub run_yet : (ss : List Stmt) → not_yet 1 ss ≡ [] → AreRunYet (generated_image ss).code
-run_yet ss e =
+pub run_yet : (cards : List ℕ) (ss : List Stmt) → not_yet 1 ss ≡ [] → AreRunYet (generated_image cards ss).code
+run_yet cards ss e =
     let first : RunsYet (joined_parts (program_parts ss)) = statements_run (labelled_from 1 ss) 1 ss e in
     let last : RunsYet (joined_parts (expressions_of ss)) = subst (λ ps. RunsYet (joined_parts ps)) (sym (none_left ss e)) none in
     (both first last).code (texts_of ss) 0 0
 
-pub evaluated : (ss : List Stmt) → not_yet 1 ss ≡ [] → (generated_image ss).expressions ≡ []
-evaluated ss e =
+pub evaluated : (cards : List ℕ) (ss : List Stmt) → not_yet 1 ss ≡ [] → (generated_image cards ss).expressions ≡ []
+evaluated cards ss e =
     let first : Part = joined_parts (program_parts ss) in
     ap (λ ps. offsets ps (texts_of ss) (length first.later) (code_size (first.code (texts_of ss) 0 0))) (none_left ss e)

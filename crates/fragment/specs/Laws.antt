@@ -7,8 +7,8 @@ use Rattle.fragment.specs.Fragment.{not_yet}
 
 -- each of its instructions is one that the machine has
 abbrev pub HasOnlyKnown : Type 0
-HasOnlyKnown = (ss : List Stmt) → not_yet 1 ss ≡ [] → AreRunYet (generated_image ss).code
+HasOnlyKnown = (cards : List ℕ) (ss : List Stmt) → not_yet 1 ss ≡ [] → AreRunYet (generated_image cards ss).code
 
 -- it has no unevaluated expression
 abbrev pub IsEvaluated : Type 0
-IsEvaluated = (ss : List Stmt) → not_yet 1 ss ≡ [] → (generated_image ss).expressions ≡ []
+IsEvaluated = (cards : List ℕ) (ss : List Stmt) → not_yet 1 ss ≡ [] → (generated_image cards ss).expressions ≡ []

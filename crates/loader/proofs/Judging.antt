@@ -1,18 +1,23 @@
 -- Images that are accepted are those that the machine runs.
 use Rattle.std.proofs.Common.{◌≡◌, ℕ, ◌+◌, Bool, true, false, List, [], ◌∷◌, Option, Some, None, Result, Ok, Err, refl, sym, ap, ◌∙◌, ◌⊎◌, inl, inr, subst}
-use Rattle.std.specs.Prelude.{if◌then◌else◌}
+use Rattle.std.specs.Prelude.{if◌then◌else◌, IfOk}
 use Rattle.model.specs.declared.format.LoadFault.{LoadFault}
 use Rattle.model.specs.declared.format.Miss.{Miss}
 use Rattle.model.specs.declared.format.ModuleFault.{ModuleFault}
+use Rattle.model.specs.declared.format.Version.{Version}
+use Rattle.model.specs.declared.format.Version.TheVariants as versions
 use Rattle.model.specs.declared.image.Image.{Image}
 use Rattle.model.specs.declared.instr.Instr.{Instr}
 use Rattle.model.specs.Module.Flow.{BreaksFlow, IsLeast}
-use Rattle.model.specs.Module.Loading.{Loads}
+use Rattle.model.specs.Module.Loading.{Loads, LoadsIn}
 use Rattle.model.specs.Module.Images.{instr_size}
-use Rattle.model.specs.Module.Reading.{read_image}
-use Rattle.model.specs.Module.Spelling.{IsImage}
+use Rattle.model.specs.Module.Reading.{image_in, read_image}
+use Rattle.model.specs.Module.Spelling.{IsImage, IsImageIn}
 use Rattle.model.specs.Module.WellFormed.{IsTold, IsWellFormed, comes_first, flow_fault, lesser_fault, part_fault}
-use Rattle.loader.specs.Answers.{IsAnswer, IsJudged, IsKnown, IsReadAs, no_memory, image_verdict}
+use Rattle.model.specs.Laws.OneSpelling.{IsBytes}
+use Rattle.model.proofs.Module.LeastFaults.{fine_in_each}
+use Rattle.model.proofs.Module.SpeltImages.{read_is_spelt}
+use Rattle.loader.specs.Answers.{IsAnswer, IsChecked, IsJudged, IsKnown, IsReadAs, IsOlderAnswer, IsOlderReadAs, no_memory, image_verdict}
 use Rattle.loader.specs.Loaded.{IsLoaded}
 use Rattle.loader.specs.Running.{AreRunYet, first_told, first_unknown, not_yet, runs_yet}
 
@@ -45,32 +50,35 @@ neither None g e = (refl, e)
 neither (Some f) None e = absurd cc
 neither (Some f) (Some g) e = absurd (chosen (comes_first g f) f g e)
 
-no_flow : (im : Image) (flow : Option ℕ) → flow_fault im flow ≡ None → flow ≡ None
-no_flow im None e = refl
-no_flow im (Some at) e = absurd cc
+no_flow : (v : Version) (im : Image) (flow : Option ℕ) → flow_fault v im flow ≡ None → flow ≡ None
+no_flow v im None e = refl
+no_flow v im (Some at) e = absurd cc
 
 least_none : (im : Image) (flow : Option ℕ) → flow ≡ None → IsLeast (BreaksFlow im) flow → IsLeast (BreaksFlow im) None
 least_none im None e h = h
 least_none im (Some at) e h = absurd cc
 
-well_formed : (im : Image) → IsTold im None → IsWellFormed im
-well_formed im told =
-    let n = neither (part_fault im) (flow_fault im told.0) (sym told.2) in
-    record { parts = n.0; flow = least_none im told.0 (no_flow im told.0 n.1) told.1 }
+well_formed : (v : Version) (im : Image) → IsTold v im None → IsWellFormed im
+well_formed v im told =
+    let n = neither (part_fault v im) (flow_fault v im told.0) (sym told.2) in
+    record { parts = fine_in_each v versions.Two im n.0; flow = least_none im told.0 (no_flow v im told.0 n.1) told.1 }
 
-pub loaded : (im : Image) → IsImage im → not_yet im ≡ None → IsTold im None → IsLoaded im
+pub loaded : (im : Image) → IsImage im → not_yet im ≡ None → IsTold versions.Two im None → IsLoaded im
 loaded im spelt known told =
     let all = all_known (first_unknown 0 im.code) im.expressions known in
-    record { spelt = spelt; formed = well_formed im told; run_yet = all_run 0 im.code all.0; evaluated = all.1 }
+    record { spelt = spelt; formed = well_formed versions.Two im told; run_yet = all_run 0 im.code all.0; evaluated = all.1 }
 
 -- ---- what is answered of one that runs
 
-untold : (im : Image) (flow : Option ℕ) → IsWellFormed im → IsLeast (BreaksFlow im) flow → lesser_fault (part_fault im) (flow_fault im flow) ≡ None
-untold im None formed least = rw (formed.parts) refl
-untold im (Some at) formed least = absurd (formed.flow at least.0)
+untold : (v : Version) (im : Image) (flow : Option ℕ) → IsWellFormed im → IsLeast (BreaksFlow im) flow → lesser_fault (part_fault v im) (flow_fault v im flow) ≡ None
+untold v im None formed least = rw (fine_in_each versions.Two v im formed.parts) refl
+untold v im (Some at) formed least = absurd (formed.flow at least.0)
+
+checked : (v : Version) (im : Image) (result : Result Image LoadFault) → IsWellFormed im → IsChecked v im result → result ≡ Ok im
+checked v im result formed h = h.2 ∙ ap (image_verdict im) (h.1.2 ∙ untold v im h.1.0 formed h.1.1)
 
 judged : (im : Image) (unknown : Option ℕ) (result : Result Image LoadFault) → IsWellFormed im → unknown ≡ None → IsJudged im unknown result → result ≡ Ok im
-judged im None result formed e h = h.2 ∙ ap (image_verdict im) (h.1.2 ∙ untold im h.1.0 formed h.1.1)
+judged im None result formed e h = checked versions.Two im result formed h
 judged im (Some at) result formed e h = absurd cc
 
 read_as : (bytes : List ℕ) (read : Result Image Miss) (im : Image) (result : Result Image LoadFault) → IsLoaded im → read ≡ Ok im → IsReadAs bytes read result → result ≡ Ok im
@@ -85,12 +93,15 @@ accepted bytes im result (inr h) e runs = inl (read_as bytes (read_image bytes) 
 
 -- ---- where all run, what is told is what is defined
 
-told_so : (bytes : List ℕ) (im : Image) (fault : Option ModuleFault) → read_image bytes ≡ Ok im → IsTold im fault → Loads bytes (image_verdict im fault)
-told_so bytes im None e told = (e, well_formed im told)
-told_so bytes im (Some f) e told = (im, e, told)
+told_so : (v : Version) (bytes : List ℕ) (im : Image) (fault : Option ModuleFault) → image_in v bytes ≡ Ok im → IsTold v im fault → LoadsIn v bytes (image_verdict im fault)
+told_so v bytes im None e told = (e, well_formed v im told)
+told_so v bytes im (Some f) e told = (im, e, told)
+
+checked_so : (v : Version) (bytes : List ℕ) (im : Image) (result : Result Image LoadFault) → image_in v bytes ≡ Ok im → IsChecked v im result → LoadsIn v bytes result
+checked_so v bytes im result e h = subst (LoadsIn v bytes) (sym h.2) (told_so v bytes im h.0 e h.1)
 
 judged_so : (bytes : List ℕ) (im : Image) (unknown : Option ℕ) (result : Result Image LoadFault) → read_image bytes ≡ Ok im → unknown ≡ None → IsJudged im unknown result → Loads bytes result
-judged_so bytes im None result e none h = subst (Loads bytes) (sym h.2) (told_so bytes im h.0 e h.1)
+judged_so bytes im None result e none h = checked_so versions.Two bytes im result e h
 judged_so bytes im (Some at) result e none h = absurd cc
 
 read_so : (bytes : List ℕ) (read : Result Image Miss) (result : Result Image LoadFault) → read_image bytes ≡ read → IsKnown bytes → IsReadAs bytes read result → Loads bytes result
@@ -100,3 +111,29 @@ read_so bytes (Err miss) result e known h = subst (Loads bytes) (sym h) (miss, e
 pub loads : (bytes : List ℕ) (result : Result Image LoadFault) → IsAnswer bytes result → IsKnown bytes → (result ≡ Err no_memory) ⊎ Loads bytes result
 loads bytes result (inl memory) known = inl memory
 loads bytes result (inr h) known = inr (read_so bytes (read_image bytes) result refl known h)
+
+-- ---- version 1
+
+older_so : (bytes : List ℕ) (read : Result Image Miss) (result : Result Image LoadFault) → image_in versions.One bytes ≡ read → IsOlderReadAs bytes read result → LoadsIn versions.One bytes result
+older_so bytes (Ok im) result e h = checked_so versions.One bytes im result e h
+older_so bytes (Err miss) result e h = subst (LoadsIn versions.One bytes) (sym h) (miss, e, refl)
+
+pub older_loads : (bytes : List ℕ) (result : Result Image LoadFault) → IsOlderAnswer bytes result → (result ≡ Err no_memory) ⊎ LoadsIn versions.One bytes result
+older_loads bytes result (inl memory) = inl memory
+older_loads bytes result (inr h) = inr (older_so bytes (image_in versions.One bytes) result refl h)
+
+older_read_as : (bytes : List ℕ) (read : Result Image Miss) (im : Image) (result : Result Image LoadFault) → IsWellFormed im → read ≡ Ok im → IsOlderReadAs bytes read result → result ≡ Ok im
+older_read_as bytes (Ok m) im result formed e h =
+    let same : m ≡ im = cc in
+    checked versions.One m result (rw same formed) h ∙ ap Ok same
+older_read_as bytes (Err miss) im result formed e h = absurd cc
+
+pub older_accepted : (bytes : List ℕ) (im : Image) (result : Result Image LoadFault) → IsOlderAnswer bytes result → image_in versions.One bytes ≡ Ok im → IsWellFormed im → (result ≡ Ok im) ⊎ (result ≡ Err no_memory)
+older_accepted bytes im result (inl memory) e formed = inr memory
+older_accepted bytes im result (inr h) e formed = inl (older_read_as bytes (image_in versions.One bytes) im result formed e h)
+
+-- what was read is what an image of version 1 is
+pub older_loaded : (bytes : List ℕ) (result : Result Image LoadFault) → IsBytes bytes → (result ≡ Err no_memory) ⊎ LoadsIn versions.One bytes result → IfOk result (λ m. (image_in versions.One bytes ≡ Ok m) × IsImageIn versions.One m × IsWellFormed m)
+older_loaded bytes (Err f) fits h = tt
+older_loaded bytes (Ok m) fits (inl e) = absurd (cc)
+older_loaded bytes (Ok m) fits (inr h) = (h.0, (read_is_spelt versions.One bytes m fits h.0).0, h.1)

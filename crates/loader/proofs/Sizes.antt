@@ -2,11 +2,13 @@
 use Rattle.std.proofs.Common.{◌≡◌, ℕ, zero, suc, ◌+◌, ◌*◌, ◌^◌, ◌<◌, ◌≤◌, List, [], ◌∷◌, ◌++◌, length, map, take, get_or, arith}
 use Rattle.std.specs.List.{sum}
 use Rattle.std.proofs.lemmas.List.Sums.{sum_by-cons}
+use Rattle.model.specs.declared.format.Version.{Version}
+use Rattle.model.specs.declared.format.Version.TheVariants as versions
 use Rattle.model.specs.declared.image.Image.{Image}
 use Rattle.model.specs.declared.image.PatInstr.{PatInstr}
 use Rattle.model.specs.declared.image.PatInstr.TheVariants as pats
 use Rattle.model.specs.Module.Spelling.{Follow, IsTable, IsImage, StringFits, PatternFits, most, most_code}
-use Rattle.model.specs.Module.WellFormed.{string_bytes, pat_bytes, pattern_bytes, labels_offset, statements_offset, expressions_offset, patterns_offset, code_offset}
+use Rattle.model.specs.Module.WellFormed.{string_bytes, pat_bytes, pattern_bytes, cards_bytes, entry_offset, labels_offset, statements_offset, expressions_offset, patterns_offset, code_offset}
 
 sum_cons : (n : ℕ) (ns : List ℕ) → sum (n ∷ ns) ≡ n + sum ns
 sum_cons n ns = sum_by-cons (λ x. x) n ns
@@ -56,22 +58,34 @@ patterns_short ps is = omega (arith, is.count, bounded pattern_bytes 150994948 P
 
 -- ---- whole images
 
--- where the parts stand, far from the greatest number
-pub record AreShort (im : Image) : Type 0 where
-  pub labels : labels_offset im + 8 * length im.labels < 2 ^ 60
-  pub statements : statements_offset im + 4 * length im.statements < 2 ^ 60
-  pub expressions : expressions_offset im + 4 * length im.expressions < 2 ^ 60
-  pub patterns : patterns_offset im + sum (map pattern_bytes im.patterns) < 2 ^ 60
-  pub code : code_offset im + most_code < 2 ^ 60
+-- where the parts stand in a version of the format, far from the greatest number
+pub record AreShort (v : Version) (im : Image) : Type 0 where
+  pub cards : cards_bytes v im ≤ 4 * length im.statements
+  pub labels : labels_offset v im + 8 * length im.labels < 2 ^ 60
+  pub statements : statements_offset v im + 4 * length im.statements < 2 ^ 60
+  pub expressions : expressions_offset v im + 4 * length im.expressions < 2 ^ 60
+  pub patterns : patterns_offset v im + sum (map pattern_bytes im.patterns) < 2 ^ 60
+  pub code : code_offset v im + most_code < 2 ^ 60
 
-pub places_short : (im : Image) → IsImage im → AreShort im
-places_short im is =
+entry_short : (v : Version) → entry_offset v ≤ 8
+entry_short versions.One = omega arith
+entry_short versions.Two = omega arith
+
+cards_short : (v : Version) (im : Image) → cards_bytes v im ≤ 4 * length im.statements
+cards_short versions.One im = omega arith
+cards_short versions.Two im = omega arith
+
+pub places_short : (v : Version) (im : Image) → IsImage im → AreShort v im
+places_short v im is =
+    let e = entry_short v in
+    let cs = cards_short v im in
     let ss = strings_short im.strings is.strings in
     let ps = patterns_short im.patterns is.patterns in
     record {
-      labels = omega (arith, ss, is.labels.count);
-      statements = omega (arith, ss, is.labels.count, is.statements.count);
-      expressions = omega (arith, ss, is.labels.count, is.statements.count, is.expressions.count);
-      patterns = omega (arith, ss, ps, is.labels.count, is.statements.count, is.expressions.count);
-      code = omega (arith, ss, ps, is.labels.count, is.statements.count, is.expressions.count);
+      cards = cs;
+      labels = omega (arith, e, ss, is.labels.count);
+      statements = omega (arith, e, ss, is.labels.count, is.statements.count);
+      expressions = omega (arith, e, ss, cs, is.labels.count, is.statements.count, is.expressions.count);
+      patterns = omega (arith, e, ss, cs, ps, is.labels.count, is.statements.count, is.expressions.count);
+      code = omega (arith, e, ss, cs, ps, is.labels.count, is.statements.count, is.expressions.count);
     }

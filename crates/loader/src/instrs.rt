@@ -1,11 +1,11 @@
 //! The instructions of the code.
 
-ghost use Rattle.std.specs.Prelude.{◌≡◌, ◌==◌, ◌&&◌, nat_lt};
+ghost use Rattle.std.specs.Prelude.{◌≡◌, ◌<◌, ◌+◌, ◌^◌, ◌==◌, ◌&&◌, nat_lt};
 ghost use Rattle.std.specs.List.{list_any};
 ghost use Rattle.model.specs.Module.Flow.{is_fetched};
 ghost use Rattle.model.specs.Module.Images.{fetch_from, code_size};
-ghost use Rattle.model.specs.Module.Spelling.{IsImage, IsTable, StatementFits};
-ghost use Rattle.model.specs.Module.WellFormed.{begins_last, code_offset, indices_fit, instr_rule};
+ghost use Rattle.model.specs.Module.Spelling.{IsImage, IsTable, StatementFits, most_code};
+ghost use Rattle.model.specs.Module.WellFormed.{begins_last, indices_fit, instr_rule};
 ghost use Rattle.model.specs.Module.WellFormed.{is_end_instr, is_last_instr, place_fits};
 ghost use Rattle.loader.specs.Parts.{code_fault};
 
@@ -130,8 +130,8 @@ fn size_of(image: &Image) -> u32
 pub(crate) fn code_fault(image: &Image, placed: &PlacedCode, place: usize) -> Option<ModuleFault>
     requires spelt { IsImage image.now }
     requires placed { placed.now ≡ image.now.code }
-    requires there { place ≡ code_offset image.now }
-    ensures { result ≡ code_fault image.now }
+    requires there { place + most_code < 2 ^ 60 }
+    ensures { result ≡ code_fault place image.now }
 {
     let size = size_of(image);
     let mut at = 0;

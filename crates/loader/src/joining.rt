@@ -12,22 +12,23 @@ use crate::patterns::patterns_fault;
 use crate::places::{code_offset, places_of};
 use crate::tables::{entry_fault, expression_fault, statement_fault};
 use flow_check::check_flow;
-use model::{Image, ModuleFault, ModuleRule};
+use model::{Image, ModuleFault, ModuleRule, Version};
 use std::alloc::{AllocError, Global};
 
 // The first fault of the parts.
 fn part_fault(
     alloc: Global,
+    version: Version,
     image: &Image,
     placed: &PlacedCode,
 ) -> Result<Option<ModuleFault>, AllocError>
     requires spelt { IsImage image.now }
     requires placed { placed.now ≡ image.now.code }
-    ensures { IfOk result (λ fault. fault ≡ part_fault image.now) }
+    ensures { IfOk result (λ fault. fault ≡ part_fault version image.now) }
 {
-    let places = places_of(image);
+    let places = places_of(version, image);
     Ok(
-        entry_fault(image)
+        entry_fault(version, image)
             .or(label_fault(alloc, image, places.labels)?)
             .or(statement_fault(image, placed, places.statements))
             .or(expression_fault(image, placed, places.expressions))
@@ -61,28 +62,29 @@ fn lesser(first: Option<ModuleFault>, second: Option<ModuleFault>) -> Option<Mod
 }
 
 // The fault of the flow at an offset of the code.
-fn flow_fault(image: &Image, flow: Option<u32>) -> Option<ModuleFault>
+fn flow_fault(version: Version, image: &Image, flow: Option<u32>) -> Option<ModuleFault>
     requires { IsImage image.now }
-    ensures { result ≡ flow_fault image.now flow }
+    ensures { result ≡ flow_fault version image.now flow }
 {
     let at = flow?;
     Some(ModuleFault {
-        offset: code_offset(image, at),
+        offset: code_offset(version, image, at),
         rule: ModuleRule::BadFlow,
     })
 }
 
-/// The least fault of an image, with its code by the offsets.
+/// The least fault of an image that is spelt in a version of the format, with its code by the offsets.
 pub(crate) fn fault_of(
     alloc: Global,
+    version: Version,
     image: &Image,
     placed: &PlacedCode,
 ) -> Result<Option<ModuleFault>, AllocError>
     requires spelt { IsImage image.now }
     requires placed { placed.now ≡ image.now.code }
-    ensures { IfOk result (λ fault. IsTold image.now fault) }
+    ensures { IfOk result (λ fault. IsTold version image.now fault) }
 {
-    let parts = part_fault(alloc, image, placed)?;
+    let parts = part_fault(alloc, version, image, placed)?;
     let flow = check_flow(alloc, image)?;
-    Ok(lesser(parts, flow_fault(image, flow)))
+    Ok(lesser(parts, flow_fault(version, image, flow)))
 }

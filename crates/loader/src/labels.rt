@@ -1,11 +1,12 @@
 //! The table of labels.
 
-ghost use Rattle.std.specs.Prelude.{◌≡◌, ◌&&◌, List, ℕ, None, IfOk, option_copied, slice_get};
+ghost use Rattle.std.specs.Prelude.{◌≡◌, ◌<◌, ◌+◌, ◌*◌, ◌^◌, ◌&&◌, List, ℕ, None, IfOk, length};
+ghost use Rattle.std.specs.Prelude.{option_copied, slice_get};
 ghost use Rattle.std.specs.Str.{bytes_eq};
 ghost use Rattle.std.specs.HashMap.{get_by};
 ghost use Rattle.model.specs.Module.Images.{statement_labelled};
 ghost use Rattle.model.specs.Module.Spelling.{IsImage};
-ghost use Rattle.model.specs.Module.WellFormed.{is_label_name, is_statement, labels_offset};
+ghost use Rattle.model.specs.Module.WellFormed.{is_label_name, is_statement};
 ghost use Rattle.loader.specs.Parts.{label_fault};
 
 use crate::names::{is_label_name, is_statement};
@@ -31,8 +32,8 @@ pub(crate) fn label_fault(
     place: usize,
 ) -> Result<Option<ModuleFault>, AllocError>
     requires spelt { IsImage image.now }
-    requires there { place ≡ labels_offset image.now }
-    ensures { IfOk result (λ fault. fault ≡ label_fault image.now) }
+    requires there { place + 8 * length image.now.labels < 2 ^ 60 }
+    ensures { IfOk result (λ fault. fault ≡ label_fault place image.now) }
 {
     let mut seen = IndexSet::new(alloc);
     let mut offset = place;

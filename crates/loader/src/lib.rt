@@ -1,7 +1,8 @@
 //! From bytes to a checked module, as the machine reads it.
 //!
 //! `load(alloc, bytes)` gives a `Module` or the fault that is told: F1 to F7 of the bytes, W1 to W5 of the image. A
-//! module is read by place (`at`), by number (`statement`, `string`, ..) and by name (`label`).
+//! module is read by place (`at`), by number (`statement`, `card`, `string`, ..) and by name (`label`).
+//! `load_v1` gives the image of bytes that were written in version 1 of the format.
 //!
 //!     let module = load(alloc, &bytes)?;
 //!     let first = module.entry();
@@ -25,6 +26,6 @@ mod tables;
 
 pub use code::{bytes, has_primitive, runs_yet};
 pub use decoding::Decoded;
-pub use loading::load;
+pub use loading::{load, load_v1};
 pub use module::Module;
 pub use names::return_of;

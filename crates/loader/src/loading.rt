@@ -1,11 +1,13 @@
 //! From bytes to a module.
 
 ghost use Rattle.std.specs.Prelude.{◌≡◌, ◌⊎◌, Err, Ok, IfOk};
+ghost use Rattle.model.specs.declared.format.Version.TheVariants as versions;
 ghost use Rattle.model.specs.declared.image.Image.{Image};
-ghost use Rattle.model.specs.Module.Loading.{Loads};
-ghost use Rattle.model.specs.Module.Reading.{read_image};
-ghost use Rattle.model.specs.Module.Spelling.{IsImage};
-ghost use Rattle.loader.specs.Answers.{IsAnswer, IsJudged, IsKnown, no_memory};
+ghost use Rattle.model.specs.Module.Loading.{Loads, LoadsIn};
+ghost use Rattle.model.specs.Module.Reading.{image_in, read_image};
+ghost use Rattle.model.specs.Module.Spelling.{IsImage, IsImageIn};
+ghost use Rattle.model.specs.Module.WellFormed.{IsWellFormed};
+ghost use Rattle.loader.specs.Answers.{IsAnswer, IsChecked, IsJudged, IsKnown, IsOlderAnswer, no_memory};
 ghost use Rattle.loader.specs.Loaded.{IsLoaded};
 ghost use Rattle.loader.specs.Running.{not_yet};
 
@@ -13,8 +15,8 @@ use crate::code::{PlacedCode, not_yet};
 use crate::joining::fault_of;
 use crate::module::Module;
 use crate::places::code_offset;
-use model::{FormatFault, FormatRule, Image, LoadFault};
-use module_format::read_image;
+use model::{FormatFault, FormatRule, Image, LoadFault, Version};
+use module_format::{read_image, read_image_v1};
 use std::alloc::{AllocError, Global};
 
 // The module of an image, or why it is refused.
@@ -24,12 +26,12 @@ fn judge(alloc: Global, image: Image) -> Result<Result<Module, LoadFault>, Alloc
 {
     if let Some(at) = not_yet(&image) {
         return Ok(Err(LoadFault::Format(FormatFault {
-            offset: code_offset(&image, at),
+            offset: code_offset(Version::Two, &image, at),
             rule: FormatRule::UnknownInstruction,
         })));
     }
     let placed = PlacedCode::of(alloc, &image)?;
-    match fault_of(alloc, &image, &placed)? {
+    match fault_of(alloc, Version::Two, &image, &placed)? {
         Some(fault) => Ok(Err(LoadFault::Module(fault))),
         None => Ok(Ok(Module::new(alloc, image, &placed)?)),
     }
@@ -62,4 +64,45 @@ pub fn load(alloc: Global, bytes: &[u8]) -> Result<Module, LoadFault>
         → (result ≡ Ok m) ⊎ (result ≡ Err no_memory) }
 {
     answer(alloc, bytes)
+}
+
+// An image that version 1 spells, or why it is refused.
+fn check(alloc: Global, image: Image) -> Result<Result<Image, LoadFault>, AllocError>
+    requires { IsImage image }
+    ensures { IfOk result (λ answer. IsChecked versions.One image answer) }
+{
+    let placed = PlacedCode::of(alloc, &image)?;
+    match fault_of(alloc, Version::One, &image, &placed)? {
+        Some(fault) => Ok(Err(LoadFault::Module(fault))),
+        None => Ok(Ok(image)),
+    }
+}
+
+fn older_answer(alloc: Global, bytes: &[u8]) -> Result<Image, LoadFault>
+    ensures { IsOlderAnswer bytes.now result }
+{
+    let image = match read_image_v1(alloc, bytes) {
+        Ok(image) => image,
+        Err(fault) => return Err(LoadFault::Format(fault)),
+    };
+    match check(alloc, image) {
+        Ok(answer) => answer,
+        Err(_) => Err(LoadFault::Format(FormatFault {
+            offset: 0,
+            rule: FormatRule::Memory,
+        })),
+    }
+}
+
+/// The image of level 1 that bytes of version 1 spell, or why they are refused: the first format fault, or else the
+/// least fault of the conditions, at its offset there. An instruction that doesn't run yet is none. Where a growth was
+/// refused that is told in place of any other answer.
+pub fn load_v1(alloc: Global, bytes: &[u8]) -> Result<Image, LoadFault>
+    ensures exact { (result ≡ Err no_memory) ⊎ LoadsIn versions.One bytes.now result }
+    ensures loaded { IfOk result (λ m.
+        (image_in versions.One bytes.now ≡ Ok m) × IsImageIn versions.One m × IsWellFormed m) }
+    ensures accepted { (m : Image) → image_in versions.One bytes.now ≡ Ok m → IsWellFormed m
+        → (result ≡ Ok m) ⊎ (result ≡ Err no_memory) }
+{
+    older_answer(alloc, bytes)
 }

@@ -1,8 +1,9 @@
 //! The table of patterns.
 
-ghost use Rattle.std.specs.Prelude.{◌≡◌, ◌<◌, ◌≤◌, ◌^◌, [], length, take, slice_index_or};
+ghost use Rattle.std.specs.Prelude.{◌≡◌, ◌<◌, ◌≤◌, ◌+◌, ◌^◌, [], length, map, take, slice_index_or};
+ghost use Rattle.std.specs.List.{sum};
 ghost use Rattle.model.specs.Module.Spelling.{IsImage, most};
-ghost use Rattle.model.specs.Module.WellFormed.{is_jump, pat_rule, pattern_fault, patterns_offset};
+ghost use Rattle.model.specs.Module.WellFormed.{is_jump, pat_rule, pattern_bytes, pattern_fault};
 ghost use Rattle.model.specs.declared.image.PatInstr.TheVariants.{Lit};
 ghost use Rattle.loader.specs.Parts.{patterns_fault};
 
@@ -68,8 +69,8 @@ fn pattern_fault(image: &Image, pattern: &[PatInstr], place: usize) -> Option<Mo
 /// The first fault of the patterns, which begin at a place.
 pub(crate) fn patterns_fault(image: &Image, place: usize) -> Option<ModuleFault>
     requires spelt { IsImage image.now }
-    requires there { place ≡ patterns_offset image.now }
-    ensures { result ≡ patterns_fault image.now }
+    requires there { place + sum (map pattern_bytes image.now.patterns) < 2 ^ 60 }
+    ensures { result ≡ patterns_fault place image.now }
 {
     let mut offset = place;
     let patterns = image.patterns.as_slice();

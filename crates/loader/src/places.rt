@@ -3,11 +3,12 @@
 ghost use Rattle.std.specs.Prelude.{◌≡◌, ◌+◌, ◌≤◌, length, map};
 ghost use Rattle.std.specs.List.{sum};
 ghost use Rattle.model.specs.Module.Spelling.{IsImage, IsTable, PatternFits, StringFits, most};
-ghost use Rattle.model.specs.Module.WellFormed.{code_offset, expressions_offset, labels_offset};
+ghost use Rattle.model.specs.Module.WellFormed.{cards_bytes, code_offset, entry_offset};
+ghost use Rattle.model.specs.Module.WellFormed.{expressions_offset, labels_offset};
 ghost use Rattle.model.specs.Module.WellFormed.{pat_bytes, pattern_bytes, patterns_offset};
 ghost use Rattle.model.specs.Module.WellFormed.{statements_offset, string_bytes};
 
-use model::{Bytes, Image, PatInstr, Seq};
+use model::{Bytes, Image, PatInstr, Seq, Version};
 
 /// The offsets of the first entry of each table.
 #[derive(Clone, Copy)]
@@ -69,19 +70,41 @@ fn patterns_size(patterns: &[Seq<PatInstr>]) -> usize
     size
 }
 
-/// Where the parts of an image stand once it is spelt.
-#[tactic(auto, using(crate::proofs::Sizes::places_short))]
-pub(crate) fn places_of(image: &Image) -> Places
-    requires { IsImage image.now }
-    ensures labels { result.labels ≡ labels_offset image.now }
-    ensures statements { result.statements ≡ statements_offset image.now }
-    ensures expressions { result.expressions ≡ expressions_offset image.now }
-    ensures patterns { result.patterns ≡ patterns_offset image.now }
-    ensures code { result.code ≡ code_offset image.now }
+/// Where the entry stands in a version of the format.
+pub(crate) fn entry_at(version: Version) -> usize
+    ensures { result ≡ entry_offset version }
 {
-    let labels = 18 + strings_size(image.strings.as_slice());
+    match version {
+        Version::One => 6,
+        Version::Two => 8,
+    }
+}
+
+// How many bytes the cards have.
+fn cards_size(version: Version, image: &Image) -> usize
+    requires { IsImage image.now }
+    ensures { result ≡ cards_bytes version image.now }
+{
+    match version {
+        Version::One => 0,
+        Version::Two => 4 * image.statements.as_slice().len(),
+    }
+}
+
+/// Where the parts of an image stand once it is spelt in a version of the format.
+#[tactic(auto, using(crate::proofs::Sizes::places_short))]
+pub(crate) fn places_of(version: Version, image: &Image) -> Places
+    requires { IsImage image.now }
+    ensures labels { result.labels ≡ labels_offset version image.now }
+    ensures statements { result.statements ≡ statements_offset version image.now }
+    ensures expressions { result.expressions ≡ expressions_offset version image.now }
+    ensures patterns { result.patterns ≡ patterns_offset version image.now }
+    ensures code { result.code ≡ code_offset version image.now }
+{
+    let labels = entry_at(version) + 4 + 4 + strings_size(image.strings.as_slice()) + 4;
     let statements = labels + 8 * image.labels.as_slice().len() + 4;
-    let expressions = statements + 4 * image.statements.as_slice().len() + 4;
+    let cards = cards_size(version, image);
+    let expressions = statements + 4 * image.statements.as_slice().len() + cards + 4;
     let patterns = expressions + 4 * image.expressions.as_slice().len() + 4;
     let code = patterns + patterns_size(image.patterns.as_slice()) + 4;
     Places {
@@ -94,9 +117,9 @@ pub(crate) fn places_of(image: &Image) -> Places
 }
 
 /// Where an offset of the code stands in the module.
-pub(crate) fn code_offset(image: &Image, at: u32) -> usize
+pub(crate) fn code_offset(version: Version, image: &Image, at: u32) -> usize
     requires { IsImage image.now }
-    ensures { result ≡ code_offset image.now + at }
+    ensures { result ≡ code_offset version image.now + at }
 {
-    places_of(image).code + at as usize
+    places_of(version, image).code + at as usize
 }

@@ -1,28 +1,27 @@
 //! The entry, and the tables of offsets.
 
-ghost use Rattle.std.specs.Prelude.{◌≡◌, if◌then◌else◌};
+ghost use Rattle.std.specs.Prelude.{◌≡◌, ◌<◌, ◌+◌, ◌*◌, ◌^◌, length, if◌then◌else◌};
 ghost use Rattle.model.specs.declared.format.ModuleRule.TheVariants.{BadTarget, NoEnd};
 ghost use Rattle.model.specs.Module.Flow.{is_fetched};
 ghost use Rattle.model.specs.Module.Images.{fetch_from};
 ghost use Rattle.model.specs.Module.Spelling.{IsImage};
-ghost use Rattle.model.specs.Module.WellFormed.{expressions_offset, is_begin, unless, statements_offset};
+ghost use Rattle.model.specs.Module.WellFormed.{is_begin, unless};
 ghost use Rattle.loader.specs.Parts.{entry_fault, expression_fault, statement_fault};
 
 use crate::code::PlacedCode;
 use crate::names::{is_statement, rule};
-use model::{Image, ModuleFault, ModuleRule};
-
-const ENTRY: usize = 6;
+use crate::places::entry_at;
+use model::{Image, ModuleFault, ModuleRule, Version};
 
 /// The fault of the entry.
-pub(crate) fn entry_fault(image: &Image) -> Option<ModuleFault>
-    ensures { result ≡ entry_fault image.now }
+pub(crate) fn entry_fault(version: Version, image: &Image) -> Option<ModuleFault>
+    ensures { result ≡ entry_fault version image.now }
 {
     if is_statement(image, image.entry) {
         return None;
     }
     Some(ModuleFault {
-        offset: ENTRY,
+        offset: entry_at(version),
         rule: ModuleRule::BadIndex,
     })
 }
@@ -48,8 +47,8 @@ pub(crate) fn statement_fault(
 ) -> Option<ModuleFault>
     requires spelt { IsImage image.now }
     requires placed { placed.now ≡ image.now.code }
-    requires there { place ≡ statements_offset image.now }
-    ensures { result ≡ statement_fault image.now }
+    requires there { place + 4 * length image.now.statements < 2 ^ 60 }
+    ensures { result ≡ statement_fault place image.now }
 {
     let statements = image.statements.as_slice();
     let count = statements.len();
@@ -71,8 +70,8 @@ pub(crate) fn expression_fault(
 ) -> Option<ModuleFault>
     requires spelt { IsImage image.now }
     requires placed { placed.now ≡ image.now.code }
-    requires there { place ≡ expressions_offset image.now }
-    ensures { result ≡ expression_fault image.now }
+    requires there { place + 4 * length image.now.expressions < 2 ^ 60 }
+    ensures { result ≡ expression_fault place image.now }
 {
     let mut offset = place;
     let expressions = image.expressions.as_slice();

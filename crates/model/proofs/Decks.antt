@@ -12,3 +12,4 @@ pub mod ArgumentLists
 pub mod Verdicts
 pub mod Ends
 pub mod Sizes
+pub mod FirstCards

@@ -6,6 +6,15 @@ ghost use Rattle.model.specs.declared.format.ReadError.TheVariants.{Fault, Memor
 use std::alloc::{AllocError, AllocFailed};
 use thiserror::Error;
 
+/// A version of the module format.
+#[derive(Clone, Copy)]
+pub enum Version {
+    /// Without level and cards.
+    One,
+    /// As modules are written.
+    Two,
+}
+
 /// A rule of the module format that bytes break.
 #[derive(Clone, Copy, Debug, PartialEq, Eq, Error)]
 pub enum FormatRule {

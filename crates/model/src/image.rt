@@ -42,9 +42,20 @@ pub struct Label {
     pub statement: u32,
 }
 
+/// The level of a module: what it may name, and whether it tells cards.
+#[derive(Clone, Copy)]
+pub enum Level {
+    /// It was written before FENCE of a pattern was there, and tells no cards.
+    One,
+    /// As the generator writes it.
+    Two,
+}
+
 /// A module before it is spelt as bytes. Offsets count bytes of the code, numbers of statements begin at 1, others at
 /// 0.
 pub struct Image {
+    /// What it may name, and whether it tells cards.
+    pub level: Level,
     /// The number of the first statement to run.
     pub entry: u32,
     /// Names and literals, no two equal.
@@ -53,6 +64,8 @@ pub struct Image {
     pub labels: Seq<Label>,
     /// Each statement's offset.
     pub statements: Seq<u32>,
+    /// The card where each statement begins, from 1; 0 where that isn't known.
+    pub cards: Seq<u32>,
     /// Each unevaluated expression's offset.
     pub expressions: Seq<u32>,
     /// Each constant pattern's code.
@@ -64,10 +77,12 @@ pub struct Image {
 impl Drop for Image {
     fn drop(self) {
         let Image {
+            level: _,
             entry: _,
             strings: _,
             labels: _,
             statements: _,
+            cards: _,
             expressions: _,
             patterns: _,
             code: _,

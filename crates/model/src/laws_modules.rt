@@ -2,6 +2,7 @@
 
 ghost use Rattle.model.specs.Rows.Flow.{FlowRows};
 ghost use Rattle.model.specs.Laws.LeastFaults.{LeastIsTold, NoneIsWellFormed, OneIsTold, WellFormedHasNone};
+ghost use Rattle.model.specs.Laws.SameRuns.{SameRuns};
 ghost use Rattle.model.specs.Rows.WellFormed.{PartsMeetCases};
 
 /// Of all faults that an image has, the one of least offset is told, and of these the one of least number; none is told
@@ -22,4 +23,9 @@ pub fn worked_images()
 pub fn faultless_is_well_formed()
     ensures none { WellFormedHasNone }
     ensures formed { NoneIsWellFormed }
+{}
+
+/// A module with another level or other cards does the same in as many steps, on all inputs.
+pub fn levels_run_alike()
+    ensures { SameRuns }
 {}

@@ -36,8 +36,10 @@ mod trees;
 
 pub use cards::{CardFault, CardRule, Deck, Statement};
 pub use causes::{Cause, DeckFault, StmtFault};
-pub use format::{FormatFault, FormatRule, LoadFault, Miss, ModuleFault, ModuleRule, ReadError};
-pub use image::{Image, Label, PatInstr};
+pub use format::{
+    FormatFault, FormatRule, LoadFault, Miss, ModuleFault, ModuleRule, ReadError, Version,
+};
+pub use image::{Image, Label, Level, PatInstr};
 pub use instr::{ArithOp, Instr, ReturnKind, SignOp};
 pub use keys::KeyId;
 pub use laws_agreement::{
@@ -45,11 +47,13 @@ pub use laws_agreement::{
 };
 pub use laws_bytes::{read_is_spelt, spelling_rows, spelt_is_read};
 pub use laws_cards::worked_decks;
-pub use laws_decks::{accepted_decks_fit, decks_fit, end_is_last, trees_fit};
+pub use laws_decks::{accepted_decks_fit, decks_fit, end_is_last, first_cards_fit, trees_fit};
 pub use laws_machine::{
     asked_expressions_are_there, expressions_stay_in_range, never_stuck, searches_stay_in_range,
 };
-pub use laws_modules::{faultless_is_well_formed, least_fault_is_told, worked_images};
+pub use laws_modules::{
+    faultless_is_well_formed, least_fault_is_told, levels_run_alike, worked_images,
+};
 pub use laws_names::{key_names, prim_names};
 pub use laws_patterns::{
     answers_come_later, answers_stay, code_means_its_pattern, ends_are_permitted,

@@ -1,5 +1,7 @@
 //! Statements and expressions as trees.
 
+use crate::seq::Seq;
+
 /// A unary operator.
 #[derive(Clone, Copy, Debug, PartialEq, Eq)]
 pub enum Unary {
@@ -199,4 +201,6 @@ impl Drop for Stmt {
 pub struct Program {
     /// In order, END's last.
     pub statements: Vec<Stmt>,
+    /// The card where each statement begins.
+    pub cards: Seq<u32>,
 }

@@ -3,7 +3,8 @@ use Rattle.std.proofs.Common.{◌≡◌, ℕ, suc, ◌-◌, ◌+◌, ◌≤◌, 
 use Rattle.model.specs.declared.format.Miss.{Miss}
 use Rattle.model.specs.declared.format.ReadError.{ReadError}
 use Rattle.model.specs.declared.format.ReadError.TheVariants as errors
-use Rattle.model.specs.Module.Reading.{Fails, entries_from, instr_of, code_from}
+use Rattle.model.specs.declared.image.Level.{Level}
+use Rattle.model.specs.Module.Reading.{Fails, entries_from, instr_of, known_of, code_from}
 use Rattle.model.specs.declared.instr.Instr.{Instr}
 use Rattle.model.specs.declared.format.FormatRule.TheVariants.{UnknownInstruction}
 use Rattle.std.proofs.lemmas.List.{length-append}
@@ -37,40 +38,40 @@ is_done entry front n i bytes total le so_far =
 
 -- ---- the code
 
-pub code_goes_on : (front : List Instr) (n i : ℕ) (behind bytes : List ℕ) (x : Instr) (after : List ℕ) (total : Result (List Instr) Miss)
-    → i < n → instr_of bytes ≡ Some (x, after) → code_from front (n - i) behind bytes ≡ total → code_from (front ++ x ∷ []) (n - (i + 1)) behind after ≡ total
-unfolding code_from instr_of
-code_goes_on front n i behind [] x after total lt h so_far = absurd cc
-code_goes_on front n i behind (b ∷ bytes) x after total lt h so_far =
+pub code_goes_on : (l : Level) (front : List Instr) (n i : ℕ) (behind bytes : List ℕ) (x : Instr) (after : List ℕ) (total : Result (List Instr) Miss)
+    → i < n → known_of l bytes ≡ Some (x, after) → code_from l front (n - i) behind bytes ≡ total → code_from l (front ++ x ∷ []) (n - (i + 1)) behind after ≡ total
+unfolding code_from known_of instr_of
+code_goes_on l front n i behind [] x after total lt h so_far = absurd cc
+code_goes_on l front n i behind (b ∷ bytes) x after total lt h so_far =
     let k : n - i ≡ suc (n - (i + 1)) = omega arith in
-    let one : code_from front (n - i) behind (b ∷ bytes) ≡ code_from (front ++ x ∷ []) (n - (i + 1)) behind after = rw (k, h) refl in
+    let one : code_from l front (n - i) behind (b ∷ bytes) ≡ code_from l (front ++ x ∷ []) (n - (i + 1)) behind after = rw (k, h) refl in
     sym one ∙ so_far
 
 abbrev pub bad_instr : ℕ → Miss
 bad_instr left = record { left = left; rule = UnknownInstruction }
 
-pub code_stops : (front : List Instr) (n i : ℕ) (behind bytes : List ℕ) (left : ℕ) (total : Result (List Instr) Miss)
-    → i < n → 0 < length bytes → instr_of bytes ≡ None → left ≡ length bytes + length behind → code_from front (n - i) behind bytes ≡ total → total ≡ Err (bad_instr left)
+pub code_stops : (l : Level) (front : List Instr) (n i : ℕ) (behind bytes : List ℕ) (left : ℕ) (total : Result (List Instr) Miss)
+    → i < n → 0 < length bytes → known_of l bytes ≡ None → left ≡ length bytes + length behind → code_from l front (n - i) behind bytes ≡ total → total ≡ Err (bad_instr left)
 unfolding code_from
-code_stops front n i behind [] left total lt some h sum so_far = absurd (omega (arith, some))
-code_stops front n i behind (b ∷ bytes) left total lt some h sum so_far =
+code_stops l front n i behind [] left total lt some h sum so_far = absurd (omega (arith, some))
+code_stops l front n i behind (b ∷ bytes) left total lt some h sum so_far =
     let k : n - i ≡ suc (n - (i + 1)) = omega arith in
     let same : length ((b ∷ bytes) ++ behind) ≡ left = length-append (b ∷ bytes) behind ∙ sym sum in
-    let one : code_from front (n - i) behind (b ∷ bytes) ≡ Err (bad_instr left) = rw (k, h) (ap (λ (m : ℕ). Err (bad_instr m)) same) in
+    let one : code_from l front (n - i) behind (b ∷ bytes) ≡ Err (bad_instr left) = rw (k, h) (ap (λ (m : ℕ). Err (bad_instr m)) same) in
     sym so_far ∙ one
 
-pub code_left : (front : List Instr) (n i : ℕ) (behind bytes : List ℕ) (left : ℕ) (total : Result (List Instr) Miss)
-    → n ≤ i → 0 < length bytes → left ≡ length bytes + length behind → code_from front (n - i) behind bytes ≡ total → total ≡ Err (bad_instr left)
+pub code_left : (l : Level) (front : List Instr) (n i : ℕ) (behind bytes : List ℕ) (left : ℕ) (total : Result (List Instr) Miss)
+    → n ≤ i → 0 < length bytes → left ≡ length bytes + length behind → code_from l front (n - i) behind bytes ≡ total → total ≡ Err (bad_instr left)
 unfolding code_from
-code_left front n i behind [] left total le some sum so_far = absurd (omega (arith, some))
-code_left front n i behind (b ∷ bytes) left total le some sum so_far =
+code_left l front n i behind [] left total le some sum so_far = absurd (omega (arith, some))
+code_left l front n i behind (b ∷ bytes) left total le some sum so_far =
     let k : n - i ≡ 0 = omega arith in
     let same : length ((b ∷ bytes) ++ behind) ≡ left = length-append (b ∷ bytes) behind ∙ sym sum in
-    let one : code_from front (n - i) behind (b ∷ bytes) ≡ Err (bad_instr left) = rw k (ap (λ (m : ℕ). Err (bad_instr m)) same) in
+    let one : code_from l front (n - i) behind (b ∷ bytes) ≡ Err (bad_instr left) = rw k (ap (λ (m : ℕ). Err (bad_instr m)) same) in
     sym so_far ∙ one
 
-pub code_done : (front : List Instr) (n : ℕ) (behind bytes : List ℕ) (total : Result (List Instr) Miss)
-    → length bytes ≡ 0 → code_from front n behind bytes ≡ total → total ≡ Ok front
+pub code_done : (l : Level) (front : List Instr) (n : ℕ) (behind bytes : List ℕ) (total : Result (List Instr) Miss)
+    → length bytes ≡ 0 → code_from l front n behind bytes ≡ total → total ≡ Ok front
 unfolding code_from
-code_done front n behind [] total none so_far = sym so_far
-code_done front n behind (b ∷ bytes) total none so_far = absurd (omega (arith, none))
+code_done l front n behind [] total none so_far = sym so_far
+code_done l front n behind (b ∷ bytes) total none so_far = absurd (omega (arith, none))

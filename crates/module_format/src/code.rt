@@ -2,12 +2,52 @@
 
 ghost use Rattle.std.specs.Prelude.{◌≡◌, ◌+◌, [], length};
 ghost use Rattle.model.specs.declared.format.FormatRule.TheVariants.{UnknownInstruction};
-ghost use Rattle.model.specs.Module.Reading.{Gives, code_from, code_at};
+ghost use Rattle.model.specs.Module.Reading.{Finds, Gives, code_from, code_at, known_of};
+ghost use Rattle.model.specs.Module.Spelling.{is_newer, is_of, is_of_one};
 
 use crate::fields::{MOST_CODE, read_bytes, read_count};
 use code_format::first_instr;
-use model::{FormatRule, Instr, Miss, ReadError, Seq};
+use model::{FormatRule, Instr, Level, Miss, PrimId, ReadError, Seq};
 use std::alloc::Global;
+
+// Whether a primitive came with level 2.
+fn is_newer(id: PrimId) -> bool
+    ensures { result ≡ is_newer id }
+{
+    matches!(id, PrimId::Fence)
+}
+
+// Whether level 1 has an instruction.
+fn is_of_one(instr: Instr) -> bool
+    ensures { result ≡ is_of_one instr }
+{
+    match instr {
+        Instr::PrimV(id, _) | Instr::PrimN(id, _) => !is_newer(id),
+        _ => true,
+    }
+}
+
+// Whether a level has an instruction.
+fn is_of(level: Level, instr: Instr) -> bool
+    ensures { result ≡ is_of level instr }
+{
+    match level {
+        Level::One => is_of_one(instr),
+        Level::Two => true,
+    }
+}
+
+// The instruction in front, if a level has it, and the bytes behind it.
+#[tactic(auto, unfolding(model::specs::Module::Reading::known_of))]
+fn first_known(level: Level, bytes: &[u8]) -> Option<(Instr, &[u8])>
+    ensures { Finds (λ x. (x.0, x.1.now)) result (known_of level bytes.now) }
+{
+    let (instr, rest) = first_instr(bytes)?;
+    if !is_of(level, instr) {
+        return None;
+    }
+    Some((instr, rest))
+}
 
 fn bad_instr(rest: &[u8], behind: &[u8]) -> Miss
     ensures { result ≡ record {
@@ -23,8 +63,14 @@ fn bad_instr(rest: &[u8], behind: &[u8]) -> Miss
 
 /// The instructions that the bytes are; `behind` is what stands after them. Each takes a byte at least, so there are at
 /// most as many as bytes.
-fn read_instrs(alloc: Global, n: u32, bytes: &[u8], behind: &[u8]) -> Result<Seq<Instr>, ReadError>
-    ensures { Gives (λ v. v) result (code_from [] n behind.now bytes.now) }
+fn read_instrs(
+    alloc: Global,
+    level: Level,
+    n: u32,
+    bytes: &[u8],
+    behind: &[u8],
+) -> Result<Seq<Instr>, ReadError>
+    ensures { Gives (λ v. v) result (code_from level [] n behind.now bytes.now) }
 {
     let mut items = Vec::new(alloc);
     let mut rest = bytes;
@@ -32,7 +78,7 @@ fn read_instrs(alloc: Global, n: u32, bytes: &[u8], behind: &[u8]) -> Result<Seq
         if rest.is_empty() {
             return Ok(Seq::from_vec(items));
         }
-        match first_instr(rest) {
+        match first_known(level, rest) {
             Some((item, after)) => {
                 items.push(item)?;
                 rest = after;
@@ -46,13 +92,17 @@ fn read_instrs(alloc: Global, n: u32, bytes: &[u8], behind: &[u8]) -> Result<Seq
     Err(ReadError::Fault(bad_instr(rest, behind)))
 }
 
-/// The code, and the bytes behind it.
+/// The code of a level, and the bytes behind it.
 #[tactic(auto, unfolding(model::specs::Module::Reading::code_at))]
-pub(crate) fn read_code(alloc: Global, bytes: &[u8]) -> Result<(Seq<Instr>, &[u8]), ReadError>
-    ensures { Gives (λ x. (x.0, x.1.now)) result (code_at bytes.now) }
+pub(crate) fn read_code(
+    alloc: Global,
+    level: Level,
+    bytes: &[u8],
+) -> Result<(Seq<Instr>, &[u8]), ReadError>
+    ensures { Gives (λ x. (x.0, x.1.now)) result (code_at level bytes.now) }
 {
     let (n, rest) = read_count(MOST_CODE, bytes)?;
     let (code, rest) = read_bytes(n as usize, rest)?;
-    let items = read_instrs(alloc, n, code, rest)?;
+    let items = read_instrs(alloc, level, n, code, rest)?;
     Ok((items, rest))
 }

@@ -1,7 +1,7 @@
 //! Modules as bytes: the one spelling of an image, and the image that bytes spell.
 //!
 //! `write_image(alloc, &image)` gives the bytes, `read_image(alloc, bytes)` the image or the first fault and its
-//! offset.
+//! offset; `read_image_v1` reads what was written in version 1 of the format.
 //!
 //!     let bytes = write_image(alloc, &image)?;
 //!     let same = read_image(alloc, &bytes)?;
@@ -19,5 +19,5 @@ mod strings;
 mod tables;
 mod writing;
 
-pub use reading::read_image;
+pub use reading::{read_image, read_image_v1};
 pub use writing::write_image;

@@ -2,36 +2,46 @@
 
 ghost use Rattle.std.specs.Prelude.{◌≡◌, length, IfOk, Ok};
 ghost use Rattle.model.specs.declared.image.Image.{Image};
-ghost use Rattle.model.specs.Module.Reading.{Gives, image_at, read_image};
-ghost use Rattle.model.specs.Module.Spelling.{spelling, IsImage};
+ghost use Rattle.model.specs.declared.format.Version.TheVariants as versions;
+ghost use Rattle.model.specs.Module.Reading.{Gives, image_at, image_in, read_image};
+ghost use Rattle.model.specs.Module.Spelling.{spelling, spelling_in, IsImage, IsImageIn};
 ghost use Rattle.module_format.specs.Faults.{IsAnswer};
 
 use crate::code::read_code;
-use crate::fields::{miss, past_magic, past_version};
+use crate::fields::{miss, past_magic, past_version, read_level};
 use crate::strings::read_strings;
-use crate::tables::{Expressions, Labels, Patterns, Statements, read_table};
+use crate::tables::{Expressions, Labels, Patterns, Statements, read_cards, read_table};
 use code_format::read_u32;
-use model::{FormatFault, FormatRule, Image, ReadError};
+use model::{FormatFault, FormatRule, Image, ReadError, Version};
 use std::alloc::Global;
 
 #[tactic(auto, unfolding(model::specs::Module::Reading::image_at))]
-fn image_in_front(alloc: Global, bytes: &[u8]) -> Result<(Image, &[u8]), ReadError>
-    ensures { Gives (λ x. (x.0, x.1.now)) result (image_at bytes.now) }
+fn image_in_front(
+    alloc: Global,
+    version: Version,
+    bytes: &[u8],
+) -> Result<(Image, &[u8]), ReadError>
+    ensures { Gives (λ x. (x.0, x.1.now)) result (image_at version bytes.now) }
 {
     let rest = past_magic(bytes)?;
-    let rest = past_version(rest)?;
+    let rest = past_version(version, rest)?;
+    let (level, rest) = read_level(version, rest)?;
     let (entry, rest) = read_u32(rest)?;
     let (strings, rest) = read_strings(alloc, rest)?;
     let (labels, rest) = read_table::<Labels>(alloc, rest)?;
     let (statements, rest) = read_table::<Statements>(alloc, rest)?;
+    let count = statements.as_slice().len();
+    let (cards, rest) = read_cards(alloc, version, level, count, rest)?;
     let (expressions, rest) = read_table::<Expressions>(alloc, rest)?;
     let (patterns, rest) = read_table::<Patterns>(alloc, rest)?;
-    let (code, rest) = read_code(alloc, rest)?;
+    let (code, rest) = read_code(alloc, level, rest)?;
     let image = Image {
+        level,
         entry,
         strings,
         labels,
         statements,
+        cards,
         expressions,
         patterns,
         code,
@@ -39,21 +49,21 @@ fn image_in_front(alloc: Global, bytes: &[u8]) -> Result<(Image, &[u8]), ReadErr
     Ok((image, rest))
 }
 
-#[tactic(auto, unfolding(model::specs::Module::Reading::read_image))]
-fn whole_image(alloc: Global, bytes: &[u8]) -> Result<Image, ReadError>
-    ensures { Gives (λ x. x) result (read_image bytes.now) }
+#[tactic(auto, unfolding(model::specs::Module::Reading::image_in))]
+fn whole_image(alloc: Global, version: Version, bytes: &[u8]) -> Result<Image, ReadError>
+    ensures { Gives (λ x. x) result (image_in version bytes.now) }
 {
-    let (image, rest) = image_in_front(alloc, bytes)?;
+    let (image, rest) = image_in_front(alloc, version, bytes)?;
     if !rest.is_empty() {
         return Err(ReadError::Fault(miss(FormatRule::TrailingBytes, rest)));
     }
     Ok(image)
 }
 
-fn answer(alloc: Global, bytes: &[u8]) -> Result<Image, FormatFault>
-    ensures { IsAnswer result (read_image bytes.now) (length bytes.now) }
+fn answer(alloc: Global, version: Version, bytes: &[u8]) -> Result<Image, FormatFault>
+    ensures { IsAnswer result (image_in version bytes.now) (length bytes.now) }
 {
-    match whole_image(alloc, bytes) {
+    match whole_image(alloc, version, bytes) {
         Ok(image) => Ok(image),
         Err(ReadError::Memory) => Err(FormatFault {
             offset: 0,
@@ -74,5 +84,17 @@ pub fn read_image(alloc: Global, bytes: &[u8]) -> Result<Image, FormatFault>
     ensures only { (m : Image) → IsImage m → bytes.now ≡ spelling m
         → IsAnswer result (Ok m) (length bytes.now) }
 {
-    answer(alloc, bytes)
+    answer(alloc, Version::Two, bytes)
+}
+
+/// The image that bytes of version 1 spell, of level 1 and without cards, or the first fault and its offset. Where a
+/// growth was refused that is told in place of any other answer.
+pub fn read_image_v1(alloc: Global, bytes: &[u8]) -> Result<Image, FormatFault>
+    ensures exact { IsAnswer result (image_in versions.One bytes.now) (length bytes.now) }
+    ensures found { IfOk result (λ m.
+        IsImageIn versions.One m × (bytes.now ≡ spelling_in versions.One m)) }
+    ensures only { (m : Image) → IsImageIn versions.One m → bytes.now ≡ spelling_in versions.One m
+        → IsAnswer result (Ok m) (length bytes.now) }
+{
+    answer(alloc, Version::One, bytes)
 }

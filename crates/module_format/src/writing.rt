@@ -1,12 +1,13 @@
 //! From an image to the bytes that spell it.
 
 ghost use Rattle.std.specs.Prelude.{◌≡◌, ◌<◌, ◌≤◌, ◌^◌, ◌++◌, ℕ, List, length, OnOk, IfOk, All};
-ghost use Rattle.model.specs.Module.Spelling.{u32 as u32_bytes, u16 as u16_bytes, counted, magic, string};
-ghost use Rattle.model.specs.Module.Spelling.{label, pattern, pat_instr, code_bytes, spelling, IsImage, most};
+ghost use Rattle.std.specs.List.{flat_map};
+ghost use Rattle.model.specs.Module.Spelling.{u32 as u32_bytes, u16 as u16_bytes, counted, magic, level_number};
+ghost use Rattle.model.specs.Module.Spelling.{string, label, pattern, pat_instr, code_bytes, spelling, IsImage, most};
 
-use crate::fields::{MAGIC, VERSION};
+use crate::fields::{MAGIC, level_number, version_number};
 use code_format::{put_instr, put_pat_instr, put_u32};
-use model::{Bytes, Image, Instr, Label, PatInstr, Seq};
+use model::{Bytes, Image, Instr, Label, Level, PatInstr, Seq, Version};
 use std::alloc::{AllocError, Global};
 
 /// What stands in a table.
@@ -37,6 +38,17 @@ fn put_string(out: &mut Vec<u8>, bytes: &[u8]) -> Result<(), AllocError>
     out.extend_from_slice(bytes)
 }
 
+/// Entries, one after another.
+fn put_entries<T: Entry>(out: &mut Vec<u8>, entries: &[T]) -> Result<(), AllocError>
+    requires { All T.fits entries.now }
+    ensures { OnOk result (out.new.items ≡ out.old.items ++ flat_map T.spell entries.now) }
+{
+    for entry in entries {
+        entry.put(out)?;
+    }
+    Ok(())
+}
+
 /// A count, and that many entries.
 fn put_table<T: Entry>(out: &mut Vec<u8>, entries: &[T]) -> Result<(), AllocError>
     requires few { length entries.now ≤ most }
@@ -44,10 +56,7 @@ fn put_table<T: Entry>(out: &mut Vec<u8>, entries: &[T]) -> Result<(), AllocErro
     ensures { OnOk result (out.new.items ≡ out.old.items ++ counted T.spell entries.now) }
 {
     put_count(out, entries.len())?;
-    for entry in entries {
-        entry.put(out)?;
-    }
-    Ok(())
+    put_entries(out, entries)
 }
 
 impl Entry for Bytes {
@@ -114,12 +123,13 @@ fn code_of(alloc: Global, code: &[Instr]) -> Result<Vec<u8>, AllocError>
 
 /// What stands before the tables.
 #[tactic(auto, unfolding(model::specs::Module::Spelling::u16))]
-fn put_head(out: &mut Vec<u8>, entry: u32) -> Result<(), AllocError>
-    ensures { OnOk result
-        (out.new.items ≡ out.old.items ++ (u32_bytes magic ++ (u16_bytes 1 ++ u32_bytes entry))) }
+fn put_head(out: &mut Vec<u8>, level: Level, entry: u32) -> Result<(), AllocError>
+    ensures { OnOk result (out.new.items ≡ out.old.items
+        ++ (u32_bytes magic ++ (u16_bytes 2 ++ (u16_bytes (level_number level) ++ u32_bytes entry)))) }
 {
     put_u32(out, MAGIC)?;
-    out.extend_from_slice(&VERSION.to_be_bytes())?;
+    out.extend_from_slice(&version_number(Version::Two).to_be_bytes())?;
+    out.extend_from_slice(&level_number(level).to_be_bytes())?;
     put_u32(out, entry)
 }
 
@@ -129,10 +139,11 @@ pub fn write_image(alloc: Global, image: &Image) -> Result<Vec<u8>, AllocError>
     ensures { IfOk result (λ bytes. bytes.items ≡ spelling image.now) }
 {
     let mut out = Vec::new(alloc);
-    put_head(&mut out, image.entry)?;
+    put_head(&mut out, image.level, image.entry)?;
     put_table(&mut out, image.strings.as_slice())?;
     put_table(&mut out, image.labels.as_slice())?;
     put_table(&mut out, image.statements.as_slice())?;
+    put_entries(&mut out, image.cards.as_slice())?;
     put_table(&mut out, image.expressions.as_slice())?;
     put_table(&mut out, image.patterns.as_slice())?;
     let code = code_of(alloc, image.code.as_slice())?;

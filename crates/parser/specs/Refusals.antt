@@ -1,5 +1,5 @@
 -- What a deck's statements come to.
-use Rattle.std.specs.Prelude.{◌≡◌, ◌≢◌, ⊤, List, [], Result, Ok, Err}
+use Rattle.std.specs.Prelude.{◌≡◌, ◌≢◌, ⊤, List, [], map, Result, Ok, Err}
 use Rattle.model.specs.declared.cards.Statement.{Statement}
 use Rattle.model.specs.declared.causes.DeckFault.{DeckFault}
 use Rattle.model.specs.declared.causes.DeckFault.TheVariants as fault
@@ -18,5 +18,5 @@ IsRefusal faults (fault.Faulty fs) = AreTold faults fs
 IsRefusal faults fault.Memory = ⊤
 
 abbrev pub IsParsed : List Statement → Result Program (List StmtFault) → Type 0
-IsParsed statements (Ok p) = (faults statements ≡ []) × (program_of p ≡ deck_trees statements)
+IsParsed statements (Ok p) = (faults statements ≡ []) × (program_of p ≡ deck_trees statements) × (p.cards ≡ map (λ s. s.card) statements)
 IsParsed statements (Err fs) = AreTold (faults statements) fs

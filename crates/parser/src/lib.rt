@@ -10,7 +10,7 @@
 //! its least cause, L1 to L5 or P1 to P6. Want of memory is an answer of its own.
 #![tactic(auto)]
 
-ghost use Rattle.std.specs.Prelude.{◌≡◌, ◌≢◌, [], IfErr, IfOk};
+ghost use Rattle.std.specs.Prelude.{◌≡◌, ◌≢◌, [], map, IfErr, IfOk};
 ghost use Rattle.model.specs.Deck.Faults as spec;
 ghost use Rattle.model.specs.Deck.TreeViews.{program_of};
 ghost use Rattle.model.specs.declared.causes.DeckFault.TheVariants.{Memory};
@@ -23,7 +23,7 @@ mod rules;
 mod statements;
 
 use crate::faults::faults;
-use crate::reading::{read_all, trees};
+use crate::reading::{cards, read_all, trees};
 use model::{Deck, DeckFault, Program, Seq, StmtFault};
 use std::alloc::{AllocError, Global};
 
@@ -37,7 +37,8 @@ fn parse(alloc: Global, deck: &Deck) -> Result<Result<Program, Seq<StmtFault>>, 
         return Ok(Err(faults));
     }
     let statements = trees(alloc, reads)?;
-    Ok(Ok(Program { statements }))
+    let cards = cards(alloc, deck.statements.as_slice())?;
+    Ok(Ok(Program { statements, cards }))
 }
 
 /// The trees of a deck without faults, or its faulty statements in order, each with its least cause.
@@ -45,6 +46,8 @@ pub fn parse_deck(alloc: Global, deck: &Deck) -> Result<Program, DeckFault>
     // A deck that is accepted has no faulty statement, and the program has its trees.
     ensures faultless { IfOk result (λ p. spec.faults deck.now.statements ≡ []) }
     ensures program { IfOk result (λ p. program_of p ≡ spec.deck_trees deck.now.statements) }
+    // With the card where each of them begins.
+    ensures cards { IfOk result (λ p. p.cards ≡ map (λ s. s.card) deck.now.statements) }
     // A deck that is refused has faulty statements, and all are told; want of memory says nothing of the deck.
     ensures refused { IfErr result (λ f. IsRefusal (spec.faults deck.now.statements) f) }
 {

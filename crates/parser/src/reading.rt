@@ -6,7 +6,7 @@ ghost use Rattle.model.specs.Deck.TreeViews.{stmt_of};
 ghost use Rattle.parser.specs.Reads.{IsRead, numbered, result_read, trees_of};
 
 use lexer::lex;
-use model::{Cause, Statement, Stmt};
+use model::{Cause, Seq, Statement, Stmt};
 use std::alloc::{AllocError, Global};
 use stmt_parser::parse_statement;
 
@@ -60,4 +60,15 @@ pub(crate) fn trees(alloc: Global, reads: Vec<Read>) -> Result<Vec<Stmt>, AllocE
         trees.push(tree)?;
     }
     Ok(trees)
+}
+
+/// The card where each statement begins.
+pub(crate) fn cards(alloc: Global, statements: &[Statement]) -> Result<Seq<u32>, AllocError>
+    ensures { IfOk result (λ cs. cs ≡ map (λ s. s.card) statements.now) }
+{
+    let mut cards = Vec::with_capacity(alloc, statements.len())?;
+    for statement in statements {
+        cards.push(statement.card)?;
+    }
+    Ok(Seq::from_vec(cards))
 }

@@ -2,7 +2,7 @@
 
 use crate::files::{read_file, read_input, write_file};
 use driver::{
-    Job, ShowFault, Told, UnitFile, check_module, compile_deck, run_deck, run_module, show,
+    Job, Ran, ShowFault, Told, UnitFile, check_module, compile_deck, run_with_card, show, upgrade,
 };
 use model::{Status, Stop, UnitFault};
 use std::fs::Files;
@@ -37,14 +37,30 @@ fn units_of<'a, R: Files + Input + Print + AllocGlobal>(
     Ok(units)
 }
 
+/// Runs the module that bytes spell.
+fn run<R: Files + Input + Print + AllocGlobal>(
+    rt: &R,
+    module: &[u8],
+    steps: u64,
+    files: &[UnitFile<'_>],
+) -> Result<Ran, Told<'static>> {
+    let mut units = units_of(rt, files)?;
+    match run_with_card(rt.alloc(), module, &mut units, steps) {
+        Ok(Ran { status, card }) => Ok(Ran {
+            status: flushed(status, units.flush()),
+            card,
+        }),
+        Err(fault) => Err(Told::BadModule(fault)),
+    }
+}
+
 fn compile_and_run<R: Files + Input + Print + AllocGlobal>(
     rt: &R,
     steps: u64,
-) -> Result<Status, Told<'static>> {
+) -> Result<Ran, Told<'static>> {
     let deck = read_input(rt)?;
-    let mut units = units_of(rt, &[])?;
-    match run_deck(rt.alloc(), &deck, &mut units, steps) {
-        Ok(status) => Ok(flushed(status, units.flush())),
+    match compile_deck(rt.alloc(), &deck) {
+        Ok(module) => run(rt, &module, steps, &[]),
         Err(refusal) => Err(Told::Refused(refusal)),
     }
 }
@@ -58,6 +74,18 @@ fn compile<'a, R: Files + AllocGlobal>(
     match compile_deck(rt.alloc(), &bytes) {
         Ok(spelling) => write_file(rt, module, &spelling),
         Err(refusal) => Err(Told::Refused(refusal)),
+    }
+}
+
+fn upgrade_file<'a, R: Files + AllocGlobal>(
+    rt: &R,
+    old: &'a str,
+    new: &'a str,
+) -> Result<(), Told<'a>> {
+    let bytes = read_file(rt, old)?;
+    match upgrade(rt.alloc(), &bytes) {
+        Ok(newer) => write_file(rt, new, &newer),
+        Err(fault) => Err(Told::BadModule(fault)),
     }
 }
 
@@ -100,19 +128,15 @@ fn run_file<'a, R: Files + Input + Print + AllocGlobal>(
     module: &'a str,
     steps: u64,
     files: &[UnitFile<'_>],
-) -> Result<Status, Told<'a>> {
+) -> Result<Ran, Told<'a>> {
     let bytes = read_file(rt, module)?;
-    let mut units = units_of(rt, files)?;
-    match run_module(rt.alloc(), &bytes, &mut units, steps) {
-        Ok(status) => Ok(flushed(status, units.flush())),
-        Err(fault) => Err(Told::BadModule(fault)),
-    }
+    run(rt, &bytes, steps, files)
 }
 
-/// What is told of a job that leads to a status, or fails.
-fn told_of<'a>(done: Result<Status, Told<'a>>) -> Option<Told<'a>> {
+/// What is told of a job that leads to a run, or fails.
+fn told_of<'a>(done: Result<Ran, Told<'a>>) -> Option<Told<'a>> {
     match done {
-        Ok(status) => Some(Told::Ran(status)),
+        Ok(ran) => Some(Told::Ran(ran)),
         Err(told) => Some(told),
     }
 }
@@ -125,6 +149,7 @@ pub(crate) fn perform<'a, R: Files + Input + Print + AllocGlobal>(
     match job {
         Job::CompileAndRun { steps } => told_of(compile_and_run(rt, steps)),
         Job::Compile { deck, module } => compile(rt, deck, module).err(),
+        Job::Upgrade { old, new } => upgrade_file(rt, old, new).err(),
         Job::Check { module } => check(rt, module).err(),
         Job::Show { module } => show_module(rt, module).err(),
         Job::Run {

@@ -150,11 +150,11 @@ pieces_total (t ∷ ts) =
 -- ---- statements
 
 -- a piece that is kept has a byte
-end_some : (p : List Column) → is_end p ≡ true → 1 ≤ length p
+pub end_some : (p : List Column) → is_end p ≡ true → 1 ≤ length p
 end_some [] h = absurd (cc)
 end_some (c ∷ cs) h = omega arith
 
-kept_some : (p : List Column) → is_blank_text (column_bytes p) ≡ false → 1 ≤ length p
+pub kept_some : (p : List Column) → is_blank_text (column_bytes p) ≡ false → 1 ≤ length p
 kept_some [] h = absurd (cc)
 kept_some (c ∷ cs) h = omega arith
 
@@ -210,7 +210,7 @@ cards_total cs =
     let c = texts_total cs in
     omega arith
 
-used_fit : (text : List ℕ) (used : List Card) → length text ≤ 1048576 → ended (cards text) ≡ Some used → faults_of used ≡ [] → CardsFit text (statements_of used)
+used_fit : (text : List ℕ) (used : List Card) → length text ≤ 16777216 → ended (cards text) ≡ Some used → faults_of used ≡ [] → CardsFit text (statements_of used)
 used_fit text used short to_end clean =
     let ps = kept (pieces_of used) in
     let all : total length ps ≤ length text = omega (arith, cards_total used, ended_total (cards text) used to_end, numbered_total 1 (lines text), lines_total text) in
@@ -228,12 +228,12 @@ decks_fit text statements h =
 
 -- ---- trees
 
-record TreesLess (statements : List Statement) (ss : List Stmt) : Type 0 where
+pub record TreesLess (statements : List Statement) (ss : List Stmt) : Type 0 where
   pub count : length ss ≡ length statements
   pub together : total weight ss ≤ on_statements statements
   pub each : AllByRecursion (λ s. weight s ≤ 4000) ss
 
-trees_less : (statements : List Statement) (ss : List Stmt) → Have statements ss → AllByRecursion (λ s. length s.text ≤ 4000) statements → TreesLess statements ss
+pub trees_less : (statements : List Statement) (ss : List Stmt) → Have statements ss → AllByRecursion (λ s. length s.text ≤ 4000) statements → TreesLess statements ss
 trees_less [] [] have h = record { count = refl; together = omega arith; each = tt }
 trees_less [] (t ∷ ts) have h = absurd have
 trees_less (s ∷ ss) [] have h = absurd have

@@ -72,7 +72,7 @@ none_least [] h = refl
 none_least (f ∷ fs) h = absurd (cc)
 
 pub record ByCards (text : List ℕ) (statements : List Statement) : Type 0 where
-  pub short : length text ≤ 1048576
+  pub short : length text ≤ 16777216
   pub used : List Card
   pub to_end : ended (cards text) ≡ Some used
   pub clean : faults_of used ≡ []
@@ -85,7 +85,7 @@ by_verdict used statements (Some f) h = absurd (cc)
 some_least : (fs : List CardFault) (f : CardFault) → least (fs ++ f ∷ []) ≡ None → ⊥
 some_least fs f h = let none = none_right fs (f ∷ []) (none_least (fs ++ f ∷ []) h) in cc
 
-by_end : (text : List ℕ) (statements : List Statement) → length text ≤ 1048576 → (o : Option (List Card)) → ended (cards text) ≡ o → deck_of (cards text) o ≡ Ok statements → ByCards text statements
+by_end : (text : List ℕ) (statements : List Statement) → length text ≤ 16777216 → (o : Option (List Card)) → ended (cards text) ≡ o → deck_of (cards text) o ≡ Ok statements → ByCards text statements
 by_end text statements short None e h = absurd (some_least (faults_of (cards text)) (fault (length (cards text) + 1) rule.NoEnd) (by_verdict (cards text) statements (least (faults_of (cards text) ++ fault (length (cards text) + 1) rule.NoEnd ∷ [])) h).0)
 by_end text statements short (Some used) e h =
     let v = by_verdict used statements (least (faults_of used)) h in
@@ -93,7 +93,7 @@ by_end text statements short (Some used) e h =
 
 pub by_cards : (text : List ℕ) (statements : List Statement) → deck text ≡ Ok statements → ByCards text statements
 unfolding deck
-by_cards text statements h = elim (if_is (nat_lt 1048576 (length text)) (Err (fault 0 rule.DeckTooLong)) (deck_of (cards text) (ended (cards text))) (Ok statements) h) [
+by_cards text statements h = elim (if_is (nat_lt 16777216 (length text)) (Err (fault 0 rule.DeckTooLong)) (deck_of (cards text) (ended (cards text))) (Ok statements) h) [
   | inl x ↦ absurd (cc)
   | inr x ↦ (let test = x.0 in by_end text statements (grind (arith, nat_tests)) (ended (cards text)) refl x.1)
 ]

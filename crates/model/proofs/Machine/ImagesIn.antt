@@ -4,6 +4,7 @@ use Rattle.std.proofs.lemmas.Bool.{ltb-true}
 use Rattle.std.proofs.lemmas.Option.{slice_get-get_or}
 use Rattle.model.specs.declared.format.ModuleRule.{ModuleRule}
 use Rattle.model.specs.declared.format.ModuleRule.TheVariants.{BadIndex}
+use Rattle.model.specs.declared.format.Version.TheVariants as versions
 use Rattle.model.specs.declared.image.Image.{Image}
 use Rattle.model.specs.declared.image.PatInstr.{PatInstr}
 use Rattle.model.specs.declared.image.PatInstr.TheVariants as part
@@ -91,12 +92,12 @@ module _ (im : Image) where
 
   code_fits : IsWellFormed im → (at : ℕ) → Fits (fetch_from 0 im.code at)
   code_fits w at =
-      let labels = fault_among (λ front at l. fault_if at (label_rule im front l)) (λ l. 8) [] (labels_offset im) im.labels in
-      let statements = fault_among (λ front at o. fault_if at (statement_rule im front o)) (λ o. 4) [] (statements_offset im) im.statements in
-      let expressions = fault_among (λ front at o. fault_if at (expression_rule im front o)) (λ o. 4) [] (expressions_offset im) im.expressions in
-      let patterns = fault_among (pattern_fault im) pattern_bytes [] (patterns_offset im) im.patterns in
-      each_fits [] (code_offset im) im.code 0 at
-      (first_right patterns _ (first_right expressions _ (first_right statements _ (first_right labels _ (first_right (fault_if entry_offset (entry_rule im)) _ w.parts)))))
+      let labels = fault_among (λ front at l. fault_if at (label_rule im front l)) (λ l. 8) [] (labels_offset versions.Two im) im.labels in
+      let statements = fault_among (λ front at o. fault_if at (statement_rule im front o)) (λ o. 4) [] (statements_offset versions.Two im) im.statements in
+      let expressions = fault_among (λ front at o. fault_if at (expression_rule im front o)) (λ o. 4) [] (expressions_offset versions.Two im) im.expressions in
+      let patterns = fault_among (pattern_fault im) pattern_bytes [] (patterns_offset versions.Two im) im.patterns in
+      each_fits [] (code_offset versions.Two im) im.code 0 at
+      (first_right patterns _ (first_right expressions _ (first_right statements _ (first_right labels _ (first_right (fault_if (entry_offset versions.Two) (entry_rule im)) _ w.parts)))))
 
   pub well_formed_in : IsWellFormed im → ModuleIn (length im.expressions) (module_of im)
   well_formed_in w = image_in (length im.expressions) im (λ at next k e. ltb-true k (length im.expressions) (subst Fits e (code_fits w at)))

@@ -6,6 +6,8 @@ use Rattle.std.proofs.lemmas.Bool.Decides.{nat_tests}
 use Rattle.model.specs.declared.format.ModuleFault.{ModuleFault}
 use Rattle.model.specs.declared.format.ModuleRule.{ModuleRule}
 use Rattle.model.specs.declared.format.ModuleRule.TheVariants.{BadIndex, BadTarget, BadFlow, BadJump, NoEnd}
+use Rattle.model.specs.declared.format.Version.{Version}
+use Rattle.model.specs.declared.format.Version.TheVariants as versions
 use Rattle.model.specs.declared.image.Image.{Image}
 use Rattle.model.specs.declared.image.PatInstr.{PatInstr}
 use Rattle.model.specs.declared.image.PatInstr.TheVariants as pats
@@ -147,7 +149,7 @@ some_pat_bytes : (i : PatInstr) → 0 < pat_bytes i
 some_pat_bytes (pats.Len n) = omega arith
 some_pat_bytes _ = omega arith
 
-module _ (im : Image) where
+module _ (v : Version) (im : Image) where
   rule_is : (r : ModuleRule) (b : Bool) (f : ModuleFault) → unless r b ≡ Some f.rule → r ≡ f.rule
   rule_is r true f e = absurd (cc)
   rule_is r false f e = cc
@@ -205,71 +207,71 @@ module _ (im : Image) where
       (omega (arith, w), omega (arith, w))
 
   abbrev Labels : Faults
-  Labels = Among (λ front at l. IsAt at (label_rule im front l)) (λ l. 8) (labels_offset im) im.labels
+  Labels = Among (λ front at l. IsAt at (label_rule im front l)) (λ l. 8) (labels_offset v im) im.labels
 
   abbrev Statements : Faults
-  Statements = Among (λ front at o. IsAt at (statement_rule im front o)) (λ o. 4) (statements_offset im) im.statements
+  Statements = Among (λ front at o. IsAt at (statement_rule im front o)) (λ o. 4) (statements_offset v im) im.statements
 
   abbrev Expressions : Faults
-  Expressions = Among (λ front at o. IsAt at (expression_rule im front o)) (λ o. 4) (expressions_offset im) im.expressions
+  Expressions = Among (λ front at o. IsAt at (expression_rule im front o)) (λ o. 4) (expressions_offset v im) im.expressions
 
   abbrev Patterns : Faults
-  Patterns = Among (InPattern im) pattern_bytes (patterns_offset im) im.patterns
+  Patterns = Among (InPattern im) pattern_bytes (patterns_offset v im) im.patterns
 
   abbrev Code : Faults
-  Code = Among (InInstr im) instr_size (code_offset im) im.code
+  Code = Among (InInstr im) instr_size (code_offset v im) im.code
 
   -- each part stands before the next one
-  from_code : AtLeast (code_offset im) Code
-  from_code = from_within _ _ Code (within_among (instr_fault im) instr_size (InInstr im) least_in_instr within_instr (code_offset im) im.code)
+  from_code : AtLeast (code_offset v im) Code
+  from_code = from_within _ _ Code (within_among (instr_fault im) instr_size (InInstr im) least_in_instr within_instr (code_offset v im) im.code)
 
-  in_patterns : Within (patterns_offset im) (sum (map pattern_bytes im.patterns)) Patterns
-  in_patterns = within_among (pattern_fault im) pattern_bytes (InPattern im) least_in_pattern within_pattern (patterns_offset im) im.patterns
+  in_patterns : Within (patterns_offset v im) (sum (map pattern_bytes im.patterns)) Patterns
+  in_patterns = within_among (pattern_fault im) pattern_bytes (InPattern im) least_in_pattern within_pattern (patterns_offset v im) im.patterns
 
-  from_patterns : AtLeast (patterns_offset im) (λ f. Patterns f ⊎ Code f)
-  from_patterns = from_either (patterns_offset im) Patterns Code (from_within _ _ Patterns in_patterns) (from_later (patterns_offset im) (code_offset im) Code (omega arith) from_code)
+  from_patterns : AtLeast (patterns_offset v im) (λ f. Patterns f ⊎ Code f)
+  from_patterns = from_either (patterns_offset v im) Patterns Code (from_within _ _ Patterns in_patterns) (from_later (patterns_offset v im) (code_offset v im) Code (omega arith) from_code)
 
-  in_expressions : Within (expressions_offset im) (4 * length im.expressions) Expressions
-  in_expressions = within_table 4 (omega arith) (expression_rule im) (expressions_offset im) im.expressions
+  in_expressions : Within (expressions_offset v im) (4 * length im.expressions) Expressions
+  in_expressions = within_table 4 (omega arith) (expression_rule im) (expressions_offset v im) im.expressions
 
-  from_expressions : AtLeast (expressions_offset im) (λ f. Expressions f ⊎ (Patterns f ⊎ Code f))
-  from_expressions = from_either (expressions_offset im) Expressions _ (from_within _ _ Expressions in_expressions) (from_later (expressions_offset im) (patterns_offset im) _ (omega arith) from_patterns)
+  from_expressions : AtLeast (expressions_offset v im) (λ f. Expressions f ⊎ (Patterns f ⊎ Code f))
+  from_expressions = from_either (expressions_offset v im) Expressions _ (from_within _ _ Expressions in_expressions) (from_later (expressions_offset v im) (patterns_offset v im) _ (omega arith) from_patterns)
 
-  in_statements : Within (statements_offset im) (4 * length im.statements) Statements
-  in_statements = within_table 4 (omega arith) (statement_rule im) (statements_offset im) im.statements
+  in_statements : Within (statements_offset v im) (4 * length im.statements) Statements
+  in_statements = within_table 4 (omega arith) (statement_rule im) (statements_offset v im) im.statements
 
-  from_statements : AtLeast (statements_offset im) (λ f. Statements f ⊎ (Expressions f ⊎ (Patterns f ⊎ Code f)))
-  from_statements = from_either (statements_offset im) Statements _ (from_within _ _ Statements in_statements) (from_later (statements_offset im) (expressions_offset im) _ (omega arith) from_expressions)
+  from_statements : AtLeast (statements_offset v im) (λ f. Statements f ⊎ (Expressions f ⊎ (Patterns f ⊎ Code f)))
+  from_statements = from_either (statements_offset v im) Statements _ (from_within _ _ Statements in_statements) (from_later (statements_offset v im) (expressions_offset v im) _ (omega arith) from_expressions)
 
-  in_labels : Within (labels_offset im) (8 * length im.labels) Labels
-  in_labels = within_table 8 (omega arith) (label_rule im) (labels_offset im) im.labels
+  in_labels : Within (labels_offset v im) (8 * length im.labels) Labels
+  in_labels = within_table 8 (omega arith) (label_rule im) (labels_offset v im) im.labels
 
-  from_labels : AtLeast (labels_offset im) (λ f. Labels f ⊎ (Statements f ⊎ (Expressions f ⊎ (Patterns f ⊎ Code f))))
-  from_labels = from_either (labels_offset im) Labels _ (from_within _ _ Labels in_labels) (from_later (labels_offset im) (statements_offset im) _ (omega arith) from_statements)
+  from_labels : AtLeast (labels_offset v im) (λ f. Labels f ⊎ (Statements f ⊎ (Expressions f ⊎ (Patterns f ⊎ Code f))))
+  from_labels = from_either (labels_offset v im) Labels _ (from_within _ _ Labels in_labels) (from_later (labels_offset v im) (statements_offset v im) _ (omega arith) from_statements)
 
   abbrev Parts : Faults
-  Parts f = IsAt entry_offset (entry_rule im) f ⊎ (Labels f ⊎ (Statements f ⊎ (Expressions f ⊎ (Patterns f ⊎ Code f))))
+  Parts f = IsAt (entry_offset v) (entry_rule im) f ⊎ (Labels f ⊎ (Statements f ⊎ (Expressions f ⊎ (Patterns f ⊎ Code f))))
 
-  least_parts : IsLeastOf Parts (part_fault im)
+  least_parts : IsLeastOf Parts (part_fault v im)
   least_parts =
-      least_join _ _ _ _ (within_before entry_offset 1 (labels_offset im) _ _ (omega arith) (within_at entry_offset 1 (entry_rule im) (omega arith)) from_labels) (least_at entry_offset (entry_rule im))
-      (least_join _ _ _ _ (within_before (labels_offset im) (8 * length im.labels) (statements_offset im) _ _ (omega arith) in_labels from_statements) (least_table 8 (omega arith) (label_rule im) (labels_offset im) im.labels)
-      (least_join _ _ _ _ (within_before (statements_offset im) (4 * length im.statements) (expressions_offset im) _ _ (omega arith) in_statements from_expressions) (least_table 4 (omega arith) (statement_rule im) (statements_offset im) im.statements)
-      (least_join _ _ _ _ (within_before (expressions_offset im) (4 * length im.expressions) (patterns_offset im) _ _ (omega arith) in_expressions from_patterns) (least_table 4 (omega arith) (expression_rule im) (expressions_offset im) im.expressions)
-      (least_join _ _ _ _ (within_before (patterns_offset im) (sum (map pattern_bytes im.patterns)) (code_offset im) _ _ (omega arith) in_patterns from_code)
-      (least_among (pattern_fault im) pattern_bytes (InPattern im) least_in_pattern within_pattern (patterns_offset im) im.patterns)
-      (least_among (instr_fault im) instr_size (InInstr im) least_in_instr within_instr (code_offset im) im.code)))))
+      least_join _ _ _ _ (within_before (entry_offset v) 1 (labels_offset v im) _ _ (omega arith) (within_at (entry_offset v) 1 (entry_rule im) (omega arith)) from_labels) (least_at (entry_offset v) (entry_rule im))
+      (least_join _ _ _ _ (within_before (labels_offset v im) (8 * length im.labels) (statements_offset v im) _ _ (omega arith) in_labels from_statements) (least_table 8 (omega arith) (label_rule im) (labels_offset v im) im.labels)
+      (least_join _ _ _ _ (within_before (statements_offset v im) (4 * length im.statements) (expressions_offset v im) _ _ (omega arith) in_statements from_expressions) (least_table 4 (omega arith) (statement_rule im) (statements_offset v im) im.statements)
+      (least_join _ _ _ _ (within_before (expressions_offset v im) (4 * length im.expressions) (patterns_offset v im) _ _ (omega arith) in_expressions from_patterns) (least_table 4 (omega arith) (expression_rule im) (expressions_offset v im) im.expressions)
+      (least_join _ _ _ _ (within_before (patterns_offset v im) (sum (map pattern_bytes im.patterns)) (code_offset v im) _ _ (omega arith) in_patterns from_code)
+      (least_among (pattern_fault im) pattern_bytes (InPattern im) least_in_pattern within_pattern (patterns_offset v im) im.patterns)
+      (least_among (instr_fault im) instr_size (InInstr im) least_in_instr within_instr (code_offset v im) im.code)))))
 
 -- ---- with the flow
 
-abbrev InFlowAt : Image → Faults
-InFlowAt im f = (at : ℕ) × BreaksFlow im at × (f ≡ record { offset = code_offset im + at; rule = BadFlow })
+abbrev InFlowAt : Version → Image → Faults
+InFlowAt v im f = (at : ℕ) × BreaksFlow im at × (f ≡ record { offset = code_offset v im + at; rule = BadFlow })
 
-least_flow : (im : Image) (flow : Option ℕ) → IsLeast (BreaksFlow im) flow → IsLeastOf (InFlowAt im) (flow_fault im flow)
-least_flow im None h = λ f (at, b, e). h at b
-least_flow im (Some n) h = ((n, h.0, refl), λ g (at, b, e). subst (NotAfter (record { offset = code_offset im + n; rule = BadFlow })) (sym e) (by at (h.1 at b)))
+least_flow : (v : Version) (im : Image) (flow : Option ℕ) → IsLeast (BreaksFlow im) flow → IsLeastOf (InFlowAt v im) (flow_fault v im flow)
+least_flow v im None h = λ f (at, b, e). h at b
+least_flow v im (Some n) h = ((n, h.0, refl), λ g (at, b, e). subst (NotAfter (record { offset = code_offset v im + n; rule = BadFlow })) (sym e) (by at (h.1 at b)))
   where
-    by : (at : ℕ) → n ≤ at → NotAfter (record { offset = code_offset im + n; rule = BadFlow }) (record { offset = code_offset im + at; rule = BadFlow })
+    by : (at : ℕ) → n ≤ at → NotAfter (record { offset = code_offset v im + n; rule = BadFlow }) (record { offset = code_offset v im + at; rule = BadFlow })
     by at le = elim (cases_lt n at) [ inl lt ↦ inl (omega (arith, lt)) | inr ge ↦ inr (omega (arith, le, ge), omega arith) ]
 
 -- the one that comes first isn't after the other
@@ -304,8 +306,8 @@ least_lesser P Q (Some f) (Some g) h k = elim (chosen f g) [
   | inr (e, n) ↦ rw e (inl h.0, λ i s. elim s [ inl p ↦ h.1 i p | inr q ↦ not_after f g i n (k.1 i q) ])
 ]
 
-module _ (im : Image) where
-  to_has : (f : ModuleFault) → Parts im f ⊎ InFlowAt im f → Has im f
+module _ (v : Version) (im : Image) where
+  to_has : (f : ModuleFault) → Parts v im f ⊎ InFlowAt v im f → Has v im f
   to_has f (inl (inl h)) = InEntry h
   to_has f (inl (inr (inl h))) = InLabels h
   to_has f (inl (inr (inr (inl h)))) = InStatements h
@@ -314,7 +316,7 @@ module _ (im : Image) where
   to_has f (inl (inr (inr (inr (inr (inr h)))))) = InCode h
   to_has f (inr (at, b, q)) = InFlow at b q
 
-  of_has : (f : ModuleFault) → Has im f → Parts im f ⊎ InFlowAt im f
+  of_has : (f : ModuleFault) → Has v im f → Parts v im f ⊎ InFlowAt v im f
   of_has f (InEntry h) = inl (inl h)
   of_has f (InLabels h) = inl (inr (inl h))
   of_has f (InStatements h) = inl (inr (inr (inl h)))
@@ -324,21 +326,63 @@ module _ (im : Image) where
   of_has f (InFlow at b q) = inr (at, b, q)
 
 pub least_is_told : LeastIsTold
-least_is_told im fault (flow, least, e) =
-    subst (IsLeastOf (Has im)) (sym e)
-    (least_same _ (Has im) (lesser_fault (part_fault im) (flow_fault im flow)) (to_has im) (of_has im) (least_lesser _ (InFlowAt im) (part_fault im) (flow_fault im flow) (least_parts im) (least_flow im flow least)))
+least_is_told v im fault (flow, least, e) =
+    subst (IsLeastOf (Has v im)) (sym e)
+    (least_same _ (Has v im) (lesser_fault (part_fault v im) (flow_fault v im flow)) (to_has v im) (of_has v im) (least_lesser _ (InFlowAt v im) (part_fault v im) (flow_fault v im flow) (least_parts v im) (least_flow v im flow least)))
+
+-- ---- an image without faults has none in either version
+
+both_none : {A : Type 0} (x y : Option A) → or_else x y ≡ None → (x ≡ None) × (y ≡ None)
+both_none None y e = (refl, e)
+both_none (Some x) y e = absurd (cc)
+
+none_both : {A : Type 0} (x y : Option A) → x ≡ None → y ≡ None → or_else x y ≡ None
+none_both x y e f = rw (e, f) refl
+
+told_elsewhere : (at place : ℕ) (r : Option ModuleRule) → fault_if at r ≡ None → fault_if place r ≡ None
+told_elsewhere at place None e = refl
+told_elsewhere at place (Some r) e = absurd (cc)
+
+-- parts that are fine at one place are fine at another
+module _ {A : Type 0} (fault : List A → ℕ → A → Option ModuleFault) (width : A → ℕ) (elsewhere : (front : List A) (at place : ℕ) (x : A) → fault front at x ≡ None → fault front place x ≡ None) where
+  scan_elsewhere : (front : List A) (at place : ℕ) (xs : List A) → fault_among fault width front at xs ≡ None → fault_among fault width front place xs ≡ None
+  scan_elsewhere front at place [] e = refl
+  scan_elsewhere front at place (x ∷ xs) e =
+      let n = both_none (fault front at x) (fault_among fault width (front ++ x ∷ []) (at + width x) xs) e in
+      none_both _ _ (elsewhere front at place x n.0) (scan_elsewhere (front ++ x ∷ []) (at + width x) (place + width x) xs n.1)
+
+rule_elsewhere : {A : Type 0} (broken : List A → A → Option ModuleRule) (k at place : ℕ) (xs : List A)
+    → fault_among (λ front at x. fault_if at (broken front x)) (λ x. k) [] at xs ≡ None → fault_among (λ front at x. fault_if at (broken front x)) (λ x. k) [] place xs ≡ None
+rule_elsewhere broken k at place xs e = scan_elsewhere (λ front at x. fault_if at (broken front x)) (λ x. k) (λ front at place x. told_elsewhere at place (broken front x)) [] at place xs e
+
+pub fine_in_each : (v w : Version) (im : Image) → part_fault v im ≡ None → part_fault w im ≡ None
+fine_in_each v w im e =
+    let a = both_none _ _ e in
+    let b = both_none _ _ a.1 in
+    let c = both_none _ _ b.1 in
+    let d = both_none _ _ c.1 in
+    let f = both_none _ _ d.1 in
+    none_both _ _ (told_elsewhere (entry_offset v) (entry_offset w) (entry_rule im) a.0)
+    (none_both _ _ (rule_elsewhere (label_rule im) 8 (labels_offset v im) (labels_offset w im) im.labels b.0)
+    (none_both _ _ (rule_elsewhere (statement_rule im) 4 (statements_offset v im) (statements_offset w im) im.statements c.0)
+    (none_both _ _ (rule_elsewhere (expression_rule im) 4 (expressions_offset v im) (expressions_offset w im) im.expressions d.0)
+    (none_both _ _
+    (scan_elsewhere (pattern_fault im) pattern_bytes
+        (λ front at place is. scan_elsewhere (λ before place i. fault_if place (pat_rule im (length is) before i)) pat_bytes (λ before at place i. told_elsewhere at place (pat_rule im (length is) before i)) [] (at + 4) (place + 4) is)
+        [] (patterns_offset v im) (patterns_offset w im) im.patterns f.0)
+    (scan_elsewhere (instr_fault im) instr_size (λ front at place i. told_elsewhere at place _) [] (code_offset v im) (code_offset w im) im.code f.1)))))
 
 pub well_formed_has_none : WellFormedHasNone
-well_formed_has_none im w = least_is_told im None (None, w.flow, rw (w.parts) refl)
+well_formed_has_none v im w = least_is_told v im None (None, w.flow, rw (fine_in_each versions.Two v im w.parts) refl)
 
 none_least : (P : Faults) (o : Option ModuleFault) → IsLeastOf P o → ((f : ModuleFault) → P f → ⊥) → o ≡ None
 none_least P None h free = refl
 none_least P (Some f) h free = absurd (free f h.0)
 
 pub none_is_well_formed : NoneIsWellFormed
-none_is_well_formed im free = record {
-  parts = none_least (Parts im) (part_fault im) (least_parts im) (λ f p. free f (to_has im f (inl p)));
-  flow = λ at b. free (record { offset = code_offset im + at; rule = BadFlow }) (InFlow at b refl);
+none_is_well_formed v im free = record {
+  parts = fine_in_each v versions.Two im (none_least (Parts v im) (part_fault v im) (least_parts v im) (λ f p. free f (to_has v im f (inl p))));
+  flow = λ at b. free (record { offset = code_offset v im + at; rule = BadFlow }) (InFlow at b refl);
 }
 
 -- ---- one alone
@@ -371,4 +415,4 @@ least_once P (Some f) None h k = absurd (k f h.0)
 least_once P (Some f) (Some g) h k = ap Some (both_ways f g (h.1 g k.0) (k.1 f h.0))
 
 pub one_is_told : OneIsTold
-one_is_told im fault other h k = least_once (Has im) fault other (least_is_told im fault h) (least_is_told im other k)
+one_is_told v im fault other h k = least_once (Has v im) fault other (least_is_told v im fault h) (least_is_told v im other k)

@@ -1,6 +1,7 @@
 -- Worked cases: rules used.
 use Rattle.std.proofs.Common.{◌≡◌, ℕ, List, [], ◌∷◌, pos, Some, codes, refl}
 use Rattle.model.specs.declared.image.Image.{Image}
+use Rattle.model.specs.declared.image.Level.TheVariants as levels
 use Rattle.model.specs.declared.instr.ArithOp.TheVariants as arith
 use Rattle.model.specs.declared.instr.Instr.TheVariants as op
 use Rattle.model.specs.declared.primitives.PrimId.TheVariants as prim
@@ -80,10 +81,12 @@ cut_off_later = refl
 -- its image, as the generator writes it
 image_to_the_end : ℕ → Image
 image_to_the_end k = record {
+  level = levels.Two;
   entry = 1;
   strings = codes "S" ∷ codes "A" ∷ codes "ARB" ∷ codes "B" ∷ [];
   labels = [];
   statements = 0 ∷ 29 ∷ 80 ∷ [];
+  cards = 1 ∷ 2 ∷ 3 ∷ [];
   expressions = 81 ∷ [];
   patterns = [];
   code =

@@ -1,6 +1,7 @@
 -- Worked case: the module of ` OUTPUT = 'HI'`, `END`, step by step, and that it stands for its program.
 use Rattle.std.proofs.Common.{◌≡◌, ℕ, zero, suc, List, [], ◌∷◌, Option, Some, None, Bool, true, false, bytes_eq, if◌then◌else◌, codes, inl, refl, sym, ap, subst}
 use Rattle.model.specs.declared.image.Image.{Image}
+use Rattle.model.specs.declared.image.Level.TheVariants as levels
 use Rattle.model.specs.declared.instr.Instr.TheVariants as op
 use Rattle.model.specs.Deck.Trees.{Bytes, Expr, Literal, Body, Goto, Stmt, Plain, End}
 use Rattle.model.specs.Language.Programs.{program, end_label}
@@ -13,10 +14,12 @@ use Rattle.model.proofs.Machine.Agreement.{agrees_where_placed}
 -- offsets 0, 5, 10, 15, 16 and 17
 abbrev pub hi_image : Image
 hi_image = record {
+  level = levels.Two;
   entry = 1;
   strings = codes "OUTPUT" ∷ codes "HI" ∷ [];
   labels = [];
   statements = 0 ∷ 17 ∷ [];
+  cards = 1 ∷ 2 ∷ [];
   expressions = [];
   patterns = [];
   code = op.Begin 17 ∷ op.Var 0 ∷ op.Str 1 ∷ op.Assign ∷ op.Body ∷ op.End ∷ [];

@@ -237,6 +237,14 @@ abbrev pub deck_of : List Card → Option (List Card) → Result (List Statement
 deck_of cards (Some used) = cards_verdict used (least (faults_of used))
 deck_of cards None = cards_verdict cards (least (faults_of cards ++ fault (length cards + 1) rule.NoEnd ∷ []))
 
--- C5: a deck over 1,048,576 bytes is told at card 0 before all others
+-- C5: a deck over 16,777,216 bytes is told at card 0 before all others
 unfoldable pub deck : List ℕ → Result (List Statement) CardFault
-deck text = if nat_lt 1048576 (length text) then Err (fault 0 rule.DeckTooLong) else deck_of (cards text) (ended (cards text))
+deck text = if nat_lt 16777216 (length text) then Err (fault 0 rule.DeckTooLong) else deck_of (cards text) (ended (cards text))
+
+abbrev pub cards_of : Result (List Statement) CardFault → List ℕ
+cards_of (Ok statements) = map (λ s. s.card) statements
+cards_of (Err f) = []
+
+-- the card where each statement of a deck begins
+abbrev pub first_cards : List ℕ → List ℕ
+first_cards text = cards_of (deck text)

@@ -2,8 +2,10 @@
 use Rattle.std.specs.Prelude.{◌≡◌, ◌≤◌, ⊤, ℕ, List, [], ◌∷◌, ◌++◌, length, Option, Ok}
 use Rattle.std.specs.List.{AllByRecursion}
 use Rattle.model.specs.declared.cards.Statement.{Statement}
-use Rattle.model.specs.Deck.Cards.{deck}
+use Rattle.model.specs.declared.image.Level.TheVariants as levels
+use Rattle.model.specs.Deck.Cards.{deck, first_cards}
 use Rattle.model.specs.Deck.Faults.{read, verdict, Accepted}
+use Rattle.model.specs.Module.Spelling.{CardFits, Follow}
 use Rattle.model.specs.Deck.Trees.{Bytes, Stmt, Plain, End}
 use Rattle.model.specs.Deck.Weights.{weight, total}
 
@@ -28,7 +30,7 @@ EndIsLast = (text : List ℕ) (ss : List Stmt) → verdict text ≡ Accepted ss 
 
 -- a deck's statements are no more than its bytes, and their texts together no longer
 pub record CardsFit (text : List ℕ) (statements : List Statement) : Type 0 where
-  pub deck : length text ≤ 1048576
+  pub deck : length text ≤ 16777216
   pub count : length statements ≤ length text
   pub together : total (λ s. length s.text) statements ≤ length text
   pub each : AllByRecursion (λ s. length s.text ≤ 4000) statements
@@ -41,10 +43,17 @@ TreesFit = (text : List ℕ) (s : Stmt) → read text ≡ Ok s → weight s ≤ 
 
 -- an accepted deck's trees are no more than its bytes, and together no heavier
 pub record TreesOfDeckFit (text : List ℕ) (ss : List Stmt) : Type 0 where
-  pub deck : length text ≤ 1048576
+  pub deck : length text ≤ 16777216
   pub count : length ss ≤ length text
   pub together : total weight ss ≤ length text
   pub each : AllByRecursion (λ s. weight s ≤ 4000) ss
 
 abbrev pub AcceptedDecksFit : Type 0
 AcceptedDecksFit = (text : List ℕ) (ss : List Stmt) → verdict text ≡ Accepted ss → TreesOfDeckFit text ss
+
+-- ---- cards
+
+-- the cards where an accepted deck's statements begin are those that a module has: one for each, from 1 on, and never
+-- falling
+abbrev pub FirstCardsFit : Type 0
+FirstCardsFit = (text : List ℕ) (ss : List Stmt) → verdict text ≡ Accepted ss → (length (first_cards text) ≡ length ss) × Follow (CardFits levels.Two) [] (first_cards text)

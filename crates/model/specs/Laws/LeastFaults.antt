@@ -4,6 +4,7 @@ use Rattle.std.specs.List.{sum}
 use Rattle.model.specs.declared.format.ModuleFault.{ModuleFault}
 use Rattle.model.specs.declared.format.ModuleRule.{ModuleRule}
 use Rattle.model.specs.declared.format.ModuleRule.TheVariants.{BadIndex, BadTarget, BadFlow, NoEnd}
+use Rattle.model.specs.declared.format.Version.{Version}
 use Rattle.model.specs.declared.image.Image.{Image}
 use Rattle.model.specs.declared.image.PatInstr.{PatInstr}
 use Rattle.model.specs.declared.instr.Instr.{Instr}
@@ -36,15 +37,15 @@ InInstr im front at i f =
 abbrev pub InPattern : Image → List (List PatInstr) → ℕ → List PatInstr → ModuleFault → Type 0
 InPattern im front at is = Among (λ before place i. IsAt place (pat_rule im (length is) before i)) pat_bytes (at + 4) is
 
--- a fault that the image has
-pub data Has (im : Image) (f : ModuleFault) : Type 0 where
-  InEntry : IsAt entry_offset (entry_rule im) f → Has im f
-  InLabels : Among (λ front at l. IsAt at (label_rule im front l)) (λ l. 8) (labels_offset im) im.labels f → Has im f
-  InStatements : Among (λ front at o. IsAt at (statement_rule im front o)) (λ o. 4) (statements_offset im) im.statements f → Has im f
-  InExpressions : Among (λ front at o. IsAt at (expression_rule im front o)) (λ o. 4) (expressions_offset im) im.expressions f → Has im f
-  InPatterns : Among (InPattern im) pattern_bytes (patterns_offset im) im.patterns f → Has im f
-  InCode : Among (InInstr im) instr_size (code_offset im) im.code f → Has im f
-  InFlow : (at : ℕ) → BreaksFlow im at → f ≡ record { offset = code_offset im + at; rule = BadFlow } → Has im f
+-- a fault that the image has, spelt in a version
+pub data Has (v : Version) (im : Image) (f : ModuleFault) : Type 0 where
+  InEntry : IsAt (entry_offset v) (entry_rule im) f → Has v im f
+  InLabels : Among (λ front at l. IsAt at (label_rule im front l)) (λ l. 8) (labels_offset v im) im.labels f → Has v im f
+  InStatements : Among (λ front at o. IsAt at (statement_rule im front o)) (λ o. 4) (statements_offset v im) im.statements f → Has v im f
+  InExpressions : Among (λ front at o. IsAt at (expression_rule im front o)) (λ o. 4) (expressions_offset v im) im.expressions f → Has v im f
+  InPatterns : Among (InPattern im) pattern_bytes (patterns_offset v im) im.patterns f → Has v im f
+  InCode : Among (InInstr im) instr_size (code_offset v im) im.code f → Has v im f
+  InFlow : (at : ℕ) → BreaksFlow im at → f ≡ record { offset = code_offset v im + at; rule = BadFlow } → Has v im f
 
 -- by offset, and by number at the same offset
 abbrev pub NotAfter : ModuleFault → ModuleFault → Type 0
@@ -57,14 +58,14 @@ IsLeastOf P (Some f) = P f × ((g : ModuleFault) → P g → NotAfter f g)
 
 -- what is told is the least of all faults, and so is the only one that may be told
 abbrev pub LeastIsTold : Type 0
-LeastIsTold = (im : Image) (fault : Option ModuleFault) → IsTold im fault → IsLeastOf (Has im) fault
+LeastIsTold = (v : Version) (im : Image) (fault : Option ModuleFault) → IsTold v im fault → IsLeastOf (Has v im) fault
 
 abbrev pub OneIsTold : Type 0
-OneIsTold = (im : Image) (fault other : Option ModuleFault) → IsTold im fault → IsTold im other → fault ≡ other
+OneIsTold = (v : Version) (im : Image) (fault other : Option ModuleFault) → IsTold v im fault → IsTold v im other → fault ≡ other
 
 -- an image without any is well-formed, and no other is
 abbrev pub WellFormedHasNone : Type 0
-WellFormedHasNone = (im : Image) → IsWellFormed im → (f : ModuleFault) → Has im f → ⊥
+WellFormedHasNone = (v : Version) (im : Image) → IsWellFormed im → (f : ModuleFault) → Has v im f → ⊥
 
 abbrev pub NoneIsWellFormed : Type 0
-NoneIsWellFormed = (im : Image) → ((f : ModuleFault) → Has im f → ⊥) → IsWellFormed im
+NoneIsWellFormed = (v : Version) (im : Image) → ((f : ModuleFault) → Has v im f → ⊥) → IsWellFormed im

@@ -1,5 +1,5 @@
 -- An image as the machine reads it.
-use Rattle.std.specs.Prelude.{ℕ, zero, suc, ◌+◌, List, [], ◌∷◌, length, Option, Some, None, Bool, false, bytes_eq, slice_get, ◌==◌, if◌then◌else◌}
+use Rattle.std.specs.Prelude.{ℕ, zero, suc, ◌+◌, List, [], ◌∷◌, length, get_or, Option, Some, None, Bool, false, bytes_eq, slice_get, ◌==◌, if◌then◌else◌}
 use Rattle.model.specs.declared.instr.Instr.{Instr}
 use Rattle.model.specs.declared.instr.Instr.TheVariants as op
 use Rattle.model.specs.declared.image.Image.{Image}
@@ -47,6 +47,11 @@ fetch_from o (i ∷ is) at = if o == at then At i (o + instr_size i) else fetch_
 abbrev pub statement_offset : List ℕ → ℕ → Option ℕ
 statement_offset os zero = None
 statement_offset os (suc k) = slice_get os k
+
+-- the card where a statement begins, by number; 0 where it isn't known
+abbrev pub card_of : List ℕ → ℕ → ℕ
+card_of cs zero = 0
+card_of cs (suc k) = get_or cs k 0
 
 -- the number of the statement at an offset, from 1
 abbrev pub statement_number : List ℕ → ℕ → ℕ

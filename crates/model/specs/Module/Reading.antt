@@ -1,14 +1,18 @@
 -- Reading a module from left to right, with the first fault that is met.
 -- A fault is told with the bytes that are left at it, so that no reader counts what was before.
-use Rattle.std.specs.Prelude.{◌≡◌, ℕ, zero, suc, List, [], ◌∷◌, ◌++◌, length, take, drop, option_map, Bool, not, Option, Some, None, Result, Ok, Err, nat_lt, ◌==◌, if◌then◌else◌, slice_get, ℤ}
+use Rattle.std.specs.Prelude.{◌≡◌, ℕ, zero, suc, List, [], ◌∷◌, ◌++◌, length, take, drop, replicate, option_map, Bool, not, Option, Some, None, Result, Ok, Err, nat_lt, ◌==◌, if◌then◌else◌, slice_get, ℤ}
 use Rattle.std.specs.Int.{Width, w16, w32, w64, byte_len, from_be_bytes, cast_signed}
 use Rattle.model.specs.declared.format.FormatRule.{FormatRule}
 use Rattle.model.specs.declared.format.FormatRule.TheVariants.{BadMagic, BadVersion, Truncated, TrailingBytes, BadTable, UnknownInstruction}
 use Rattle.model.specs.declared.format.Miss.{Miss}
 use Rattle.model.specs.declared.format.ReadError.{ReadError}
 use Rattle.model.specs.declared.format.ReadError.TheVariants as errors
+use Rattle.model.specs.declared.format.Version.{Version}
+use Rattle.model.specs.declared.format.Version.TheVariants as versions
 use Rattle.model.specs.declared.image.Image.{Image}
 use Rattle.model.specs.declared.image.Label.{Label}
+use Rattle.model.specs.declared.image.Level.{Level}
+use Rattle.model.specs.declared.image.Level.TheVariants as levels
 use Rattle.model.specs.declared.image.PatInstr.{PatInstr}
 use Rattle.model.specs.declared.image.PatInstr.TheVariants as pats
 use Rattle.model.specs.declared.instr.Instr.{Instr}
@@ -16,7 +20,7 @@ use Rattle.model.specs.declared.instr.Instr.TheVariants as instrs
 use Rattle.model.specs.declared.primitives.PrimId.{PrimId}
 use Rattle.model.specs.Language.Names.{keys, prims}
 use Rattle.model.specs.Module.Codes.{return_kinds, sign_ops, arith_ops}
-use Rattle.model.specs.Module.Spelling.{magic, most, most_code, is_new, newest, rises, statement_of}
+use Rattle.model.specs.Module.Spelling.{magic, version_number, most, most_code, is_new, newest, rises, statement_of, is_card, is_of}
 
 infixl 10 ◌>>>◌
 abbrev pub ◌>>>◌ : {A B : Type 0} → Option A → (A → Option B) → Option B
@@ -156,6 +160,20 @@ fixed_at w k rule bytes = do
   n ← number_at w bytes
   checked (n.0 == k) rule bytes n.1
 
+abbrev pub either : {X Y : Type 0} → Option X → Y → (X → Y) → Y
+either None other f = other
+either (Some x) other f = f x
+
+abbrev pub level_of : ℕ → Option Level
+level_of n = if n == 1 then Some levels.One else (if n == 2 then Some levels.Two else None)
+
+-- the level; in version 1 there is one alone
+unfoldable pub level_at : Version → List ℕ → Result (Level × List ℕ) Miss
+level_at versions.One bytes = Ok (levels.One, bytes)
+level_at versions.Two bytes = do
+  n ← number_at w16 bytes
+  either (level_of n.0) (fault_at BadVersion bytes) (λ l. Ok (l, n.1))
+
 -- a number that is at most so great
 unfoldable pub count_at : ℕ → List ℕ → Result (ℕ × List ℕ) Miss
 count_at limit bytes = do
@@ -203,6 +221,16 @@ statement_at front bytes = do
   n ← number_at w32 bytes
   checked (rises (newest front) n.0) BadTable bytes n
 
+unfoldable pub card_at : Level → List ℕ → List ℕ → Result (ℕ × List ℕ) Miss
+card_at l front bytes = do
+  n ← number_at w32 bytes
+  checked (is_card l front n.0) BadTable bytes n
+
+-- a card for each of so many statements; in version 1 none is known
+unfoldable pub cards_at : Version → Level → ℕ → List ℕ → Result (List ℕ × List ℕ) Miss
+cards_at versions.One l n bytes = Ok (replicate n 0, bytes)
+cards_at versions.Two l n bytes = entries_from (card_at l) [] n bytes
+
 unfoldable pub offset_at : List ℕ → List ℕ → Result (ℕ × List ℕ) Miss
 offset_at front bytes = number_at w32 bytes
 
@@ -218,41 +246,46 @@ pat_instr_at front bytes = do
 unfoldable pub pattern_at : List (List PatInstr) → List ℕ → Result (List PatInstr × List ℕ) Miss
 pattern_at front bytes = table_at pat_instr_at bytes
 
--- the instructions of the code; behind is what stands after it
-abbrev pub either : {X Y : Type 0} → Option X → Y → (X → Y) → Y
-either None other f = other
-either (Some x) other f = f x
+-- the instruction in front, if a level has it
+unfoldable pub known_of : Level → List ℕ → Option (Instr × List ℕ)
+known_of l bytes = instr_of bytes >>> λ i. if is_of l i.0 then Some i else None
 
-unfoldable pub code_from : List Instr → ℕ → List ℕ → List ℕ → Result (List Instr) Miss
-code_from front n behind [] = Ok front
-code_from front zero behind (b ∷ bytes) = fault_at UnknownInstruction ((b ∷ bytes) ++ behind)
-code_from front (suc n) behind (b ∷ bytes) = either (instr_of (b ∷ bytes)) (fault_at UnknownInstruction ((b ∷ bytes) ++ behind)) (λ i. code_from (front ++ i.0 ∷ []) n behind i.1)
+-- the instructions of the code of a level; behind is what stands after it
+unfoldable pub code_from : Level → List Instr → ℕ → List ℕ → List ℕ → Result (List Instr) Miss
+code_from l front n behind [] = Ok front
+code_from l front zero behind (b ∷ bytes) = fault_at UnknownInstruction ((b ∷ bytes) ++ behind)
+code_from l front (suc n) behind (b ∷ bytes) = either (known_of l (b ∷ bytes)) (fault_at UnknownInstruction ((b ∷ bytes) ++ behind)) (λ i. code_from l (front ++ i.0 ∷ []) n behind i.1)
 
-unfoldable pub code_at : List ℕ → Result (List Instr × List ℕ) Miss
-code_at bytes = do
+unfoldable pub code_at : Level → List ℕ → Result (List Instr × List ℕ) Miss
+code_at l bytes = do
   n ← count_at most_code bytes
   code ← bytes_at n.0 n.1
-  is ← code_from [] n.0 code.1 code.0
+  is ← code_from l [] n.0 code.1 code.0
   Ok (is, code.1)
 
-unfoldable pub image_at : List ℕ → Result (Image × List ℕ) Miss
-image_at bytes = do
+unfoldable pub image_at : Version → List ℕ → Result (Image × List ℕ) Miss
+image_at v bytes = do
   a ← fixed_at w32 magic BadMagic bytes
-  b ← fixed_at w16 1 BadVersion a
-  entry ← number_at w32 b
+  b ← fixed_at w16 (version_number v) BadVersion a
+  level ← level_at v b
+  entry ← number_at w32 level.1
   strings ← table_at string_at entry.1
   labels ← table_at label_at strings.1
   statements ← table_at statement_at labels.1
-  expressions ← table_at offset_at statements.1
+  cards ← cards_at v level.0 (length statements.0) statements.1
+  expressions ← table_at offset_at cards.1
   patterns ← table_at pattern_at expressions.1
-  code ← code_at patterns.1
-  Ok (record { entry = entry.0; strings = strings.0; labels = labels.0; statements = statements.0; expressions = expressions.0; patterns = patterns.0; code = code.0 }, code.1)
+  code ← code_at level.0 patterns.1
+  Ok (record { level = level.0; entry = entry.0; strings = strings.0; labels = labels.0; statements = statements.0; cards = cards.0; expressions = expressions.0; patterns = patterns.0; code = code.0 }, code.1)
 
--- all of the bytes
-unfoldable pub read_image : List ℕ → Result Image Miss
-read_image bytes = do
-  m ← image_at bytes
+-- all of the bytes, in a version of the format
+unfoldable pub image_in : Version → List ℕ → Result Image Miss
+image_in v bytes = do
+  m ← image_at v bytes
   checked (length m.1 == 0) TrailingBytes m.1 m.0
+
+abbrev pub read_image : List ℕ → Result Image Miss
+read_image bytes = image_in versions.Two bytes
 
 -- ---- what a reader in the code answers
 

@@ -1,16 +1,22 @@
 -- The one spelling of a module.
-use Rattle.std.specs.Prelude.{◌≡◌, ℕ, ◌<◌, ◌≤◌, ◌^◌, List, [], ◌∷◌, ◌++◌, length, ◌-◌, slice_get, option_map, Bool, true, not, nat_lt, ◌==◌, Option, Some, None}
+use Rattle.std.specs.Prelude.{◌≡◌, ℕ, ◌<◌, ◌≤◌, ◌^◌, List, [], ◌∷◌, ◌++◌, length, ◌-◌, slice_get, option_map, Bool, true, false, not, nat_lt, ◌==◌, Option, Some, None}
 use Rattle.std.specs.List.{flat_map, list_any, AllByRecursion}
 use Rattle.std.specs.Cmp.Lexicographic.{pointwise}
 use Rattle.std.specs.Int.{w16, w32, w64, to_be_bytes, cast_unsigned}
 use Rattle.std.specs.Int.RustNames.{FitsSigned}
 use Rattle.model.specs.Module.Codes.{key_code, prim_code, return_code, sign_code, arith_code}
+use Rattle.model.specs.declared.format.Version.{Version}
+use Rattle.model.specs.declared.format.Version.TheVariants as versions
 use Rattle.model.specs.declared.image.Image.{Image}
 use Rattle.model.specs.declared.image.Label.{Label}
+use Rattle.model.specs.declared.image.Level.{Level}
+use Rattle.model.specs.declared.image.Level.TheVariants as levels
 use Rattle.model.specs.declared.image.PatInstr.{PatInstr}
 use Rattle.model.specs.declared.image.PatInstr.TheVariants as pats
 use Rattle.model.specs.declared.instr.Instr.{Instr}
 use Rattle.model.specs.declared.instr.Instr.TheVariants as instrs
+use Rattle.model.specs.declared.primitives.PrimId.{PrimId}
+use Rattle.model.specs.declared.primitives.PrimId.TheVariants as prims
 
 -- numbers of two, four and eight bytes
 unfoldable pub u16 : ℕ → List ℕ
@@ -163,15 +169,32 @@ pattern is = counted pat_instr is
 abbrev pub code_bytes : List Instr → List ℕ
 code_bytes is = flat_map instr is
 
--- `SNO4`, and the version
+-- `SNO4`
 abbrev pub magic : ℕ
 magic = 1397641012
 
+abbrev pub version_number : Version → ℕ
+version_number versions.One = 1
+version_number versions.Two = 2
+
+abbrev pub level_number : Level → ℕ
+level_number levels.One = 1
+level_number levels.Two = 2
+
+-- what version 1 lacks
+abbrev pub since_two : Version → List ℕ → List ℕ
+since_two versions.One bytes = []
+since_two versions.Two bytes = bytes
+
+-- in a version of the format
+abbrev pub spelling_in : Version → Image → List ℕ
+spelling_in v m =
+    u32 magic ++ (u16 (version_number v) ++ (since_two v (u16 (level_number m.level)) ++ (u32 m.entry
+    ++ (counted string m.strings ++ (counted label m.labels ++ (counted u32 m.statements ++ (since_two v (flat_map u32 m.cards)
+    ++ (counted u32 m.expressions ++ (counted pattern m.patterns ++ string (code_bytes m.code))))))))))
+
 abbrev pub spelling : Image → List ℕ
-spelling m =
-    u32 magic ++ (u16 1 ++ (u32 m.entry
-    ++ (counted string m.strings ++ (counted label m.labels ++ (counted u32 m.statements ++ (counted u32 m.expressions ++ (counted pattern m.patterns
-    ++ string (code_bytes m.code))))))))
+spelling m = spelling_in versions.Two m
 
 -- ---- what has a spelling
 
@@ -271,6 +294,40 @@ LabelFits front l = (l.string < 2 ^ 32) × (l.statement < 2 ^ 32) × (rises (opt
 abbrev pub StatementFits : List ℕ → ℕ → Type 0
 StatementFits front n = (n < 2 ^ 32) × (rises (newest front) n ≡ true)
 
+-- whether a number is the next card behind those before it: at level 2 cards begin at 1 and never fall
+abbrev pub falls : Option ℕ → ℕ → Bool
+falls None n = nat_lt n 1
+falls (Some k) n = nat_lt n k
+
+abbrev pub is_card : Level → List ℕ → ℕ → Bool
+is_card levels.One front n = n == 0
+is_card levels.Two front n = not (falls (newest front) n)
+
+abbrev pub CardFits : Level → List ℕ → ℕ → Type 0
+CardFits l front n = (n < 2 ^ 32) × (is_card l front n ≡ true)
+
+-- a card for each statement
+pub record AreCards (l : Level) (statements cards : List ℕ) : Type 0 where
+  pub count : length cards ≡ length statements
+  pub entries : Follow (CardFits l) [] cards
+
+-- whether a level has an instruction: FENCE of a pattern came with level 2
+abbrev pub is_newer : PrimId → Bool
+is_newer prims.Fence = true
+is_newer _ = false
+
+abbrev pub is_of_one : Instr → Bool
+is_of_one (instrs.PrimV p n) = not (is_newer p)
+is_of_one (instrs.PrimN p n) = not (is_newer p)
+is_of_one _ = true
+
+abbrev pub is_of : Level → Instr → Bool
+is_of levels.One i = is_of_one i
+is_of levels.Two i = true
+
+abbrev pub IsOf : Level → Instr → Type 0
+IsOf l i = is_of l i ≡ true
+
 abbrev pub OffsetFits : List ℕ → ℕ → Type 0
 OffsetFits front n = n < 2 ^ 32
 
@@ -286,7 +343,18 @@ pub record IsImage (m : Image) : Type 0 where
   pub strings : IsTable StringFits m.strings
   pub labels : IsTable LabelFits m.labels
   pub statements : IsTable StatementFits m.statements
+  pub cards : AreCards m.level m.statements m.cards
   pub expressions : IsTable OffsetFits m.expressions
   pub patterns : IsTable PatternFits m.patterns
   pub code : AllByRecursion InstrFits m.code
   pub code_length : length (code_bytes m.code) ≤ most_code
+  pub level : AllByRecursion (IsOf m.level) m.code
+
+-- what has a spelling in a version: in version 1 the images of level 1
+abbrev pub HasLevel : Version → Level → Type 0
+HasLevel versions.One l = l ≡ levels.One
+HasLevel versions.Two l = Unit {0}
+
+pub record IsImageIn (v : Version) (m : Image) : Type 0 where
+  pub image : IsImage m
+  pub level : HasLevel v m.level

@@ -5,6 +5,8 @@ use Rattle.std.specs.List.{list_any, sum}
 use Rattle.model.specs.declared.format.ModuleFault.{ModuleFault}
 use Rattle.model.specs.declared.format.ModuleRule.{ModuleRule}
 use Rattle.model.specs.declared.format.ModuleRule.TheVariants.{BadIndex, BadTarget, BadFlow, BadJump, NoEnd}
+use Rattle.model.specs.declared.format.Version.{Version}
+use Rattle.model.specs.declared.format.Version.TheVariants as versions
 use Rattle.model.specs.declared.image.Image.{Image}
 use Rattle.model.specs.declared.image.Label.{Label}
 use Rattle.model.specs.declared.image.PatInstr.{PatInstr}
@@ -36,24 +38,30 @@ pat_bytes _ = 5
 abbrev pub pattern_bytes : List PatInstr → ℕ
 pattern_bytes is = 4 + sum (map pat_bytes is)
 
--- where the entry stands, and the first entry of each table
-abbrev pub entry_offset : ℕ
-entry_offset = 6
+-- where the entry stands, and the first entry of each table, in a version of the format
+abbrev pub entry_offset : Version → ℕ
+entry_offset versions.One = 6
+entry_offset versions.Two = 8
 
-abbrev pub labels_offset : Image → ℕ
-labels_offset im = 10 + 4 + sum (map string_bytes im.strings) + 4
+abbrev pub labels_offset : Version → Image → ℕ
+labels_offset v im = entry_offset v + 4 + 4 + sum (map string_bytes im.strings) + 4
 
-abbrev pub statements_offset : Image → ℕ
-statements_offset im = labels_offset im + 8 * length im.labels + 4
+abbrev pub statements_offset : Version → Image → ℕ
+statements_offset v im = labels_offset v im + 8 * length im.labels + 4
 
-abbrev pub expressions_offset : Image → ℕ
-expressions_offset im = statements_offset im + 4 * length im.statements + 4
+-- how many bytes the cards have
+abbrev pub cards_bytes : Version → Image → ℕ
+cards_bytes versions.One im = 0
+cards_bytes versions.Two im = 4 * length im.statements
 
-abbrev pub patterns_offset : Image → ℕ
-patterns_offset im = expressions_offset im + 4 * length im.expressions + 4
+abbrev pub expressions_offset : Version → Image → ℕ
+expressions_offset v im = statements_offset v im + 4 * length im.statements + cards_bytes v im + 4
 
-abbrev pub code_offset : Image → ℕ
-code_offset im = patterns_offset im + sum (map pattern_bytes im.patterns) + 4
+abbrev pub patterns_offset : Version → Image → ℕ
+patterns_offset v im = expressions_offset v im + 4 * length im.expressions + 4
+
+abbrev pub code_offset : Version → Image → ℕ
+code_offset v im = patterns_offset v im + sum (map pattern_bytes im.patterns) + 4
 
 -- ---- what an index, a name and an offset may be
 
@@ -195,20 +203,20 @@ pattern_fault im front at is = fault_among (λ before place i. fault_if place (p
 abbrev pub instr_fault : Image → List Instr → ℕ → Instr → Option ModuleFault
 instr_fault im front at i = fault_if at (instr_rule im (code_size front) (code_size front + instr_size i) i)
 
-abbrev pub part_fault : Image → Option ModuleFault
-part_fault im =
-    or_else (fault_if entry_offset (entry_rule im))
-    (or_else (fault_among (λ front at l. fault_if at (label_rule im front l)) (λ l. 8) [] (labels_offset im) im.labels)
-    (or_else (fault_among (λ front at o. fault_if at (statement_rule im front o)) (λ o. 4) [] (statements_offset im) im.statements)
-    (or_else (fault_among (λ front at o. fault_if at (expression_rule im front o)) (λ o. 4) [] (expressions_offset im) im.expressions)
-    (or_else (fault_among (pattern_fault im) pattern_bytes [] (patterns_offset im) im.patterns)
-    (fault_among (instr_fault im) instr_size [] (code_offset im) im.code)))))
+abbrev pub part_fault : Version → Image → Option ModuleFault
+part_fault v im =
+    or_else (fault_if (entry_offset v) (entry_rule im))
+    (or_else (fault_among (λ front at l. fault_if at (label_rule im front l)) (λ l. 8) [] (labels_offset v im) im.labels)
+    (or_else (fault_among (λ front at o. fault_if at (statement_rule im front o)) (λ o. 4) [] (statements_offset v im) im.statements)
+    (or_else (fault_among (λ front at o. fault_if at (expression_rule im front o)) (λ o. 4) [] (expressions_offset v im) im.expressions)
+    (or_else (fault_among (pattern_fault im) pattern_bytes [] (patterns_offset v im) im.patterns)
+    (fault_among (instr_fault im) instr_size [] (code_offset v im) im.code)))))
 
 -- ---- all conditions
 
-abbrev pub flow_fault : Image → Option ℕ → Option ModuleFault
-flow_fault im None = None
-flow_fault im (Some at) = Some (record { offset = code_offset im + at; rule = BadFlow })
+abbrev pub flow_fault : Version → Image → Option ℕ → Option ModuleFault
+flow_fault v im None = None
+flow_fault v im (Some at) = Some (record { offset = code_offset v im + at; rule = BadFlow })
 
 abbrev pub number_of : ModuleRule → ℕ
 number_of BadIndex = 1
@@ -226,10 +234,11 @@ lesser_fault None g = g
 lesser_fault (Some f) None = Some f
 lesser_fault (Some f) (Some g) = if comes_first g f then Some g else Some f
 
+-- whichever version its bytes are in
 pub record IsWellFormed (im : Image) : Type 0 where
-  pub parts : part_fault im ≡ None
+  pub parts : part_fault versions.Two im ≡ None
   pub flow : IsLeast (BreaksFlow im) None
 
--- what is told of an image: its least fault, or none
-abbrev pub IsTold : Image → Option ModuleFault → Type 0
-IsTold im fault = (flow : Option ℕ) × IsLeast (BreaksFlow im) flow × (fault ≡ lesser_fault (part_fault im) (flow_fault im flow))
+-- what is told of an image that is spelt in a version: its least fault, or none
+abbrev pub IsTold : Version → Image → Option ModuleFault → Type 0
+IsTold v im fault = (flow : Option ℕ) × IsLeast (BreaksFlow im) flow × (fault ≡ lesser_fault (part_fault v im) (flow_fault v im flow))

@@ -64,5 +64,5 @@ pub record CardRows : Type 0 where
   pub four_thousand_bytes : deck (long_text 23 ++ card (codes "END")) ≡ Ok (statement 1 1 (xs 4000) ∷ statement 2 58 (codes "END") ∷ [])
   -- told at the card of its first byte, and so before what is wrong with a later card
   pub one_byte_more : deck (long_text 24 ++ card (codes "-FOO") ++ card (codes "END")) ≡ refused_at 1 rule.StatementTooLong
-  -- a deck over 1,048,576 bytes is told at card 0, whatever is in it
-  pub too_long : (text : List ℕ) → 1048576 < length text → deck text ≡ refused_at 0 rule.DeckTooLong
+  -- a deck over 16,777,216 bytes is told at card 0, whatever is in it
+  pub too_long : (text : List ℕ) → 16777216 < length text → deck text ≡ refused_at 0 rule.DeckTooLong

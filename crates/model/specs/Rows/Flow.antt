@@ -1,6 +1,7 @@
 -- Worked cases of the flow of code: a module whose ways join, and modules that break the flow at an offset.
 use Rattle.std.specs.Prelude.{ℕ, List, [], ◌∷◌, codes}
 use Rattle.model.specs.declared.image.Image.{Image}
+use Rattle.model.specs.declared.image.Level.TheVariants as levels
 use Rattle.model.specs.declared.instr.Instr.{Instr}
 use Rattle.model.specs.declared.instr.Instr.TheVariants as op
 use Rattle.model.specs.Module.Flow.{BreaksFlow}
@@ -9,10 +10,12 @@ use Rattle.model.specs.Module.WellFormed.{IsWellFormed}
 -- this code, with statements at 0 and at the END, and these expressions
 abbrev pub with_code : ℕ → List ℕ → List Instr → Image
 with_code end es is = record {
+  level = levels.Two;
   entry = 1;
   strings = codes "A" ∷ [];
   labels = [];
   statements = 0 ∷ end ∷ [];
+  cards = 1 ∷ 2 ∷ [];
   expressions = es;
   patterns = [];
   code = is;

@@ -3,7 +3,7 @@ use Rattle.model.specs.Module.Spelling.{IsImage}
 use Rattle.model.specs.Deck.TreeViews.{stmt_of}
 use Rattle.parser.proofs.ReadLists.{is_nothing}
 use Rattle.codegen_laws.proofs.Images.{spelt}
-use Rattle.driver.proofs.WholeDecks.{few_given, fits, is_module, none_told}
+use Rattle.driver.proofs.WholeDecks.{few_given, fits, image_is, is_module, none_told}
 use Rattle.driver.proofs.compiling.compile_deck.Goals as goal
 
 pub not_yet-requires : goal.not_yet-requires
@@ -15,7 +15,7 @@ pub generate-requires : goal.generate-requires
 generate-requires c = fits c.args.deck.now _ c.in_ok-program.ensures.trees
 
 pub write_image-requires : goal.write_image-requires
-write_image-requires c = subst IsImage (sym c.in_ok-image.ensures.image) (spelt c.args.deck.now _ c.in_ok-program.ensures.trees)
+write_image-requires c = subst IsImage (sym (image_is c.args.deck.now _ _ _ c.in_ok-image.ensures.image c.in_ok-program.ensures.cards)) (spelt c.args.deck.now _ c.in_ok-program.ensures.trees)
 
 pub returns-clause-accepted : goal.returns-clause-accepted
 returns-clause-accepted c =
@@ -27,4 +27,4 @@ pub returns-clause-module : goal.returns-clause-module
 unfolding returns-clause-accepted
 returns-clause-module c =
     let a = returns-clause-accepted c in
-    is_module c.args.deck.now c.in_ok-module.module.items a.0 c.in_ok-image.image a.1.faultless a.1.runs c.in_ok-image.ensures.image c.in_ok-module.ensures
+    is_module c.args.deck.now c.in_ok-module.module.items a.0 c.in_ok-image.image a.1.faultless a.1.runs (image_is c.args.deck.now _ _ _ c.in_ok-image.ensures.image c.in_ok-program.ensures.cards) c.in_ok-module.ensures

@@ -1,5 +1,5 @@
 use Rattle.std.proofs.lemmas.Result.{err_from_is_err_and}
-use Rattle.driver.proofs.WholeDecks.{accepted_is, of_cards, of_statements}
+use Rattle.driver.proofs.WholeDecks.{accepted_is, cards_are, of_cards, of_statements}
 use Rattle.driver.proofs.compiling.read_program.Goals as goal
 
 pub returns-in_err-deck-clause-refused : goal.returns-in_err-deck-clause-refused
@@ -14,3 +14,6 @@ returns-in_err-program-clause-refused c =
 
 pub returns-clause-trees : goal.returns-clause-trees
 returns-clause-trees c = accepted_is c.args.deck.now c.in_ok-deck.deck.statements _ c.in_ok-deck.ensures.statements c.in_ok-program.ensures.faultless c.in_ok-program.ensures.program
+
+pub returns-clause-cards : goal.returns-clause-cards
+returns-clause-cards c = cards_are c.args.deck.now c.in_ok-deck.deck.statements _ c.in_ok-deck.ensures.statements c.in_ok-program.ensures.cards

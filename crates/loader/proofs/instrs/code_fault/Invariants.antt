@@ -7,7 +7,7 @@ use Rattle.loader.proofs.instrs.code_fault.Given as goal
 
 abbrev pub invariant-loop-instr : goal.invariant-loop-instr
 invariant-loop-instr l = record {
-  so_far : rest (instr_fault l.image) instr_size l.code l.instr-index (l.place + l.at) ≡ code_fault l.image;
+  so_far : rest (instr_fault l.image) instr_size l.code l.instr-index (l.place + l.at) ≡ code_fault l.place l.image;
   front : l.at ≡ code_size (take l.instr-index l.code);
   left : l.at + code_size (drop l.instr-index l.code) ≡ code_size l.image.code;
 }

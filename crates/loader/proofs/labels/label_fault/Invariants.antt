@@ -6,7 +6,7 @@ use Rattle.loader.proofs.labels.label_fault.Given as goal
 
 abbrev pub invariant-loop-label : goal.invariant-loop-label
 invariant-loop-label l = record {
-  so_far : rest (label_at l.image) (λ x. 8) l.labels l.label-index l.offset ≡ label_fault l.image;
+  so_far : rest (label_at l.image) (λ x. 8) l.labels l.label-index l.offset ≡ label_fault l.place l.image;
   seen : l.seen.keys ≡ strings_of (take l.label-index l.labels);
   place : l.offset ≡ l.place + 8 * l.label-index;
 }

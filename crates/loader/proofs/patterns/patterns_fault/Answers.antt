@@ -2,7 +2,7 @@ use Rattle.std.proofs.Common.{[], suc, length, arith, ap, List, map, take, get_o
 use Rattle.std.specs.List.{sum}
 use Rattle.model.specs.declared.image.PatInstr.{PatInstr}
 use Rattle.model.specs.Module.WellFormed.{pattern_bytes}
-use Rattle.loader.proofs.Sizes.{next, taken, pattern_count, places_short}
+use Rattle.loader.proofs.Sizes.{next, taken, pattern_count}
 use Rattle.loader.proofs.patterns.patterns_fault.Goals as goal
 
 pub pattern_fault-fault-requires-clause-count : goal.pattern_fault-fault-requires-clause-count
@@ -18,7 +18,7 @@ pattern_fault-fault-requires-clause-there c =
     let im = c.args.image.now in
     let e = c.as_slice-patterns.ensures in
     let k = c.loop-pattern.pattern-index in
-    omega (arith, (places_short im c.requires.spelt).patterns, c.requires.there, c.loop-pattern.invariant.place, taken pattern_bytes im.patterns k, ap (λ (ps : List (List PatInstr)). sum (map pattern_bytes (take k ps))) e)
+    omega (arith, c.requires.there, c.loop-pattern.invariant.place, taken pattern_bytes im.patterns k, ap (λ (ps : List (List PatInstr)). sum (map pattern_bytes (take k ps))) e)
 
 pub pattern_bytes-offset-requires : goal.pattern_bytes-offset-requires
 pattern_bytes-offset-requires c =
@@ -34,4 +34,4 @@ overflow_add-offset c =
     let ps = c.as_slice-patterns.result.now in
     let k = c.loop-pattern.pattern-index in
     let p = c.pattern-item.result in
-    omega (arith, (places_short im c.requires.spelt).patterns, c.requires.there, c.loop-pattern.invariant.place, c.pattern_bytes-offset.ensures, next pattern_bytes ps k p c.loop-pattern-test.true, taken pattern_bytes ps (suc k), ap (λ (qs : List (List PatInstr)). sum (map pattern_bytes qs)) c.as_slice-patterns.ensures, ap pattern_bytes c.pattern-item.is, ap pattern_bytes c.as_slice-in-loop-pattern.ensures)
+    omega (arith, c.requires.there, c.loop-pattern.invariant.place, c.pattern_bytes-offset.ensures, next pattern_bytes ps k p c.loop-pattern-test.true, taken pattern_bytes ps (suc k), ap (λ (qs : List (List PatInstr)). sum (map pattern_bytes qs)) c.as_slice-patterns.ensures, ap pattern_bytes c.pattern-item.is, ap pattern_bytes c.as_slice-in-loop-pattern.ensures)

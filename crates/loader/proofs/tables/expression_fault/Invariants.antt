@@ -6,6 +6,6 @@ use Rattle.loader.proofs.tables.expression_fault.Given as goal
 
 abbrev pub invariant-loop-at : goal.invariant-loop-at
 invariant-loop-at l = record {
-  so_far : rest (λ front at o. fault_if at (expression_rule l.image front o)) (λ x. 4) l.expressions l.at-index l.offset ≡ expression_fault l.image;
+  so_far : rest (λ front at o. fault_if at (expression_rule l.image front o)) (λ x. 4) l.expressions l.at-index l.offset ≡ expression_fault l.place l.image;
   place : l.offset ≡ l.place + 4 * l.at-index;
 }

@@ -5,10 +5,10 @@ use Rattle.model.specs.declared.cards.CardRule.TheVariants as rule
 use Rattle.model.specs.Deck.Cards.{deck, ended, faults_of, pieces_of, kind_of, fault}
 use Rattle.model.proofs.laws_cards.worked_decks.Goals as goal
 
-too_long : (text : List ℕ) → 1048576 < length text → deck text ≡ Err (fault 0 rule.DeckTooLong)
+too_long : (text : List ℕ) → 16777216 < length text → deck text ≡ Err (fault 0 rule.DeckTooLong)
 unfolding deck
 too_long text h =
-    let long : nat_lt 1048576 (length text) ≡ true = grind (arith, nat_tests) in
+    let long : nat_lt 16777216 (length text) ≡ true = grind (arith, nat_tests) in
     rw long refl
 
 pub returns : goal.returns

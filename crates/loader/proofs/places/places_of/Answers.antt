@@ -1,0 +1,25 @@
+use Rattle.std.proofs.Common.{ℕ, List, ap, arith, length, map}
+use Rattle.std.specs.List.{sum}
+use Rattle.model.specs.Module.WellFormed.{string_bytes}
+use Rattle.loader.proofs.Sizes.{places_short}
+use Rattle.loader.proofs.places.places_of.Goals as goal
+
+pub overflow_add-labels-3 : goal.overflow_add-labels-3
+overflow_add-labels-3 c =
+    let short = places_short c.args.version c.args.image.now c.requires in
+    omega (arith, short.labels, c.entry_at.ensures, c.strings_size.ensures, ap (λ (ss : List (List ℕ)). sum (map string_bytes ss)) c.as_slice.ensures)
+
+pub overflow_add-labels-4 : goal.overflow_add-labels-4
+overflow_add-labels-4 c =
+    let short = places_short c.args.version c.args.image.now c.requires in
+    omega (arith, short.labels, c.entry_at.ensures, c.strings_size.ensures, ap (λ (ss : List (List ℕ)). sum (map string_bytes ss)) c.as_slice.ensures)
+
+pub overflow_add-statements : goal.overflow_add-statements
+overflow_add-statements c =
+    let short = places_short c.args.version c.args.image.now c.requires in
+    omega (arith, short.statements, c.entry_at.ensures, c.strings_size.ensures, ap (λ (ss : List (List ℕ)). sum (map string_bytes ss)) c.as_slice.ensures, ap length c.as_slice-2.ensures)
+
+pub overflow_add-statements-2 : goal.overflow_add-statements-2
+overflow_add-statements-2 c =
+    let short = places_short c.args.version c.args.image.now c.requires in
+    omega (arith, short.statements, c.entry_at.ensures, c.strings_size.ensures, ap (λ (ss : List (List ℕ)). sum (map string_bytes ss)) c.as_slice.ensures, ap length c.as_slice-2.ensures)
