@@ -130,7 +130,7 @@ pub fn show<W: Write>(alloc: Global, bytes: &[u8], out: &mut W) -> Result<(), Sh
         let instr = module.at(place).instr;
         show_instr(at, instr, out)?;
         // No code is as long as that.
-        at = at.wrapping_add(loader::bytes(instr));
+        at = at.wrapping_add(instr.size());
     }
     Ok(())
 }

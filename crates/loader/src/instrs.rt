@@ -9,7 +9,7 @@ ghost use Rattle.model.specs.Module.WellFormed.{begins_last, indices_fit, instr_
 ghost use Rattle.model.specs.Module.WellFormed.{is_end_instr, is_last_instr, place_fits};
 ghost use Rattle.loader.specs.Parts.{code_fault};
 
-use crate::code::{PlacedCode, bytes};
+use crate::code::PlacedCode;
 use crate::names::{is_name, is_statement, is_string};
 use model::{Image, Instr, ModuleFault, ModuleRule};
 
@@ -121,7 +121,7 @@ fn size_of(image: &Image) -> u32
     let code = image.code.as_slice();
     let mut size = 0;
     for instr in code {
-        size += bytes(*instr);
+        size += instr.size();
     }
     size
 }
@@ -137,7 +137,7 @@ pub(crate) fn code_fault(image: &Image, placed: &PlacedCode, place: usize) -> Op
     let mut at = 0;
     let code = image.code.as_slice();
     for instr in code {
-        let next = at + bytes(*instr);
+        let next = at + instr.size();
         if let Some(rule) = instr_rule(image, placed, at, next, size, *instr) {
             return Some(ModuleFault {
                 offset: place + at as usize,

@@ -24,8 +24,7 @@ mod patterns;
 mod places;
 mod tables;
 
-pub use code::{bytes, has_primitive, runs_yet};
+pub use code::{has_primitive, runs_yet};
 pub use decoding::Decoded;
 pub use loading::{load, load_v1};
 pub use module::Module;
-pub use names::return_of;

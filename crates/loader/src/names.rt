@@ -1,7 +1,6 @@
 //! What an index, a name and a number may be.
 
 ghost use Rattle.std.specs.Prelude.{◌≡◌, bytes_eq, option_copied};
-ghost use Rattle.model.specs.Language.Calls.{return_of};
 ghost use Rattle.model.specs.Language.Programs.{end_label};
 ghost use Rattle.model.specs.Module.WellFormed.{is_label_name, is_nonnull_string, is_nonnull};
 ghost use Rattle.model.specs.Module.WellFormed.{is_statement, is_string, unless};
@@ -54,27 +53,6 @@ pub(crate) fn is_end(name: &[u8]) -> bool
     END.as_slice() == name
 }
 
-const RETURN: [u8; 6] = *b"RETURN";
-
-const FRETURN: [u8; 7] = *b"FRETURN";
-
-const NRETURN: [u8; 7] = *b"NRETURN";
-
-/// How a label of this name leaves a function, if it does.
-pub fn return_of(name: &[u8]) -> Option<ReturnKind>
-    ensures { result ≡ return_of name.now }
-{
-    if name == RETURN.as_slice() {
-        Some(ReturnKind::Return)
-    } else if name == FRETURN.as_slice() {
-        Some(ReturnKind::FReturn)
-    } else if name == NRETURN.as_slice() {
-        Some(ReturnKind::NReturn)
-    } else {
-        None
-    }
-}
-
 /// Whether a string may be the name of a label.
 pub(crate) fn is_label_name(string: Option<&Bytes>) -> bool
     ensures { result ≡ is_label_name (option_copied string.entry) }
@@ -82,7 +60,7 @@ pub(crate) fn is_label_name(string: Option<&Bytes>) -> bool
     match string {
         Some(bytes) => {
             let name = bytes.as_slice();
-            !name.is_empty() && !is_end(name) && return_of(name).is_none()
+            !name.is_empty() && !is_end(name) && ReturnKind::named(name).is_none()
         }
         None => false,
     }

@@ -5,7 +5,6 @@ use std::alloc::AllocError;
 use strings::Text;
 
 /// What can be assigned to.
-#[derive(Drop)]
 pub enum Name {
     Variable(Text),
     /// An element of an array by its place, or a field of a record.
@@ -13,8 +12,10 @@ pub enum Name {
     /// The value that a table has for an integer.
     IntegerKey { object: usize, key: i64 },
     /// The value that a table has for a string.
-    StringKey { object: usize, key: Text },
+    StringKey { object: u32, key: Text },
 }
+
+const _: () = prove!(size_of::<Name>() <= 32);
 
 /// A part without parts and without effect.
 pub enum Basic {
@@ -103,6 +104,15 @@ impl Clone for Name {
 
 // A drop that is written out is one call at each place that lets go, where a derived one stands there whole, arm by
 // arm, and is proved there anew.
+impl Drop for Name {
+    fn drop(self) {
+        match self {
+            Name::Variable(_) | Name::StringKey { object: _, key: _ } => {}
+            Name::Element { object: _, index: _ } | Name::IntegerKey { object: _, key: _ } => {}
+        }
+    }
+}
+
 impl Drop for Basic {
     fn drop(self) {
         match self {

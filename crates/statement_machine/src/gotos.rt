@@ -18,8 +18,8 @@ ghost use Rattle.statement_machine.specs.Runnable.{IsRunnable};
 use crate::state::State;
 use crate::status::Exit;
 use frames::pop_value;
-use loader::{Module, return_of};
-use model::{ErrorCode, Instr};
+use loader::Module;
+use model::{ErrorCode, Instr, ReturnKind};
 use world::Fault;
 
 impl State {
@@ -49,7 +49,7 @@ impl State {
             (waiting program.now fs self.old) (world_of self.old.world io)) }
         ensures stop { IfHalted result (λ stop. stop ≡ NoMemory) }
     {
-        if let Some(kind) = return_of(label) {
+        if let Some(kind) = ReturnKind::named(label) {
             return Err(Exit::Return(kind));
         }
         let Some(number) = program.label(label) else {

@@ -18,7 +18,7 @@ use crate::fault::Fault;
 use crate::value::Value;
 use crate::world::World;
 use aggregates::Kind;
-use model::ErrorCode;
+use model::{ErrorCode, Stop};
 use pattern_compiler::Name;
 
 impl World {
@@ -85,10 +85,13 @@ fn table_item(object: usize, subscripts: &[Value]) -> Result<Option<Name>, Fault
         return Err(Fault::Error(ErrorCode::BadArray));
     };
     match key {
-        Value::String(text) => Ok(Some(Name::StringKey {
-            object,
-            key: text.clone()?,
-        })),
+        Value::String(text) => {
+            let Ok(object) = u32::try_from(object) else {
+                return Err(Fault::Stop(Stop::NoMemory));
+            };
+            let key = text.clone()?;
+            Ok(Some(Name::StringKey { object, key }))
+        }
         Value::Integer(n) => Ok(Some(Name::IntegerKey { object, key: *n })),
         _ => Err(Fault::Error(ErrorCode::WrongType)),
     }

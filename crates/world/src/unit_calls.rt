@@ -55,7 +55,9 @@ impl World {
             Name::Variable(name) => self.fetch_variable(units, name, slot),
             Name::Element { object, index } => self.element(*object, *index),
             Name::IntegerKey { object, key } => self.entry(*object, Key::Integer(*key)),
-            Name::StringKey { object, key } => self.entry(*object, Key::String(key.clone()?)),
+            Name::StringKey { object, key } => {
+                self.entry(*object as usize, Key::String(key.clone()?))
+            }
         }
     }
 
@@ -177,7 +179,7 @@ impl World {
             }
             Name::StringKey { object, key } => {
                 let key = Key::String(key.clone()?);
-                self.store(*object, Place::Key(key), value)
+                self.store(*object as usize, Place::Key(key), value)
             }
         }
     }

@@ -26,6 +26,8 @@ pub enum Value {
     Object(usize),
 }
 
+const _: () = prove!(size_of::<Value>() <= 40);
+
 impl Drop for Value {
     fn drop(self) {
         match self {

@@ -37,6 +37,8 @@ pub(crate) struct Variable {
     output: Option<u8>,
 }
 
+const _: () = prove!(size_of::<Variable>() <= 48);
+
 impl Variable {
     // A variable without a unit.
     fn holding(value: Value) -> Variable

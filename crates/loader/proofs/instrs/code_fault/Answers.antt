@@ -19,14 +19,14 @@ loop-instr-preserved c =
     let is = c.as_slice-code.result.now in
     let k = c.loop-instr.instr-index in
     let at = c.loop-instr.at in
-    let n = c.bytes.result in
+    let n = c.size.result in
     let place = c.args.place + at in
     let x = get_or is k End in
     let lt = c.loop-instr-test.true in
-    let kept : instr_fault im (take k is) place x ≡ None = instr_told im (take k is) place at n x c.instr_rule.result c.loop-instr.invariant.front c.bytes.ensures c.instr_rule.ensures ∙ ap (fault_if place) c.in_default.is in
+    let kept : instr_fault im (take k is) place x ≡ None = instr_told im (take k is) place at n x c.instr_rule.result c.loop-instr.invariant.front c.size.ensures c.instr_rule.ensures ∙ ap (fault_if place) c.in_default.is in
     let on = goes_on (instr_fault im) instr_size is k place End (code_fault c.args.place im) lt kept c.loop-instr.invariant.so_far in
     record {
-      so_far = subst (λ p. rest (instr_fault im) instr_size is (k + 1) p ≡ code_fault c.args.place im) (omega (arith, c.bytes.ensures)) on;
-      front = omega (arith, c.loop-instr.invariant.front, c.bytes.ensures, total_next is k End lt);
-      left = omega (arith, c.loop-instr.invariant.left, c.bytes.ensures, total_left is k End lt);
+      so_far = subst (λ p. rest (instr_fault im) instr_size is (k + 1) p ≡ code_fault c.args.place im) (omega (arith, c.size.ensures)) on;
+      front = omega (arith, c.loop-instr.invariant.front, c.size.ensures, total_next is k End lt);
+      left = omega (arith, c.loop-instr.invariant.left, c.size.ensures, total_left is k End lt);
     }

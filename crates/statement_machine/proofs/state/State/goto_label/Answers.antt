@@ -18,7 +18,7 @@ returns-in_default-label-clause-left c fs io =
     let waits = waiting im fs s in
     let w = world_of s.world io in
     subst (λ st. Left im fs (Err c.no_label.result) s io st)
-    (sym (leaves_not im c.args.label.now _ waits w (sym c.return_of.ensures ∙ c.in_default.is) ∙ ap (λ x. go_to_known (module_of im) x waits w) (sym c.label.ensures ∙ c.in_default-label.is)))
+    (sym (leaves_not im c.args.label.now _ waits w (sym c.named.ensures ∙ c.in_default.is) ∙ ap (λ x. go_to_known (module_of im) x waits w) (sym c.label.ensures ∙ c.in_default-label.is)))
     (c.no_label.ensures.left im fs 0 io)
 
 pub returns-clause-left : goal.returns-clause-left
@@ -28,7 +28,7 @@ returns-clause-left c fs io =
     let waits = waiting im fs s in
     let w = world_of s.world io in
     let at = offset_at im.code c.in-Some-statement.place in
-    leaves_not im c.args.label.now _ waits w (sym c.return_of.ensures ∙ c.in_default.is)
+    leaves_not im c.args.label.now _ waits w (sym c.named.ensures ∙ c.in_default.is)
     ∙ ap (λ x. go_to_known (module_of im) x waits w) (sym c.label.ensures ∙ c.in-Some-label.is)
     ∙ ap (λ o. to_stmt (module_of im) o waits w) (statement_begins im c.requires.runnable c.in-Some-label.number c.in-Some-statement.place (sym c.statement.ensures ∙ c.in-Some-statement.is))
     ∙ ap (λ (ops : List Operand). Run at (operands_of ops) [] waits w) (sym c.requires.operands)
