@@ -1,5 +1,5 @@
 -- What is so of the image of statements that run today.
-use Rattle.std.specs.Prelude.{◌≡◌, List, []}
+use Rattle.std.specs.Prelude.{◌≡◌, ℕ, List, []}
 use Rattle.model.specs.Deck.Trees.{Stmt}
 use Rattle.codegen.specs.Layout.{generated_image}
 use Rattle.loader.specs.Running.{AreRunYet}

@@ -90,8 +90,8 @@ impl Value {
         ensures variable { Converts result (to_variable (value_of self.now)) }
         ensures stop { IfStopped result (λ stop. stop ≡ NoMemory) }
     {
-        match self.to_name(alloc)? {
-            Name::Variable(text) => Ok(text),
+        match &self.to_name(alloc)? {
+            Name::Variable(text) => Ok(text.clone()?),
             _ => Err(Fault::Error(ErrorCode::NotAName)),
         }
     }
