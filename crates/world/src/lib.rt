@@ -28,7 +28,7 @@ mod world_operators;
 
 pub use arithmetic::{arith, sign};
 pub use fault::Fault;
-pub use operators::{alt, cond, imm, indir};
+pub use operators::{alt, cond, cursor, imm, indir};
 pub use value::Value;
 pub use world::World;
 pub use world_operators::{Begun, Span};
