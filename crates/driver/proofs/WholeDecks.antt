@@ -18,7 +18,7 @@ use Rattle.codegen.specs.Countable.{Fits}
 use Rattle.codegen.specs.Layout.{generated_image}
 use Rattle.codegen_laws.proofs.Images.{are_fit, are_countable, spelt as is_spelt, sound as is_sound, agrees as does_as_meant, in_time as ends_in_time}
 use Rattle.fragment.specs.Fragment.{not_yet}
-use Rattle.fragment.proofs.RunYet.{run_yet, evaluated}
+use Rattle.fragment.proofs.RunYet.{run_yet}
 use Rattle.driver.specs.declared.refusal.Refusal.{Refusal}
 use Rattle.driver.specs.declared.refusal.Refusal.TheVariants as refusal
 use Rattle.driver.specs.Compiled.{IsModuleOf, IsRefusalOf, OfCards, OfStatements}
@@ -74,7 +74,7 @@ is_module deck bytes ss image a none i s = record {
   sound = is_sound deck (cards.first_cards deck) ss a;
   agrees = does_as_meant deck (cards.first_cards deck) ss a;
   in_time = ends_in_time deck (cards.first_cards deck) ss a;
-  loads = record { spelt = is_spelt deck ss a; formed = is_sound deck (cards.first_cards deck) ss a; run_yet = run_yet (cards.first_cards deck) ss none; evaluated = evaluated (cards.first_cards deck) ss none };
+  loads = record { spelt = is_spelt deck ss a; formed = is_sound deck (cards.first_cards deck) ss a; run_yet = run_yet (cards.first_cards deck) ss none };
 }
 
 -- ---- by lists, as the code has them

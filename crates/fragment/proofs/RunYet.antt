@@ -1,6 +1,7 @@
--- Where each statement runs today, each instruction of the image runs yet, and no expression stays unevaluated.
-use Rattle.std.proofs.Common.{◌≡◌, ◌∙◌, refl, sym, ap, subst, ℕ, zero, suc, ◌+◌, List, [], ◌∷◌, ◌++◌, length, arith, Bool, true, false, ◌&&◌, Option, Some, None}
+-- Where each statement runs today, each instruction of the image runs yet.
+use Rattle.std.proofs.Common.{◌≡◌, refl, subst, ℕ, zero, suc, ◌+◌, List, [], ◌∷◌, ◌++◌, length, arith, Bool, true, false, ◌&&◌, Option, Some, None}
 use Rattle.std.proofs.lemmas.Bool.{and_parts}
+use Rattle.std.specs.List.{AllByRecursion}
 use Rattle.model.specs.declared.causes.StmtFault.{StmtFault}
 use Rattle.model.specs.declared.instr.Instr.{Instr}
 use Rattle.model.specs.declared.instr.Instr.TheVariants as op
@@ -17,39 +18,43 @@ use Rattle.model.specs.Language.Names.{key_named, prim_named}
 use Rattle.model.specs.Language.Programs.{labelled_from}
 use Rattle.model.specs.Deck.Trees.{Bytes, Expr, Name, Integer, Literal, Keyword, Call, Reference, Apply, Combine, Args, Nil, More, Absent, Given, Place, Label, Computed, Goto, Next, Always, OnSuccess, OnFailure, Both, Body, Nothing, Evaluate, Match, Assign, Replace, Stmt, Plain, End}
 use Rattle.model.specs.Deck.Weights as weights
-use Rattle.expr_codegen.specs.Code.{Part, nothing, one, with_string, ◌>>◌, handled, with_key, call, value, name, arguments}
-use Rattle.codegen.specs.Layout.{object, assignment, body, goto_label, place, after_success, after_failure, statement, statements, program_parts, expressions, expressions_of, joined_parts, offsets, texts_of, generated_image}
+use Rattle.expr_codegen.specs.Code.{Part, nothing, one, with_string, unevaluated, ◌>>◌, handled, with_key, call, value, name, arguments}
+use Rattle.codegen.specs.Layout.{object, assignment, body, goto_label, place, after_success, after_failure, statement, statements, program_parts, expression, expressions, expressions_of, joined_parts, texts_of, generated_image}
 use Rattle.codegen_laws.proofs.Standing.{all_join}
 use Rattle.loader.specs.Running.{AreRunYet, IsRunYet, has_primitive}
 use Rattle.fragment.specs.Fragment.{call_runs, construct_runs, runs_today, fault_unless, not_yet}
 
 -- ---- parts
 
--- a part without unevaluated expressions, each of whose instructions runs yet
+abbrev pub Runs : Expr → Type 0
+Runs e = everywhere construct_runs e ≡ true
+
+-- a part each of whose instructions runs yet, and each of whose unevaluated expressions
 pub record RunsYet (p : Part) : Type 0 where
   pub code : (texts : List Bytes) (k at : ℕ) → AreRunYet (p.code texts k at)
-  pub later : p.later ≡ []
+  pub later : AllByRecursion Runs p.later
 
 none : RunsYet nothing
 unfolding nothing
-none = record { code = λ texts k at. tt; later = refl }
+none = record { code = λ texts k at. tt; later = tt }
 
 single : (i : Instr) → IsRunYet i → RunsYet (one i)
 unfolding one
-single i h = record { code = λ texts k at. (h, tt); later = refl }
+single i h = record { code = λ texts k at. (h, tt); later = tt }
 
 of_string : (i : ℕ → Instr) (s : Bytes) → ((n : ℕ) → IsRunYet (i n)) → RunsYet (with_string i s)
 unfolding with_string
-of_string i s h = record { code = λ texts k at. (h _, tt); later = refl }
+of_string i s h = record { code = λ texts k at. (h _, tt); later = tt }
 
-none_later : {A : Type 0} (xs ys : List A) → xs ≡ [] → ys ≡ [] → xs ++ ys ≡ []
-none_later xs ys e f = ap (λ zs. zs ++ ys) e ∙ f
+put_off : (e : Expr) → Runs e → RunsYet (unevaluated e)
+unfolding unevaluated
+put_off e h = record { code = λ texts k at. (refl, tt); later = (h, tt) }
 
 both : {p q : Part} → RunsYet p → RunsYet q → RunsYet (p >> q)
 unfolding ◌>>◌
 both {p} {q} a b = record {
   code = λ texts k at. all_join IsRunYet (p.code texts k at) (q.code texts (k + length p.later) (at + code_size (p.code texts k at))) (a.code texts k at) (b.code texts (k + length p.later) (at + code_size (p.code texts k at)));
-  later = none_later p.later q.later a.later b.later;
+  later = all_join Runs p.later q.later a.later b.later;
 }
 
 -- a part and an instruction behind it
@@ -86,14 +91,14 @@ mutual
   value_runs (Reference x args) h = both (of_string op.Var x (λ n. refl)) (both (single op.Fetch refl) (both (arguments_run args h) (ended op.Fetch refl (single (op.Elem _) refl))))
   value_runs (Apply unary.NameOf e) h = ended op.NameV refl (name_runs e h)
   value_runs (Apply unary.Indirect e) h = both (value_runs e h) (ended op.Fetch refl (single op.Indir refl))
-  value_runs (Apply unary.Unevaluated e) h = absurd (cc)
-  value_runs (Apply unary.Cursor e) h = absurd (cc)
+  value_runs (Apply unary.Unevaluated e) h = put_off e h
+  value_runs (Apply unary.Cursor e) h = ended op.Cursor refl (name_runs e h)
   value_runs (Apply unary.Plus e) h = ended (op.Sign _) refl (value_runs e h)
   value_runs (Apply unary.Minus e) h = ended (op.Sign _) refl (value_runs e h)
   value_runs (Apply unary.Interrogate e) h = both (value_runs e h) (ended op.Null refl (single op.Drop refl))
   value_runs (Apply unary.Negate e) h = within op.Try (λ n. refl) (both (value_runs e h) (both (single op.Drop refl) (ended op.Fail refl (single op.Untry refl)))) (single op.Null refl)
   value_runs (Combine binary.Conditional x y) h = two op.Cond refl h (value_runs x) (name_runs y)
-  value_runs (Combine binary.Immediate x y) h = absurd (cc)
+  value_runs (Combine binary.Immediate x y) h = two op.Imm refl h (value_runs x) (name_runs y)
   value_runs (Combine binary.Power x y) h = two (op.Arith _) refl h (value_runs x) (value_runs y)
   value_runs (Combine binary.Multiply x y) h = two (op.Arith _) refl h (value_runs x) (value_runs y)
   value_runs (Combine binary.Divide x y) h = two (op.Arith _) refl h (value_runs x) (value_runs y)
@@ -189,24 +194,21 @@ statements_run number_of n (s ∷ ss) e =
     let rest : not_yet (suc n) ss ≡ [] = subst (λ m. not_yet m ss ≡ []) (let f : n + 1 ≡ suc n = omega arith in f) here.1 in
     both (statement_runs number_of n s here.0) (statements_run number_of (suc n) ss rest)
 
--- no expression is left for the end of the code
-none_queued : (fuel : ℕ) (es : List Expr) → es ≡ [] → expressions fuel es ≡ []
-none_queued zero es e = refl
-none_queued (suc fuel) [] e = refl
-none_queued (suc fuel) (x ∷ es) e = absurd (cc)
+expression_runs : (e : Expr) → Runs e → RunsYet (expression e)
+expression_runs e h = ended op.Ret refl (value_runs e h)
 
-none_left : (ss : List Stmt) → not_yet 1 ss ≡ [] → expressions_of ss ≡ []
-none_left ss e = none_queued (weights.total weights.weight ss) (joined_parts (program_parts ss)).later (statements_run (labelled_from 1 ss) 1 ss e).later
+-- the queue of unevaluated expressions
+expressions_run : (fuel : ℕ) (es : List Expr) → AllByRecursion Runs es → RunsYet (joined_parts (expressions fuel es))
+expressions_run zero es h = none
+expressions_run (suc fuel) [] h = none
+expressions_run (suc fuel) (e ∷ es) (r, h) =
+    let here = expression_runs e r in
+    both here (expressions_run fuel (es ++ (expression e).later) (all_join Runs es (expression e).later h here.later))
 
--- ---- the laws
+-- ---- the law
 
 pub run_yet : (cards : List ℕ) (ss : List Stmt) → not_yet 1 ss ≡ [] → AreRunYet (generated_image cards ss).code
 run_yet cards ss e =
     let first : RunsYet (joined_parts (program_parts ss)) = statements_run (labelled_from 1 ss) 1 ss e in
-    let last : RunsYet (joined_parts (expressions_of ss)) = subst (λ ps. RunsYet (joined_parts ps)) (sym (none_left ss e)) none in
+    let last : RunsYet (joined_parts (expressions_of ss)) = expressions_run (weights.total weights.weight ss) (joined_parts (program_parts ss)).later first.later in
     (both first last).code (texts_of ss) 0 0
-
-pub evaluated : (cards : List ℕ) (ss : List Stmt) → not_yet 1 ss ≡ [] → (generated_image cards ss).expressions ≡ []
-evaluated cards ss e =
-    let first : Part = joined_parts (program_parts ss) in
-    ap (λ ps. offsets ps (texts_of ss) (length first.later) (code_size (first.code (texts_of ss) 0 0))) (none_left ss e)

@@ -3,10 +3,6 @@ use Rattle.std.specs.Prelude.{ℕ, ◌+◌, List, [], ◌∷◌, Option, None, S
 use Rattle.model.specs.declared.causes.StmtFault.{StmtFault}
 use Rattle.model.specs.declared.causes.Cause.TheVariants as cause
 use Rattle.model.specs.declared.primitives.PrimId.{PrimId}
-use Rattle.model.specs.declared.trees.Unary.{Unary}
-use Rattle.model.specs.declared.trees.Unary.TheVariants as u
-use Rattle.model.specs.declared.trees.Binary.{Binary}
-use Rattle.model.specs.declared.trees.Binary.TheVariants as b
 use Rattle.model.specs.Deck.Faults.{throughout}
 use Rattle.model.specs.Language.Names.{prim_named}
 use Rattle.model.specs.Deck.Trees.{Expr, Name, Integer, Literal, Keyword, Call, Reference, Apply, Combine, Stmt}
@@ -17,29 +13,6 @@ abbrev pub call_runs : Option PrimId → Bool
 call_runs None = false
 call_runs (Some p) = has_primitive p
 
--- of unary operators, all but `*` and `@`
-abbrev pub unary_runs : Unary → Bool
-unary_runs u.NameOf = true
-unary_runs u.Indirect = true
-unary_runs u.Unevaluated = false
-unary_runs u.Cursor = false
-unary_runs u.Plus = true
-unary_runs u.Minus = true
-unary_runs u.Interrogate = true
-unary_runs u.Negate = true
-
--- of binary operators, all but `$`
-abbrev pub binary_runs : Binary → Bool
-binary_runs b.Conditional = true
-binary_runs b.Immediate = false
-binary_runs b.Power = true
-binary_runs b.Multiply = true
-binary_runs b.Divide = true
-binary_runs b.Add = true
-binary_runs b.Subtract = true
-binary_runs b.Concatenate = true
-binary_runs b.Alternate = true
-
 -- whether the construct that an expression is runs, apart from those inside it
 abbrev pub construct_runs : Expr → Bool
 construct_runs (Name x) = true
@@ -48,8 +21,8 @@ construct_runs (Literal s) = true
 construct_runs (Keyword k) = true
 construct_runs (Call f args) = call_runs (prim_named f)
 construct_runs (Reference x args) = true
-construct_runs (Apply op x) = unary_runs op
-construct_runs (Combine op x y) = binary_runs op
+construct_runs (Apply op x) = true
+construct_runs (Combine op x y) = true
 
 -- a statement runs, whatever its labels, body and gotos, if each construct in it does
 abbrev pub runs_today : Stmt → Bool

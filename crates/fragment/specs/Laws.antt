@@ -8,7 +8,3 @@ use Rattle.fragment.specs.Fragment.{not_yet}
 -- each of its instructions is one that the machine has
 abbrev pub HasOnlyKnown : Type 0
 HasOnlyKnown = (cards : List ℕ) (ss : List Stmt) → not_yet 1 ss ≡ [] → AreRunYet (generated_image cards ss).code
-
--- it has no unevaluated expression
-abbrev pub IsEvaluated : Type 0
-IsEvaluated = (cards : List ℕ) (ss : List Stmt) → not_yet 1 ss ≡ [] → (generated_image cards ss).expressions ≡ []

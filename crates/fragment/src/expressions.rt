@@ -7,7 +7,7 @@ ghost use Rattle.model.specs.Deck.TreeViews.{arg_of, args_of, expr_of};
 ghost use Rattle.fragment.specs.Fragment as fragment;
 
 use loader::has_primitive;
-use model::{Argument, Binary, Expr, PrimId, Unary};
+use model::{Argument, Expr, PrimId};
 
 // Whether calls of what has this name run.
 fn call_runs(name: &[u8]) -> bool
@@ -19,20 +19,6 @@ fn call_runs(name: &[u8]) -> bool
     }
 }
 
-// Whether a unary operator runs.
-fn unary_runs(op: Unary) -> bool
-    ensures { result ≡ fragment.unary_runs op }
-{
-    !matches!(op, Unary::Unevaluated | Unary::Cursor)
-}
-
-// Whether a binary operator runs.
-fn binary_runs(op: Binary) -> bool
-    ensures { result ≡ fragment.binary_runs op }
-{
-    !matches!(op, Binary::Immediate)
-}
-
 /// Whether an expression runs, and each expression inside it.
 #[cycle(runs)]
 pub(crate) fn runs(expr: &Expr) -> bool
@@ -42,8 +28,8 @@ pub(crate) fn runs(expr: &Expr) -> bool
         Expr::Name(_) | Expr::Integer(_) | Expr::Literal(_) | Expr::Keyword(_) => true,
         Expr::Call(name, arguments) => call_runs(name) && all_run(arguments),
         Expr::Reference(_, arguments) => all_run(arguments),
-        Expr::Unary(op, operand) => unary_runs(*op) && runs(operand),
-        Expr::Binary(op, left, right) => binary_runs(*op) && runs(left) && runs(right),
+        Expr::Unary(_, operand) => runs(operand),
+        Expr::Binary(_, left, right) => runs(left) && runs(right),
     }
 }
 

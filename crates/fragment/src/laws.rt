@@ -1,9 +1,8 @@
-//! The laws of statements that run today. The function does nothing; its contract states the laws.
+//! The law of statements that run today. The function does nothing; its contract states the law.
 
-ghost use Rattle.fragment.specs.Laws.{HasOnlyKnown, IsEvaluated};
+ghost use Rattle.fragment.specs.Laws.{HasOnlyKnown};
 
-/// The image of statements that run today has only instructions that the machine has, and no unevaluated expression.
+/// The image of statements that run today has only instructions that the machine has.
 pub fn admitted_images()
     ensures known { HasOnlyKnown }
-    ensures evaluated { IsEvaluated }
 {}

@@ -5,7 +5,7 @@
 //!     let told = not_yet(alloc, program.statements.as_slice())?;
 //!
 //! Promised: exactly the list of `specs/Fragment.antt`. Where it is empty, the image of the statements has only
-//! instructions that the machine has, and no unevaluated expression (`admitted_images`). CALLING.md says which
+//! instructions that the machine has (`admitted_images`). CALLING.md says which
 //! constructs run, and how one is let in; when all do, this crate goes.
 #![tactic(auto)]
 

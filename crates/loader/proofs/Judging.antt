@@ -19,7 +19,7 @@ use Rattle.model.proofs.Module.LeastFaults.{fine_in_each}
 use Rattle.model.proofs.Module.SpeltImages.{read_is_spelt}
 use Rattle.loader.specs.Answers.{IsAnswer, IsChecked, IsJudged, IsKnown, IsReadAs, IsOlderAnswer, IsOlderReadAs, no_memory, image_verdict}
 use Rattle.loader.specs.Loaded.{IsLoaded}
-use Rattle.loader.specs.Running.{AreRunYet, first_told, first_unknown, not_yet, runs_yet}
+use Rattle.loader.specs.Running.{AreRunYet, first_unknown, not_yet, runs_yet}
 
 some_run : (o : ℕ) (i : Instr) (is : List Instr) (b : Bool) → (if b then first_unknown (o + instr_size i) is else Some o) ≡ None → (b ≡ true) × (first_unknown (o + instr_size i) is ≡ None)
 some_run o i is true e = (refl, e)
@@ -32,14 +32,6 @@ all_run o (i ∷ is) e = let r = some_run o i is (runs_yet i) e in (r.0, all_run
 pub none_unknown : (o : ℕ) (is : List Instr) → AreRunYet is → first_unknown o is ≡ None
 none_unknown o [] r = refl
 none_unknown o (i ∷ is) r = rw (r.0) (none_unknown (o + instr_size i) is r.1)
-
-all_known : (o : Option ℕ) (es : List ℕ) → first_told o es ≡ None → (o ≡ None) × (es ≡ [])
-all_known (Some at) es e = absurd cc
-all_known None [] e = (refl, refl)
-all_known None (x ∷ es) e = absurd cc
-
-none_not_yet : (im : Image) → AreRunYet im.code → im.expressions ≡ [] → not_yet im ≡ None
-none_not_yet im run none = rw (none_unknown 0 im.code run, none) refl
 
 chosen : (b : Bool) (f g : ModuleFault) → (if b then Some g else Some f) ≡ None → ⊥
 chosen true f g e = cc
@@ -64,9 +56,7 @@ well_formed v im told =
     record { parts = fine_in_each v versions.Two im n.0; flow = least_none im told.0 (no_flow v im told.0 n.1) told.1 }
 
 pub loaded : (im : Image) → IsImage im → not_yet im ≡ None → IsTold versions.Two im None → IsLoaded im
-loaded im spelt known told =
-    let all = all_known (first_unknown 0 im.code) im.expressions known in
-    record { spelt = spelt; formed = well_formed versions.Two im told; run_yet = all_run 0 im.code all.0; evaluated = all.1 }
+loaded im spelt known told = record { spelt = spelt; formed = well_formed versions.Two im told; run_yet = all_run 0 im.code known }
 
 -- ---- what is answered of one that runs
 
@@ -84,7 +74,7 @@ judged im (Some at) result formed e h = absurd cc
 read_as : (bytes : List ℕ) (read : Result Image Miss) (im : Image) (result : Result Image LoadFault) → IsLoaded im → read ≡ Ok im → IsReadAs bytes read result → result ≡ Ok im
 read_as bytes (Ok m) im result runs e h =
     let same : m ≡ im = cc in
-    judged m (not_yet m) result (rw same runs.formed) (rw same (none_not_yet im runs.run_yet runs.evaluated)) h ∙ ap Ok same
+    judged m (not_yet m) result (rw same runs.formed) (rw same (none_unknown 0 im.code runs.run_yet)) h ∙ ap Ok same
 read_as bytes (Err miss) im result runs e h = absurd cc
 
 pub accepted : (bytes : List ℕ) (im : Image) (result : Result Image LoadFault) → IsAnswer bytes result → read_image bytes ≡ Ok im → IsLoaded im → (result ≡ Ok im) ⊎ (result ≡ Err no_memory)
@@ -105,7 +95,7 @@ judged_so bytes im None result e none h = checked_so versions.Two bytes im resul
 judged_so bytes im (Some at) result e none h = absurd cc
 
 read_so : (bytes : List ℕ) (read : Result Image Miss) (result : Result Image LoadFault) → read_image bytes ≡ read → IsKnown bytes → IsReadAs bytes read result → Loads bytes result
-read_so bytes (Ok im) result e known h = judged_so bytes im (not_yet im) result e (let k = known im e in none_not_yet im k.0 k.1) h
+read_so bytes (Ok im) result e known h = judged_so bytes im (not_yet im) result e (none_unknown 0 im.code (known im e)) h
 read_so bytes (Err miss) result e known h = subst (Loads bytes) (sym h) (miss, e, refl)
 
 pub loads : (bytes : List ℕ) (result : Result Image LoadFault) → IsAnswer bytes result → IsKnown bytes → (result ≡ Err no_memory) ⊎ Loads bytes result

@@ -1,6 +1,6 @@
 -- What is told of bytes: the image that they spell, if it is well-formed and each of its instructions runs yet, or why it
 -- is refused.
-use Rattle.std.specs.Prelude.{◌≡◌, ◌⊎◌, ℕ, ◌+◌, List, [], Option, Some, None, Result, Ok, Err}
+use Rattle.std.specs.Prelude.{◌≡◌, ◌⊎◌, ℕ, ◌+◌, List, Option, Some, None, Result, Ok, Err}
 use Rattle.model.specs.declared.format.FormatRule.TheVariants.{Memory, UnknownInstruction}
 use Rattle.model.specs.declared.format.LoadFault.{LoadFault}
 use Rattle.model.specs.declared.format.LoadFault.TheVariants.{Format, Module}
@@ -51,6 +51,6 @@ IsOlderReadAs bytes (Ok im) result = IsChecked versions.One im result
 abbrev pub IsOlderAnswer : List ℕ → Result Image LoadFault → Type 0
 IsOlderAnswer bytes result = (result ≡ Err no_memory) ⊎ IsOlderReadAs bytes (image_in versions.One bytes) result
 
--- bytes that spell no image, or one that runs yet: all its instructions, and it has no unevaluated expression
+-- bytes that spell no image, or one each of whose instructions runs yet
 abbrev pub IsKnown : List ℕ → Type 0
-IsKnown bytes = (im : Image) → read_image bytes ≡ Ok im → AreRunYet im.code × (im.expressions ≡ [])
+IsKnown bytes = (im : Image) → read_image bytes ≡ Ok im → AreRunYet im.code

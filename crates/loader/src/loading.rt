@@ -54,8 +54,7 @@ fn answer(alloc: Global, bytes: &[u8]) -> Result<Module, LoadFault>
 }
 
 /// The module that bytes spell, or why it is refused: the first format fault; else the first instruction that doesn't
-/// run yet, or else unevaluated expressions, which don't; else the least fault of the conditions. Where a growth was
-/// refused that is told in place of any other answer.
+/// run yet; else the least fault of the conditions. Where a growth was refused that is told in place of any other answer.
 pub fn load(alloc: Global, bytes: &[u8]) -> Result<Module, LoadFault>
     ensures exact { IsAnswer bytes.now result }
     ensures loaded { IfOk result (λ m. (read_image bytes.now ≡ Ok m) × IsLoaded m) }
