@@ -1,18 +1,14 @@
 """What `sno` doesn't run yet, of which it tells each statement as P0. The reference runs all of it."""
 
 from .names import MOST_ARGUMENTS
-from .trees import Binary, Call, Unary, expressions_of
+from .trees import Call, expressions_of
 
 NOT_YET = frozenset((b"ITEM", b"DATA", b"DEFINE", b"APPLY"))
 
 
 def runs(tree):
     """Whether an expression runs, apart from those inside it."""
-    if isinstance(tree, Call):
-        return tree.name in MOST_ARGUMENTS and tree.name not in NOT_YET
-    if isinstance(tree, Unary):
-        return tree.mark not in (b"*", b"@")
-    return not (isinstance(tree, Binary) and tree.mark == b"$")
+    return not isinstance(tree, Call) or tree.name in MOST_ARGUMENTS and tree.name not in NOT_YET
 
 
 def not_yet(statements):
