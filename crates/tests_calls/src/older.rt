@@ -13,6 +13,7 @@ const OLD: &[u8] = &[
     0, 0, 0, 0, 32, 0, 0, 0, 0, 0, 0, 0, 0, 0, 0, 0, 33, 1, 0, 0, 0, 32, 10, 0, 0, 0, 0, 8, 0, 0,
     0, 0, 0, 0, 0, 1, 8, 0, 0, 0, 0, 0, 0, 0, 0, 28, 3, 16, 2, 0,
 ];
+
 const NEW: &[u8] = &[
     83, 78, 79, 52, 0, 2, 0, 1, 0, 0, 0, 1, 0, 0, 0, 1, 0, 0, 0, 1, 88, 0, 0, 0, 0, 0, 0, 0, 2, 0,
     0, 0, 0, 0, 0, 0, 32, 0, 0, 0, 0, 0, 0, 0, 0, 0, 0, 0, 0, 0, 0, 0, 0, 0, 0, 0, 33, 1, 0, 0, 0,
@@ -108,7 +109,11 @@ fn cards(rt: HostRuntime) {
         // comments, control cards, continuations and statements on one card
         ("* C\n-LIST\n\n X = 1 /\n+ 0\nEND\n", overflow(1), 4),
         (" Y = 2; X = 1 / 0\nEND\n", overflow(2), 1),
-        (" Y = 2;\n;\n+; Z = 3; X = 1\n*\n+ / 0\nEND\n", overflow(3), 3),
+        (
+            " Y = 2;\n;\n+; Z = 3; X = 1\n*\n+ / 0\nEND\n",
+            overflow(3),
+            3,
+        ),
         (" &STLIMIT = 1\n*\n X = 2\nEND\n", limit, 3),
     ] {
         assert!(rt; compiled_tells(rt.alloc(), deck, ending, card), "{deck}");
