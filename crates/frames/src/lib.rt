@@ -2,7 +2,7 @@
 //!
 //! `Stack<T>` holds the operands or the handlers of a whole run: `pop_value`, `pop_name`, `pop_span` and `pop_values`
 //! take operands off, `fail` tells where a failure leads. A `Frame` is what waits for the code that runs. `Matching` is
-//! a match with what goes on after it: `advance` makes steps, `supply` answers.
+//! a match with what goes on after it: `advance` makes steps, `supply` answers, with what `answer_of` makes of a value.
 //!
 //!     operands.push(Operand::Value(value))?;
 //!     let value = pop_value(&mut operands);
@@ -11,12 +11,14 @@
 //! tells. Popping asks that such an operand lies on top. CALLING.md has a row for each call.
 #![tactic(auto)]
 
+mod answering;
 mod frame;
 mod handler;
 mod matching;
 mod operand;
 mod stack;
 
+pub use answering::answer_of;
 pub use frame::{Frame, Kept, Saved, Waiting};
 pub use handler::{Caught, Handler, fail, pop_begin, pop_try};
 pub use matching::Matching;

@@ -5,7 +5,7 @@ ghost use Rattle.std.specs.Prelude.{IfErr, IsErr, OnOk, OnErr, if◌then◌else�
 ghost use Rattle.frames.specs.View.{operands_of};
 ghost use Rattle.frames.specs.Matches.{in_match, matching_of};
 ghost use Rattle.match_machine.specs.Held.{IsQuestion};
-ghost use Rattle.match_machine.specs.View.{event_is, answer_of};
+ghost use Rattle.match_machine.specs.View.{event_is, answer_view};
 ghost use Rattle.model.specs.Pattern.Patterns.{Running};
 ghost use Rattle.model.specs.Pattern.Steps.{Starting, Over, Lost, event_of, with_more};
 ghost use Rattle.model.specs.Machine.Steps as m;
@@ -128,7 +128,7 @@ impl Matching {
             ≡ record self.old {
               search = record self.old.search {
                 state = with_more
-                    (answer_of answer ∷ []) self.old.search.state;
+                    (answer_view answer ∷ []) self.old.search.state;
               };
             } }
         ensures running { event_of self.new.search.state ≡ Running }

@@ -41,12 +41,12 @@ event_is (event.Say x v) = p.Asks (p.SayThat (name_of x) (told_of v))
 event_is (event.Matched b e xs) = p.Matched b e (pending_of xs.items)
 event_is event.Failed = p.Failed
 
-abbrev pub answer_of : Answer → p.Answer Code
-answer_of (answer.Pattern c) = p.IsPattern c
-answer_of (answer.Count n) = p.IsCount n
-answer_of (answer.Bytes w) = p.IsBytes w
-answer_of answer.Failed = p.IsFailed
-answer_of answer.Said = p.IsSaid
+abbrev pub answer_view : Answer → p.Answer Code
+answer_view (answer.Pattern c) = p.IsPattern c
+answer_view (answer.Count n) = p.IsCount n
+answer_view (answer.Bytes w) = p.IsBytes w
+answer_view answer.Failed = p.IsFailed
+answer_view answer.Said = p.IsSaid
 
 -- ---- states
 abbrev pub thread_of : Thread → s.Thread
@@ -80,7 +80,7 @@ waiting_of (waiting.Said x v) = s.ForSaid (name_of x) (told_of v)
 
 abbrev pub answers_of : Option Answer → s.Answers
 answers_of None = []
-answers_of (Some y) = answer_of y ∷ []
+answers_of (Some y) = answer_view y ∷ []
 
 abbrev pub returning : List s.Choice → ℕ → ℕ → MatchState
 returning [] b left = s.Over s.Lost

@@ -1,24 +1,11 @@
--- Arguments of calls.
-use Rattle.std.proofs.Common.{◌≡◌, ℕ, zero, suc, List, [], ◌∷◌, length, map, true, false, nat_lt, slice_index_or, IsTrue, refl, sym, true≢false, arith}
+-- The arguments that primitives take.
+use Rattle.std.proofs.Common.{◌≡◌, List, [], ◌∷◌, IsTrue, refl, sym, true≢false}
 use Rattle.model.specs.declared.primitives.PrimId.{PrimId}
 use Rattle.model.specs.declared.primitives.PrimId.TheVariants as p
-use Rattle.model.specs.Language.Values.{Str}
 use Rattle.model.specs.Machine.Steps.{MVal, MW, codes_of}
 use Rattle.model.specs.Language.Primitives.{prim_op}
 use Rattle.model.specs.Language.Calls.{arg_at}
-use Rattle.world.specs.declared.value.Value.{Value}
-use Rattle.world.specs.Values.{value_of}
 use Rattle.primitives.specs.Answers.{is_there}
-
-pub arg_there : (vs : List Value) (k : ℕ) (d : Value) → true ≡ nat_lt k (length vs) → value_of (slice_index_or vs k d) ≡ arg_at (map value_of vs) k
-arg_there [] k d h = absurd (grind (arith, h))
-arg_there (v ∷ vs) zero d h = refl
-arg_there (v ∷ vs) (suc k) d h = arg_there vs k d (grind (arith, h))
-
-pub arg_absent : (vs : List Value) (k : ℕ) → false ≡ nat_lt k (length vs) → Str [] ≡ arg_at (map value_of vs) k
-arg_absent [] k h = refl
-arg_absent (v ∷ vs) zero h = absurd (grind (arith, h))
-arg_absent (v ∷ vs) (suc k) h = arg_absent vs k (grind (arith, h))
 
 -- a primitive that is there takes its arguments by their numbers, and three at most
 pub first_three : (id : PrimId) (vs : List MVal) (w : MW) → IsTrue (is_there id) → prim_op codes_of id (arg_at vs 0 ∷ arg_at vs 1 ∷ arg_at vs 2 ∷ []) w ≡ prim_op codes_of id vs w

@@ -2,4 +2,5 @@ pub mod KindParts
 pub mod Order
 pub mod Arguments
 pub mod Values
+pub mod Called
 pub mod Associations

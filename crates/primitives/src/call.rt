@@ -2,8 +2,6 @@
 
 ghost use Rattle.std.specs.Prelude.{◌≡◌, [], ◌∷◌, map, IsTrue, OnErr};
 ghost use Rattle.model.specs.Language.Io.{Io};
-ghost use Rattle.model.specs.Language.Values.{Str};
-ghost use Rattle.model.specs.Language.Calls.{arg_at};
 ghost use Rattle.model.specs.Machine.Steps.{codes_of};
 ghost use Rattle.model.specs.Language.Primitives.{prim_op};
 ghost use Rattle.model.specs.declared.run.Stop.TheVariants.{NoMemory};
@@ -21,7 +19,7 @@ use crate::units::{detach, input, output};
 use model::PrimId;
 use pattern_compiler::Kind;
 use std::alloc::Global;
-use world::{Fault, Value, World};
+use world::{Fault, Value, World, argument};
 
 /// Whether calls of a primitive can run.
 pub fn is_there(id: PrimId) -> bool
@@ -140,16 +138,5 @@ fn call_with(
         PrimId::Detach => detach(alloc, first, world),
         PrimId::Fence => fence_of(alloc, first),
         _ => unreachable!(),
-    }
-}
-
-// The argument of this number, or null.
-fn argument<'a>(arguments: &'a [Value], number: usize, null: &'a Value) -> &'a Value
-    requires { value_of null.now ≡ Str [] }
-    ensures { value_of result.now ≡ arg_at (map value_of arguments.now) number }
-{
-    match arguments.get(number) {
-        Some(value) => value,
-        None => null,
     }
 }

@@ -9,7 +9,9 @@
 //! CALLING.md says how another primitive is added.
 #![tactic(auto)]
 
+mod applying;
 mod call;
+mod defining;
 mod functions;
 mod objects;
 mod outcome;
@@ -17,5 +19,7 @@ mod patterns;
 mod predicates;
 mod units;
 
+pub use applying::{Applied, applied};
 pub use call::{call_prim, is_there};
+pub use defining::define;
 pub use outcome::Outcome;

@@ -2,7 +2,7 @@
 
 ghost use Rattle.std.specs.Prelude.{◌≡◌};
 ghost use Rattle.model.specs.Language.Conversions.{to_text, to_integer, to_pattern, to_name, to_label};
-ghost use Rattle.model.specs.Language.Conversions.{to_variable, read_integer};
+ghost use Rattle.model.specs.Language.Conversions.{to_variable, then_conv, count_of, set_of, read_integer};
 ghost use Rattle.model.specs.Machine.Steps.{codes_of};
 ghost use Rattle.model.specs.declared.run.Stop.TheVariants.{NoMemory};
 ghost use Rattle.pattern_compiler.specs.View.{name_of};
@@ -94,6 +94,29 @@ impl Value {
             Name::Variable(text) => Ok(text.clone()?),
             _ => Err(Fault::Error(ErrorCode::NotAName)),
         }
+    }
+
+    /// The integer that it is or stands for, which a count isn't below 0. Takes no memory.
+    pub fn to_count(&self) -> Result<u64, ErrorCode>
+        ensures { conv_of result ≡ then_conv (to_integer (value_of self.now)) count_of }
+    {
+        let n = self.to_int()?;
+        if n < 0 {
+            return Err(ErrorCode::BadPatternArgument);
+        }
+        Ok(n as u64)
+    }
+
+    /// The bytes of the string that it is, of which a set has at least one.
+    pub fn to_bytes(&self, alloc: Global) -> Result<Text, Fault>
+        ensures bytes { Converts result (then_conv (to_text (value_of self.now)) set_of) }
+        ensures stop { IfStopped result (λ stop. stop ≡ NoMemory) }
+    {
+        let text = self.to_text(alloc)?;
+        if text.is_empty() {
+            return Err(Fault::Error(ErrorCode::BadPatternArgument));
+        }
+        Ok(text)
     }
 }
 

@@ -1,7 +1,8 @@
 //! Operators that don't ask the world.
 
-ghost use Rattle.std.specs.Prelude.{◌≡◌};
+ghost use Rattle.std.specs.Prelude.{◌≡◌, IfOk};
 ghost use Rattle.model.specs.Machine.Steps.{MW, codes_of};
+ghost use Rattle.model.specs.Language.Values.{Pat};
 ghost use Rattle.model.specs.Language.Operators.{alt_op, cond_op, imm_op, indir_op};
 ghost use Rattle.model.specs.declared.run.Stop.TheVariants.{NoMemory};
 ghost use Rattle.pattern_compiler.specs.View.{name_of};
@@ -11,7 +12,7 @@ ghost use Rattle.world.specs.Answers.{answer_map, AnswersAs, IfStopped};
 use crate::fault::Fault;
 use crate::value::Value;
 use pattern_compiler::{Name, PatCode};
-use std::alloc::Global;
+use std::alloc::{AllocError, Global};
 
 /// One pattern, or else the other.
 pub fn alt(alloc: Global, left: &Value, right: &Value) -> Result<Value, Fault>
@@ -45,6 +46,13 @@ pub fn imm(alloc: Global, value: &Value, name: Name) -> Result<Value, Fault>
 {
     let part = value.to_pattern(alloc)?;
     Ok(Value::Pattern(PatCode::imm(alloc, &part, name)?))
+}
+
+/// A pattern that matches null, and assigns where it stands.
+pub fn cursor(alloc: Global, name: Name) -> Result<Value, AllocError>
+    ensures { IfOk result (λ value. value_of value ≡ Pat (codes_of.cursor (name_of name))) }
+{
+    Ok(Value::Pattern(PatCode::at(alloc, name)?))
 }
 
 /// The name that a value stands for.

@@ -1,7 +1,7 @@
 use Rattle.std.proofs.Common.{ap, ◌∙◌}
 use Rattle.world.specs.Values.{value_of}
-use Rattle.primitives.proofs.Arguments.{arg_there, arg_absent}
-use Rattle.primitives.proofs.call.argument.Goals as goal
+use Rattle.world.proofs.Passing.{arg_there, arg_absent}
+use Rattle.world.proofs.arguments.argument.Goals as goal
 
 pub returns-in-Some : goal.returns-in-Some
 returns-in-Some c = ap value_of c.in-Some.ensures.lookup.1 ∙ arg_there c.args.arguments.now c.args.number _ c.in-Some.ensures.lookup.0

@@ -1,0 +1,46 @@
+//! APPLY.
+
+ghost use Rattle.std.specs.Prelude.{◌≡◌, ◌∷◌, map};
+ghost use Rattle.model.specs.Machine.Steps.{MW};
+ghost use Rattle.model.specs.declared.run.Stop.TheVariants.{NoMemory};
+ghost use Rattle.world.specs.Answers.{IfStopped};
+ghost use Rattle.world.specs.Values.{value_of};
+ghost use Rattle.primitives.specs.Calling.{IsApplied};
+
+use model::{ErrorCode, PrimId};
+use std::alloc::Global;
+use strings::Text;
+use world::{Fault, Value};
+
+/// What APPLY calls with its other arguments.
+#[derive(Drop)]
+pub enum Applied {
+    Primitive(PrimId),
+    Function(Text),
+}
+
+// What APPLY calls by a name with other arguments, of which a primitive takes no more than it may.
+fn applied_to(alloc: Global, name: &Value, others: &[Value]) -> Result<Applied, Fault>
+    ensures applied { (w : MW) → IsApplied result (value_of name.now ∷ map value_of others.now) w }
+    ensures stop { IfStopped result (λ stop. stop ≡ NoMemory) }
+{
+    let name = name.to_variable(alloc)?;
+    let Some(id) = PrimId::named(name.as_slice()) else {
+        return Ok(Applied::Function(name));
+    };
+    if id.most_arguments() < others.len() {
+        return Err(Fault::Error(ErrorCode::TooManyArguments));
+    }
+    Ok(Applied::Primitive(id))
+}
+
+/// What APPLY calls, by its arguments. The first is the name, and the others go to what is called.
+pub fn applied(alloc: Global, arguments: &[Value]) -> Result<Applied, Fault>
+    ensures applied { (w : MW) → IsApplied result (map value_of arguments.now) w }
+    ensures stop { IfStopped result (λ stop. stop ≡ NoMemory) }
+{
+    match arguments {
+        [name, others @ ..] => applied_to(alloc, name, others),
+        [] => Err(Fault::Error(ErrorCode::NotAName)),
+    }
+}
