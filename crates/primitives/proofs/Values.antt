@@ -13,7 +13,6 @@ use Rattle.primitives.specs.Answers.{is_there}
 pub gives_value : (id : PrimId) (vs : List MVal) (w : MW) → IsTrue (is_there id) → (o : Op MW MVal) × (prim_op codes_of id vs w ≡ returned o)
 gives_value p.Item vs w h = absurd (true≢false (sym h))
 gives_value p.Data vs w h = absurd (true≢false (sym h))
-gives_value p.Define vs w h = absurd (true≢false (sym h))
 gives_value p.Apply vs w h = absurd (true≢false (sym h))
 gives_value p.Table vs w h = (new_object (TableOf []) w, refl)
 gives_value p.DataType vs w h = (Gives (Str (type_of w (arg_at vs 0))) w, refl)

@@ -20,7 +20,6 @@ use Rattle.primitives.specs.declared.predicates.Comparison.TheVariants as compar
 abbrev pub is_there : PrimId → Bool
 is_there p.Item = false
 is_there p.Data = false
-is_there p.Define = false
 is_there p.Apply = false
 is_there _ = true
 

@@ -10,6 +10,7 @@ ghost use Rattle.world.specs.Held.{world_of};
 ghost use Rattle.world.specs.Answers.{IfStopped};
 ghost use Rattle.primitives.specs.Answers.{ComesTo, is_there};
 
+use crate::defining::define;
 use crate::functions::{data_type, dupl, remdr, replace, size, trim};
 use crate::objects::{array, convert, copy, table};
 use crate::outcome::Outcome;
@@ -59,8 +60,9 @@ pub fn is_there(id: PrimId) -> bool
         | PrimId::Input
         | PrimId::Output
         | PrimId::Detach
+        | PrimId::Define
         | PrimId::Fence => true,
-        PrimId::Item | PrimId::Data | PrimId::Define | PrimId::Apply => false,
+        PrimId::Item | PrimId::Data | PrimId::Apply => false,
     }
 }
 
@@ -137,6 +139,7 @@ fn call_with(
         PrimId::Output => output(alloc, first, second, world),
         PrimId::Detach => detach(alloc, first, world),
         PrimId::Fence => fence_of(alloc, first),
+        PrimId::Define => define(alloc, first, second, world),
         _ => unreachable!(),
     }
 }
