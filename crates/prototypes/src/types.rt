@@ -5,9 +5,9 @@ ghost use Rattle.std.specs.List.{list_any};
 ghost use Rattle.model.specs.Language.Prototypes.{cut_at, is_primitive, is_type, listed, own_types};
 ghost use Rattle.model.specs.Language.Prototypes.{passing, type_cut, type_prototype};
 
-use crate::listed::Names;
 use crate::names::{are_distinct_names, is_primitive};
 use crate::parts::{cut, push_listed, push_name};
+use aggregates::Names;
 use std::alloc::{AllocError, Global};
 use std::marker::Model;
 use strings::Text;

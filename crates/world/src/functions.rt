@@ -11,8 +11,9 @@ ghost use Rattle.world.specs.Functions.{function_of, function_at, IsNamed, IfNam
 ghost use Rattle.world.specs.Held.{world_of};
 
 use crate::world::World;
+use aggregates::Names;
 use indexmap::IndexMap;
-use prototypes::{FunctionPrototype, Names};
+use prototypes::FunctionPrototype;
 use std::alloc::{AllocError, Global};
 use std::marker::Model;
 use strings::Text;
