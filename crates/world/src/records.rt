@@ -56,19 +56,19 @@ impl World {
         ensures err { OnErr result (self.new ≡ self.old) }
     {
         let values = field_values(alloc, fields.as_slice(), arguments)?;
-        let record = self
+        let number = self
             .heap
             .new_record(type_name.clone()?, fields.clone()?, values)?;
-        Ok(Given::Value(Value::Object(record)))
+        Ok(Given::Value(Value::Object(number)))
     }
 
     // The name of a record's field. Takes no memory.
-    fn field(&self, field: &Text, record: &Value) -> Result<Name, ErrorCode>
+    fn field(&self, field: &Text, value: &Value) -> Result<Name, ErrorCode>
         ensures { (io : Io)
             → op_of (answer_map name_of result) (world_of self.now io)
-            ≡ field_op field.now (value_of record.now) (world_of self.now io) }
+            ≡ field_op field.now (value_of value.now) (world_of self.now io) }
     {
-        let Value::Object(object) = record else {
+        let Value::Object(object) = value else {
             return Err(ErrorCode::WrongType);
         };
         match self.heap.field(*object, field) {

@@ -1,6 +1,7 @@
 //! Types that DATA makes: a constructor, and a function for each field.
 
 ghost use Rattle.std.specs.Prelude.{◌≡◌, [], bytes_eq, Some, IfOk, OnOk, OnErr};
+ghost use Rattle.model.specs.Deck.Trees.{Bytes};
 ghost use Rattle.indexmap.specs.IndexMap.{IsUnique};
 ghost use Rattle.model.specs.Language.Io.{Io};
 ghost use Rattle.model.specs.Language.Values.{Str};
@@ -26,10 +27,11 @@ fn functions_of(
         → function_at x made.entries ≡ function_of_type prototype.now.name prototype.now.fields prototype.now.fields x) }
     ensures unique { IfOk result (λ made. IsUnique bytes_eq made) }
 {
-    let fields = Names::from_slice(alloc, prototype.fields())?;
+    let fields = prototype.fields();
+    let constructor = Function::Constructor(Names::from_slice(alloc, fields)?);
     let mut made = IndexMap::new(alloc);
-    let _none = made.insert(prototype.name().clone()?, Function::Constructor(fields))?;
-    for field in prototype.fields() {
+    let _none = made.insert(prototype.name().clone()?, constructor)?;
+    for field in fields {
         let _old = made.insert(field.clone()?, Function::Field)?;
     }
     Ok(made)
