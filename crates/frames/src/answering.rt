@@ -20,7 +20,10 @@ pub fn answer_of(alloc: Global, want: Want, value: &Value) -> Result<Answer, Fau
 {
     match want {
         Want::Pattern => Ok(Answer::Pattern(value.to_pattern(alloc)?)),
-        Want::Count => Ok(Answer::Count(value.to_count()?)),
+        Want::Count => match value.to_count() {
+            Ok(n) => Ok(Answer::Count(n)),
+            Err(code) => Err(Fault::Error(code)),
+        },
         Want::Bytes => Ok(Answer::Bytes(value.to_bytes(alloc)?)),
     }
 }

@@ -1,4 +1,4 @@
-use Rattle.std.proofs.Common.{map, refl}
+use Rattle.std.proofs.Common.{◌≡◌, map, refl, ◌∙◌, w64, to_z, of_z, rules}
 use Rattle.world.specs.Held.{world_of}
 use Rattle.world.specs.Values.{value_of}
 use Rattle.world.proofs.Leaving.{entered}
@@ -13,5 +13,9 @@ returns-clause-entered c io =
 
 pub returns-clause-kept : goal.returns-clause-kept
 returns-clause-kept c =
-    kept_is c.args.prototype (record { prototype = c.args.prototype; statement = c.statement.result; level = c.level.result }) c.names.result.now c.args.self.now c.args.saved.now.items c.save.new.saved.items
-    refl c.names.ensures c.statement.ensures c.level.ensures c.in_ok-save.ensures
+    let here = c.statement-statement.result in
+    let depth = c.level-level.result in
+    let statement : here ≡ to_z w64 (of_z w64 here) = search rules in
+    let level : depth ≡ to_z w64 (of_z w64 depth) = search rules in
+    kept_is c.args.prototype (record { prototype = c.args.prototype; statement = to_z w64 (of_z w64 here); level = to_z w64 (of_z w64 depth) }) c.names.result.now c.args.self.now c.args.saved.now.items c.save.new.saved.items
+    refl c.names.ensures (c.statement-statement.ensures ∙ statement) (c.level-level.ensures ∙ level) c.in_ok-save.ensures

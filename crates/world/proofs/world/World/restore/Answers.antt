@@ -1,12 +1,12 @@
-use Rattle.std.proofs.Common.{◌≡◌, ◌+◌, ◌-◌, take, arith, rules}
+use Rattle.std.proofs.Common.{◌≡◌, ◌+◌, ◌-◌, take, length, refl, arith, rules}
 use Rattle.std.proofs.lemmas.Grind.{common_steps}
 use Rattle.world.proofs.Saving.{all_left, left_turn, none_left, some_left}
 use Rattle.world.proofs.world.World.restore.Goals as goal
 
 pub loop-count-init : goal.loop-count-init
 loop-count-init c = record {
-  within = omega (arith, c.len-count.ensures);
-  left = all_left c.args.names.now c.len-count.result c.args.saved.now.items c.args.self.now c.len-count.ensures (grind (arith, common_steps, c.len-count.ensures));
+  within = omega arith;
+  left = all_left c.args.names.now (length c.args.names.now) c.args.saved.now.items c.args.self.now refl (grind (arith, common_steps));
 }
 
 pub loop-count-preserved : goal.loop-count-preserved
