@@ -18,11 +18,14 @@ use Rattle.primitives.specs.declared.predicates.Comparison.TheVariants as compar
 
 -- the primitives that calls can run so far
 abbrev pub is_there : PrimId → Bool
-is_there p.Item = false
-is_there p.Data = false
 is_there p.Define = false
 is_there p.Apply = false
 is_there _ = true
+
+-- the primitives that are there and take their arguments by their numbers, three at most
+abbrev pub is_by_number : PrimId → Bool
+is_by_number p.Item = false
+is_by_number id = is_there id
 
 -- what an outcome is of an operation that leaves this world
 abbrev pub op_of : Outcome → MW → Op MW (model.Outcome PCode ℕ)

@@ -8,10 +8,10 @@ ghost use Rattle.model.specs.declared.run.Stop.TheVariants.{NoMemory};
 ghost use Rattle.world.specs.Values.{value_of};
 ghost use Rattle.world.specs.Held.{world_of};
 ghost use Rattle.world.specs.Answers.{IfStopped};
-ghost use Rattle.primitives.specs.Answers.{ComesTo, is_there};
+ghost use Rattle.primitives.specs.Answers.{ComesTo, is_by_number, is_there};
 
 use crate::functions::{data_type, dupl, remdr, replace, size, trim};
-use crate::objects::{array, convert, copy, table};
+use crate::objects::{array, convert, copy, data, item, table};
 use crate::outcome::Outcome;
 use crate::patterns::{arbno, fence_of, kind};
 use crate::predicates::{Comparison, compare, differ, ident, integer, lgt};
@@ -59,8 +59,10 @@ pub fn is_there(id: PrimId) -> bool
         | PrimId::Input
         | PrimId::Output
         | PrimId::Detach
+        | PrimId::Item
+        | PrimId::Data
         | PrimId::Fence => true,
-        PrimId::Item | PrimId::Data | PrimId::Define | PrimId::Apply => false,
+        PrimId::Define | PrimId::Apply => false,
     }
 }
 
@@ -78,6 +80,26 @@ pub fn call_prim(
     ensures stop { IfStopped result (λ stop. stop ≡ NoMemory) }
     ensures unchanged { OnErr result (world.new ≡ world.old) }
 {
+    match id {
+        PrimId::Item => item(arguments, world),
+        _ => call_by_number(alloc, id, arguments, world),
+    }
+}
+
+// Calls a primitive that takes its arguments by their numbers.
+fn call_by_number(
+    alloc: Global,
+    id: PrimId,
+    arguments: &[Value],
+    world: &mut World,
+) -> Result<Outcome, Fault>
+    requires there { IsTrue (is_by_number id) }
+    ensures answer { (io : Io)
+        → ComesTo result (world_of world.new io)
+        (prim_op codes_of id (map value_of arguments.now) (world_of world.old io)) }
+    ensures stop { IfStopped result (λ stop. stop ≡ NoMemory) }
+    ensures unchanged { OnErr result (world.new ≡ world.old) }
+{
     let null = Value::null();
     let first = argument(arguments, 0, &null);
     let second = argument(arguments, 1, &null);
@@ -85,7 +107,7 @@ pub fn call_prim(
     call_with(alloc, id, first, second, third, world)
 }
 
-// Calls a primitive that takes three arguments at most.
+// Calls it with its first three arguments.
 fn call_with(
     alloc: Global,
     id: PrimId,
@@ -94,7 +116,7 @@ fn call_with(
     third: &Value,
     world: &mut World,
 ) -> Result<Outcome, Fault>
-    requires there { IsTrue (is_there id) }
+    requires there { IsTrue (is_by_number id) }
     ensures answer { (io : Io)
         → ComesTo result (world_of world.new io)
         (prim_op codes_of id (value_of first.now ∷ value_of second.now ∷ value_of third.now ∷ [])
@@ -133,6 +155,7 @@ fn call_with(
         PrimId::Table => table(alloc, world),
         PrimId::Copy => copy(alloc, first, world),
         PrimId::Convert => convert(alloc, first, second, world),
+        PrimId::Data => data(alloc, first, world),
         PrimId::Input => input(alloc, first, second, world),
         PrimId::Output => output(alloc, first, second, world),
         PrimId::Detach => detach(alloc, first, world),
