@@ -16,6 +16,7 @@ use Rattle.world.specs.declared.fault.Fault.{Fault}
 use Rattle.world.specs.declared.fault.Fault.TheVariants as fault
 use Rattle.world.specs.Values.{value_of}
 use Rattle.world.specs.declared.value.Value.{Value}
+use Rattle.primitives.specs.Answers.{ComesTo}
 use Rattle.primitives.specs.Calling.{IsApplied, IsOtherApplied, IsReached}
 use Rattle.primitives.specs.declared.applying.Applied.{Applied}
 use Rattle.primitives.specs.declared.applying.Applied.TheVariants as applied_to
@@ -61,3 +62,8 @@ pub turned : (a : Applied) (all : List MVal) (v : MVal) (vs : List MVal) (w : MW
 turned a all v vs w same h is =
     let goes : prim_op codes_of p.Apply (v ∷ vs) w ≡ prim_op codes_of p.Apply vs w = subst (λ x. IsApplied (Ok x) (v ∷ vs) w) is h in
     same ∙ goes
+
+-- what APPLY can't call
+pub refused : (e : Fault) (vs : List MVal) (w : MW) → IsReached (Err e) vs w → ComesTo (Err e) w (prim_op codes_of p.Apply vs w)
+refused (fault.Error e) vs w h = h
+refused (fault.Stop s) vs w h = tt

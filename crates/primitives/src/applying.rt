@@ -1,6 +1,6 @@
 //! APPLY.
 
-ghost use Rattle.std.specs.Prelude.{◌≡◌, ◌∷◌, map};
+ghost use Rattle.std.specs.Prelude.{◌≡◌, ◌∷◌, map, IfOk};
 ghost use Rattle.model.specs.Machine.Steps.{MW};
 ghost use Rattle.model.specs.declared.run.Stop.TheVariants.{NoMemory};
 ghost use Rattle.world.specs.Answers.{IfStopped};
@@ -8,13 +8,13 @@ ghost use Rattle.world.specs.Values.{value_of};
 ghost use Rattle.primitives.specs.Calling.{IsApplied, IsApplyIf, IsReached};
 
 use model::{ErrorCode, PrimId};
-use std::alloc::Global;
+use std::alloc::{AllocError, Global};
 use strings::Text;
 use world::{Fault, Value};
 
 /// What APPLY calls with its other arguments.
 #[derive(Drop)]
-pub enum Applied {
+pub(crate) enum Applied {
     Primitive(PrimId),
     Function(Text),
 }
@@ -44,7 +44,7 @@ impl Applied {
 }
 
 /// What APPLY calls at last, by its arguments, and the arguments for that. It may call itself on the way.
-pub fn apply(alloc: Global, arguments: &[Value]) -> Result<(Applied, &[Value]), Fault>
+pub(crate) fn apply(alloc: Global, arguments: &[Value]) -> Result<(Applied, &[Value]), Fault>
     ensures applied { (w : MW) → IsReached result (map value_of arguments.now) w }
     ensures stop { IfStopped result (λ stop. stop ≡ NoMemory) }
 {
@@ -57,4 +57,15 @@ pub fn apply(alloc: Global, arguments: &[Value]) -> Result<(Applied, &[Value]), 
         rest = others;
     }
     Err(Fault::Error(ErrorCode::NotAName))
+}
+
+/// The same arguments again.
+pub(crate) fn copied(alloc: Global, arguments: &[Value]) -> Result<Vec<Value>, AllocError>
+    ensures { IfOk result (λ copy. copy.items ≡ arguments.now) }
+{
+    let mut copy = Vec::with_capacity(alloc, arguments.len())?;
+    for argument in arguments {
+        copy.push(argument.clone()?)?;
+    }
+    Ok(copy)
 }
