@@ -1,4 +1,4 @@
-use Rattle.std.proofs.Common.{sym, subst, Ok, Err}
+use Rattle.std.proofs.Common.{sym, subst, Err}
 use Rattle.unit_io.proofs.Serving.{served_on}
 use Rattle.statement_machine.proofs.Stopping.{served_alone, stops_alone}
 use Rattle.statement_machine.proofs.Matching.{code_stands, left_leaves}

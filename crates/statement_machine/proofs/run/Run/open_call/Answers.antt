@@ -1,4 +1,4 @@
-use Rattle.std.proofs.Common.{◌∷◌, map, ap, sym, ◌∙◌}
+use Rattle.std.proofs.Common.{◌∷◌, map, ap, ◌∙◌}
 use Rattle.model.specs.Language.Calls.{enter_call}
 use Rattle.loader.specs.Places.{offset_at}
 use Rattle.frames.specs.Frames.{frames_of}

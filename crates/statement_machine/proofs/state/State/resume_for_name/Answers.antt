@@ -1,4 +1,4 @@
-use Rattle.std.proofs.Common.{ap, sym, ◌∙◌, Ok, Err}
+use Rattle.std.proofs.Common.{ap, sym, ◌∙◌}
 use Rattle.model.specs.Language.Calls.{as_name}
 use Rattle.pattern_compiler.specs.View.{name_of}
 use Rattle.frames.specs.View.{operands_of}

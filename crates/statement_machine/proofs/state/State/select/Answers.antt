@@ -1,10 +1,10 @@
-use Rattle.std.proofs.Common.{map, ap, sym, subst, refl, ◌∙◌, Err, Ok}
+use Rattle.std.proofs.Common.{map, ap, sym, ◌∙◌, Err}
 use Rattle.frames.specs.View.{operands_of}
 use Rattle.unit_io.proofs.Serving.{served_on}
 use Rattle.world.specs.Calling.{given_of}
 use Rattle.world.specs.Held.{world_of}
 use Rattle.world.specs.Values.{value_of}
-use Rattle.statement_machine.specs.Held.{Left, handlers_in, waiting}
+use Rattle.statement_machine.specs.Held.{handlers_in, waiting}
 use Rattle.statement_machine.proofs.Stopping.{served_alone, stops_alone}
 use Rattle.model.specs.Language.Calls.{select_op}
 use Rattle.world.specs.Answers.{answer_map, op_of}
