@@ -2,6 +2,7 @@
 use Rattle.std.proofs.Common.{◌≡◌, ℕ, ◌+◌, Bool, true, false, List, [], ◌∷◌, Option, Some, None, Result, Ok, Err, refl, sym, ap, ◌∙◌, ◌⊎◌, inl, inr, subst}
 use Rattle.std.specs.Prelude.{if◌then◌else◌, IfOk}
 use Rattle.model.specs.declared.format.LoadFault.{LoadFault}
+use Rattle.model.specs.declared.format.LoadFault.TheVariants.{Format, Module}
 use Rattle.model.specs.declared.format.Miss.{Miss}
 use Rattle.model.specs.declared.format.ModuleFault.{ModuleFault}
 use Rattle.model.specs.declared.format.Version.{Version}
@@ -75,6 +76,21 @@ read_so v bytes (Err miss) result e h = subst (LoadsIn v bytes) (sym h) (miss, e
 pub loads : (v : Version) (bytes : List ℕ) (result : Result Image LoadFault) → IsAnswerIn v bytes result → (result ≡ Err no_memory) ⊎ LoadsIn v bytes result
 loads v bytes result (inl memory) = inl memory
 loads v bytes result (inr h) = inr (read_so v bytes (image_in v bytes) result refl h)
+
+-- a well-formed image isn't refused
+pub sound_is_taken : (v : Version) (bytes : List ℕ) (im : Image) (f : LoadFault) → image_in v bytes ≡ Ok im → IsWellFormed im → LoadsIn v bytes (Err f) → ⊥
+sound_is_taken v bytes im (Format f) e formed h = by_read (sym h.1 ∙ e)
+  where
+    by_read : Err h.0 ≡ Ok im → ⊥
+    by_read x = cc
+sound_is_taken v bytes im (Module f) e formed h =
+    let read : Ok h.0 ≡ Ok im = sym h.1 ∙ e in
+    let same : h.0 ≡ im = cc in
+    let told = h.2 in
+    by_fault (told.2 ∙ untold v h.0 told.0 (rw same formed) told.1)
+  where
+    by_fault : Some f ≡ None → ⊥
+    by_fault x = cc
 
 -- what was read is an image of that version
 pub read_loaded : (v : Version) (bytes : List ℕ) (result : Result Image LoadFault) → IsBytes bytes → (result ≡ Err no_memory) ⊎ LoadsIn v bytes result → IfOk result (λ m. (image_in v bytes ≡ Ok m) × IsImageIn v m × IsWellFormed m)
