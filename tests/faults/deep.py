@@ -1,0 +1,271 @@
+"""Runs deep and large decks with a stack of 256 KiB: nothing in the program recurses on it, nor needs much memory.
+
+Each case is a deck, how its run must end, and how much memory its compilation and run may take at most. A deck with a
+statement that doesn't run yet is left out, and told. Large decks are compiled in three sizes, to see that the time
+grows no faster than the deck. The last line is `N passed, M failed`.
+"""
+
+import argparse
+import functools
+import os
+import pathlib
+import resource
+import tempfile
+import typing
+
+from .cases import content
+from .refuse import PROGRAM
+
+STACK = 256 << 10
+SECONDS = 120
+# How many megabytes a compilation or a run takes at most, if nothing else is said.
+MEGABYTES = 400
+# A deck twice as large may take so many times as long.
+MOST_TIMES = 3
+# The largest deck.
+DECK_BYTES = 1 << 24
+
+
+class Case(typing.NamedTuple):
+    """A deck, how it ends, its words after `run deck.module`, and its most memory."""
+
+    name: str
+    deck: str
+    out: str = ""
+    told: str = ""
+    status: int = 0
+    words: typing.Tuple[str, ...] = ()
+    megabytes: int = MEGABYTES
+
+
+class Ran(typing.NamedTuple):
+    """What a process printed, told, its status, its megabytes at most and its seconds of processor time."""
+
+    out: bytes
+    told: bytes
+    status: int
+    megabytes: float
+    seconds: float
+
+
+def limit():
+    """Limits the stack, and the time."""
+    resource.setrlimit(resource.RLIMIT_STACK, (STACK, STACK))
+    resource.setrlimit(resource.RLIMIT_CPU, (SECONDS, SECONDS))
+
+
+def ran(program, words, folder):
+    """What comes of the program with these words."""
+    files = {name: os.open(folder / name, os.O_RDWR | os.O_CREAT | os.O_TRUNC) for name in ("out", "told")}
+    child = os.fork()
+    if child == 0:
+        try:
+            os.chdir(folder)
+            os.dup2(os.open("/dev/null", os.O_RDONLY), 0)
+            os.dup2(files["out"], 1)
+            os.dup2(files["told"], 2)
+            limit()
+            os.execv(program, [str(program), *words])
+        finally:
+            os._exit(125)
+    _, ended, used = os.wait4(child, 0)
+    for file in files.values():
+        os.close(file)
+    out, told = (content(folder / name) for name in files)
+    return Ran(out, told, os.waitstatus_to_exitcode(ended), used.ru_maxrss / 1024, used.ru_utime + used.ru_stime)
+
+
+def loop(count, body, before="", after=""):
+    """A deck that does something so many times, prints DONE, and drops all that it has."""
+    return (
+        f" &STLIMIT = -1\n &MAXLNGTH = 16777216\n{before}L N = N + 1\n{body} LT(N,{count}) :S(L)\n{after}"
+        " OUTPUT = 'DONE'\nEND\n"
+    )
+
+
+def printed(expression, out):
+    """A deck that prints what an expression gives."""
+    return f" OUTPUT = {expression}\nEND\n", out + "\n"
+
+
+CALLS = """ DEFINE('F(N)') :(E)
+F F = EQ(N,0) 'DONE' :S(RETURN)
+ F = F(N - 1) :(RETURN)
+E &STLIMIT = -1
+ OUTPUT = F({})
+END
+"""
+MATCHES = """ DEFINE('G(N)') :(E)
+G EQ(N,0) :S(RETURN)
+ 'A' 'A' *G(N - 1) :(RETURN)
+E &STLIMIT = -1
+ 'A' *G({}) :F(END)
+ OUTPUT = 'DEEP'
+END
+"""
+
+
+def waiting():
+    """What needs calls or evaluations."""
+    endless = " P = *P 'A'\n 'A' P\nEND\n"
+    yield Case("a pattern that enters itself", endless, told="steps used up\n", status=5, words=("--steps", "100000"))
+    yield Case("100,000 calls", CALLS.format(100_000), "DONE\n")
+    yield Case("1,000,000 calls", CALLS.format(1_000_000), "DONE\n")
+    yield Case("1,000 matches within matches", MATCHES.format(1_000), "DEEP\n")
+    yield Case("100,000 matches within matches", MATCHES.format(100_000), "DEEP\n")
+    node = " DATA('NODE(VALUE,NEXT)')\n"
+    nodes = loop(1_000_000, " LIST = NODE(N,LIST)\n", node, " LIST =\n")
+    yield Case("1,000,000 objects in a list", nodes, "DONE\n", megabytes=1000)
+    deferred = loop(3_000, " P = *P 'A'\n", after=" P =\n")
+    yield Case("an expression in a pattern, 3,000 times", deferred, "DONE\n")
+    waits = " DEFINE('F()') :(E)\nF :(RETURN)\nE N = N + 1\n :(L)\nL 'A' *F() *F() ARB *E() 'B'\n LT(N,9) :S(E)\nEND\n"
+    yield Case("calls of a match that fail", waits, told="error E1 statement 5 card 5\n", status=1)
+
+
+def values():
+    """Lists that are long, and dropped."""
+    arrays = " A = ARRAY(2)\n A<1> = B\n B = A\n"
+    for after, how in ((" A =\n B =\n", "dropped at once"), ("", "dropped at the end")):
+        yield Case(f"1,000,000 arrays in a list, {how}", loop(1_000_000, arrays, after=after), "DONE\n", megabytes=1000)
+    error = loop(300_000, arrays, after=" X = 1 / 0\n")
+    yield Case("300,000 arrays in a list at an error", error, told="error E2 statement 8 card 8\n", status=1)
+    tables = loop(300_000, " T = TABLE()\n T<'X'> = B\n B = T\n", after=" T =\n B =\n")
+    yield Case("300,000 tables in a list", tables, "DONE\n", megabytes=1000)
+    keys = loop(300_000, " T = TABLE()\n T<B> = 1\n B = T\n", after=" T =\n B =\n")
+    yield Case("300,000 tables that are keys", keys, "DONE\n", megabytes=1000)
+    names = loop(300_000, " A = ARRAY(1)\n A<1> = B\n B = .A<1>\n", after=" A =\n B =\n")
+    yield Case("300,000 names of elements", names, "DONE\n", megabytes=1000)
+    circles = loop(300_000, " A = ARRAY(1)\n A<1> = A\n", after=" A =\n")
+    yield Case("300,000 arrays that hold themselves", circles, "DONE\n", megabytes=1000)
+    doubled = loop(24, " S = S S\n", " S = 'A'\n", " OUTPUT = SIZE(S)\n")
+    yield Case("a string of 16 megabytes", doubled, "16777216\nDONE\n")
+
+
+def patterns():
+    """Patterns that are deep."""
+    deep = {
+        "a pattern of 3,000 alternatives": " P = P | 'B'\n",
+        "alternatives on the other side": " P = 'B' | P\n",
+        "a pattern of 3,000 parts": " P = P 'B'\n",
+        "parts on the other side": " P = 'B' P\n",
+        "an assignment around a pattern, 3,000 times": " P = P . V\n",
+        "a fence around a pattern, 3,000 times": " P = FENCE(P)\n",
+        "alternatives and parts in turn": " P = (P 'C' | 'B') | 'D'\n",
+    }
+    for name, body in deep.items():
+        yield Case(name, loop(3_000, body, " P = 'A' | 'AA'\n", " 'XYZ' P\n 'A' P\n P =\n"), "DONE\n")
+    turns = loop(300, " P = ARBNO(P 'B')\n", " P = 'A'\n", " 'XYZ' P\n P =\n")
+    yield Case("ARBNO around a pattern, 300 times", turns, "DONE\n")
+    doubled = loop(18, " P = P P\n", " P = 'A'\n", " DUPL('A',300000) P :S(OUT)\n OUTPUT = 'MISSED'\nOUT P =\n")
+    yield Case("a pattern of 262,144 parts", doubled, "DONE\n")
+    assigned = " &STLIMIT = -1\n DUPL('A',1000000) ARBNO(LEN(1) . X) RPOS(0)\n OUTPUT = X\nEND\n"
+    yield Case("1,000,000 turns with assignments", assigned, "A\n", megabytes=1000)
+    choices = " &STLIMIT = -1\n DUPL('A',1000000) ARBNO('A' | 'B') 'C' :S(END)\n OUTPUT = 'MISSED'\nEND\n"
+    yield Case("1,000,000 choices", " &ANCHOR = 1\n" + choices, "MISSED\n", megabytes=1000)
+
+
+def trees():
+    """Statements that are deep."""
+    yield Case("64 brackets", *printed("(" * 64 + "1" + ")" * 64, "1"))
+    yield Case("65 brackets", printed("(" * 65 + "1" + ")" * 65, "")[0], told="statement 1 L4\n", status=3)
+    yield Case("64 brackets of a function", *printed("SIZE(" * 64 + "'ABC'" + ")" * 64, "1"))
+    yield Case("64 subscripts", " A = ARRAY(1)\n A<1> = 1\n OUTPUT = " + "A<" * 64 + "1" + ">" * 64 + "\nEND\n", "1\n")
+    yield Case("16 marks", *printed("-" * 16 + "1", "1"))
+    yield Case("17 marks", printed("-" * 17 + "1", "")[0], told="statement 1 L5\n", status=3)
+    yield Case("1,300 sums", *printed("+ 1 ".join(["1 "] + ["  "] * 0) + "+ 1 " * 900, "901"))
+    yield Case("powers of powers", *printed("1" + " ** 1" * 790, "1"))
+    yield Case("joined strings", *printed(" ".join(["'A'"] * 980), "A" * 980))
+    yield Case("alternatives", " 'B' " + " | ".join(["'A'"] * 660) + " :S(END)\n OUTPUT = 'MISSED'\nEND\n", "MISSED\n")
+    yield Case("assignments of a match", " 'A' 'A'" + " . X" * 980 + "\n OUTPUT = X\nEND\n", "A\n")
+    cards = " OUTPUT = 'A'\n" + "+ 'A'\n" * 900 + "END\n"
+    yield Case("a statement of 900 cards", cards, "A" * 901 + "\n")
+    empty = "\n" * (DECK_BYTES - 4) + "END\n"
+    yield Case("a deck of empty cards", empty, "")
+    yield Case("a deck of one comment", "*" + "A" * (DECK_BYTES - 6) + "\nEND\n", told="card 1 C1\n", status=3)
+    yield Case("a deck that is too large", "\n" * (DECK_BYTES - 3) + "END\n", told="card 0 C5\n", status=3)
+    faults = " X = #\n" * 500_000 + "END\n"
+    told = "".join(f"statement {n} L1\n" for n in range(1, 500_001))
+    yield Case("500,000 faulty statements", faults, told=told, status=3)
+
+
+CASES = (waiting, values, patterns, trees)
+
+
+def fault(case, wanted, seen):
+    """What is wrong with what is seen, if anything."""
+    if seen[:3] != wanted:
+        told = (it[:100] if isinstance(it, bytes) else it for it in seen[:3])
+        return f"{case.name}: found {tuple(told)}"
+    if seen.megabytes > case.megabytes:
+        return f"{case.name}: {seen.megabytes:.0f} megabytes"
+    return None
+
+
+def of_case(program, case, folder):
+    """What comes of a case: how it ran, and what is wrong; the first is None if it is left out."""
+    (folder / "deck.sno").write_bytes(case.deck.encode())
+    compiled = ran(program, ["compile", "deck.sno", "deck.module"], folder)
+    if compiled.told.endswith(b" P0\n"):
+        return None, None
+    wanted = (case.out.encode(), case.told.encode(), case.status)
+    if compiled.status or case.status == 3:
+        return compiled, fault(case, wanted, compiled)
+    if compiled.megabytes > case.megabytes:
+        return compiled, f"{case.name}: {compiled.megabytes:.0f} megabytes to compile"
+    seen = ran(program, ["run", "deck.module", "--steps", "1000000000000", *case.words], folder)
+    if case.words:
+        seen = ran(program, ["run", "deck.module", *case.words], folder)
+    return seen, fault(case, wanted, seen)
+
+
+LARGE = {
+    "assignments of a string": lambda n: " X = 'AAAAAAAAAAAAAAAAAAAAAAAA'\n",
+    "labels and gotos": lambda n: f"L{n:06} A{n:06} = B{n:06} :(L{n:06})\n",
+    "names of their own": lambda n: f" NAME{n:06} = .OTHER{n:06} N\n",
+    "patterns": lambda n: f" X ('A' | B{n:06} . C) LEN(1)\n",
+}
+
+
+def large(program, folder):
+    """Compiles large decks of three sizes; for each kind the seconds, the megabytes of the largest, what is wrong."""
+    for name, statement in LARGE.items():
+        seconds = []
+        for count in (125_000, 250_000, 500_000):
+            deck = "".join(map(statement, range(count))) + "END\n"
+            (folder / "deck.sno").write_text(deck)
+            seen = ran(program, ["compile", "deck.sno", "deck.module"], folder)
+            seconds.append(seen.seconds)
+        times = ", ".join(f"{it:.1f}" for it in seconds)
+        told = f"{len(deck) / 1e6:.1f} MB of {name}: {times} seconds, {seen.megabytes:.0f} megabytes"
+        slow = any(later > MOST_TIMES * earlier for earlier, later in zip(seconds, seconds[1:]))
+        yield told, seen.status != 0 or slow or seen.megabytes > MEGABYTES
+
+
+def arguments():
+    """The words of the command line."""
+    parser = argparse.ArgumentParser(description=__doc__.partition("\n\n")[0])
+    parser.add_argument("program", nargs="?", default=PROGRAM, help="build/sno if none is given")
+    parser.add_argument("--only", default="", metavar="WORD", help="only cases with this in their names")
+    return parser.parse_args()
+
+
+def main():
+    """Runs what the command line asks for."""
+    given = arguments()
+    program, passed, failed, left = pathlib.Path(given.program).resolve(), 0, 0, []
+    with tempfile.TemporaryDirectory(prefix="sno-deep-") as name:
+        folder = pathlib.Path(name)
+        for case in (case for some in CASES for case in some() if given.only in case.name):
+            seen, why = of_case(program, case, folder)
+            if seen is None:
+                left.append(case.name)
+                continue
+            print(f"{case.name}: {seen.seconds:.1f} seconds, {seen.megabytes:.0f} megabytes", flush=True)
+            print(f"FAILED {why}\n" if why else "", end="", flush=True)
+            passed, failed = passed + (not why), failed + bool(why)
+        for told, why in large(program, folder) if not given.only else ():
+            print(f"FAILED {told}" if why else told, flush=True)
+            passed, failed = passed + (not why), failed + why
+    print(f"left out, as they don't run yet: {', '.join(left) or 'none'}")
+    print(f"{passed} passed, {failed} failed")
+    return 1 if failed else 0
