@@ -71,17 +71,24 @@ class Looked(typing.NamedTuple):
     instructions: typing.Set[str]
 
 
+def modules_of(decks, library_file, program):
+    """The module of each deck, nothing if it is refused."""
+    with tempfile.TemporaryDirectory(prefix="sno-cases-") as folder:
+        with Served(library_file, program, ["compile", "file", "deck.module"], folder) as served:
+            for deck in decks:
+                served.put("deck.module", None)
+                served.run_on(deck)
+                yield served.get("deck.module") or b""
+
+
 def looked_at(cases, library_file, program):
     """What there is to know of each case that compiles."""
+    modules = list(modules_of((it.deck for it in cases), library_file, program))
     with tempfile.TemporaryDirectory(prefix="sno-cases-") as folder:
-        command = (library_file, program)
-        compiling = Served(*command, ["compile", "deck.sno", "deck.module"], folder)
-        showing = Served(*command, ["show", "deck.module"], folder)
-        with compiling, showing:
-            for case in cases:
-                compiling.put("deck.sno", case.deck)
-                if compiling.run().status == 0:
-                    yield Looked(case, instructions(showing.run().out))
+        with Served(library_file, program, ["show", "file"], folder) as served:
+            for case, module, shown in zip(cases, modules, served.run_each(modules)):
+                if module:
+                    yield Looked(case, instructions(shown.out))
 
 
 def covering(found):

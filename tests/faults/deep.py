@@ -1,8 +1,10 @@
-"""Runs deep and large decks with a stack of 256 KiB: nothing in the program recurses on it, nor needs much memory.
+"""Runs deep and large decks with a small stack and with little memory.
 
-Each case is a deck, how its run must end, and how much memory its compilation and run may take at most. A deck with a
-statement that doesn't run yet is left out, and told. Large decks are compiled in three sizes, to see that the time
-grows no faster than the deck. The last line is `N passed, M failed`.
+Modules are run with a stack of 256 KiB, on which nothing of a run recurses. Decks are compiled with 1 MiB, as brackets
+and marks within their limits lie on the stack of the compiler. Each case is a deck, how its run must end, and how much
+memory its compilation and run may take at most. A deck with a statement that doesn't run yet is left out, and told.
+Large decks are compiled in three sizes, to see that the time grows no faster than the deck. The last line is
+`N passed, M failed`.
 """
 
 import argparse
@@ -16,12 +18,15 @@ import typing
 from .cases import content
 from .refuse import PROGRAM
 
-STACK = 256 << 10
+# The stack of a compilation, and that of a run.
+STACK_TO_COMPILE, STACK_TO_RUN = 1 << 20, 256 << 10
 SECONDS = 120
 # How many megabytes a compilation or a run takes at most, if nothing else is said.
 MEGABYTES = 400
 # A deck twice as large may take so many times as long.
 MOST_TIMES = 3
+# How much of a card is read.
+COLUMNS = 72
 # The largest deck.
 DECK_BYTES = 1 << 24
 
@@ -48,9 +53,9 @@ class Ran(typing.NamedTuple):
     seconds: float
 
 
-def limit():
+def limit(stack):
     """Limits the stack, and the time."""
-    resource.setrlimit(resource.RLIMIT_STACK, (STACK, STACK))
+    resource.setrlimit(resource.RLIMIT_STACK, (stack, stack))
     resource.setrlimit(resource.RLIMIT_CPU, (SECONDS, SECONDS))
 
 
@@ -64,7 +69,7 @@ def ran(program, words, folder):
             os.dup2(os.open("/dev/null", os.O_RDONLY), 0)
             os.dup2(files["out"], 1)
             os.dup2(files["told"], 2)
-            limit()
+            limit(STACK_TO_COMPILE if words[0] == "compile" else STACK_TO_RUN)
             os.execv(program, [str(program), *words])
         finally:
             os._exit(125)
@@ -83,9 +88,16 @@ def loop(count, body, before="", after=""):
     )
 
 
-def printed(expression, out):
-    """A deck that prints what an expression gives."""
-    return f" OUTPUT = {expression}\nEND\n", out + "\n"
+def on_cards(statement):
+    """A deck of one statement, on as many cards as it needs."""
+    pieces = [statement[:COLUMNS]]
+    rest = range(COLUMNS, len(statement), COLUMNS - 1)
+    return "\n+".join(pieces + [statement[at : at + COLUMNS - 1] for at in rest]) + "\nEND\n"
+
+
+def printed(expression, out=""):
+    """A deck that prints what an expression gives, and that with a line feed."""
+    return on_cards(f" OUTPUT = {expression}"), out + "\n"
 
 
 CALLS = """ DEFINE('F(N)') :(E)
@@ -131,8 +143,6 @@ def values():
     yield Case("300,000 arrays in a list at an error", error, told="error E2 statement 8 card 8\n", status=1)
     tables = loop(300_000, " T = TABLE()\n T<'X'> = B\n B = T\n", after=" T =\n B =\n")
     yield Case("300,000 tables in a list", tables, "DONE\n", megabytes=1000)
-    keys = loop(300_000, " T = TABLE()\n T<B> = 1\n B = T\n", after=" T =\n B =\n")
-    yield Case("300,000 tables that are keys", keys, "DONE\n", megabytes=1000)
     names = loop(300_000, " A = ARRAY(1)\n A<1> = B\n B = .A<1>\n", after=" A =\n B =\n")
     yield Case("300,000 names of elements", names, "DONE\n", megabytes=1000)
     circles = loop(300_000, " A = ARRAY(1)\n A<1> = A\n", after=" A =\n")
@@ -158,30 +168,39 @@ def patterns():
     yield Case("ARBNO around a pattern, 300 times", turns, "DONE\n")
     doubled = loop(18, " P = P P\n", " P = 'A'\n", " DUPL('A',300000) P :S(OUT)\n OUTPUT = 'MISSED'\nOUT P =\n")
     yield Case("a pattern of 262,144 parts", doubled, "DONE\n")
-    assigned = " &STLIMIT = -1\n DUPL('A',1000000) ARBNO(LEN(1) . X) RPOS(0)\n OUTPUT = X\nEND\n"
+    limits = " &STLIMIT = -1\n &MAXLNGTH = 16777216\n &ANCHOR = 1\n"
+    assigned = limits + " DUPL('A',1000000) ARBNO(LEN(1) . X) RPOS(0)\n OUTPUT = X\nEND\n"
     yield Case("1,000,000 turns with assignments", assigned, "A\n", megabytes=1000)
-    choices = " &STLIMIT = -1\n DUPL('A',1000000) ARBNO('A' | 'B') 'C' :S(END)\n OUTPUT = 'MISSED'\nEND\n"
-    yield Case("1,000,000 choices", " &ANCHOR = 1\n" + choices, "MISSED\n", megabytes=1000)
+    choices = limits + " DUPL('A',1000000) ARBNO('A' | 'B') 'C' :S(END)\n OUTPUT = 'MISSED'\nEND\n"
+    yield Case("1,000,000 choices", choices, "MISSED\n", megabytes=1000)
 
 
 def trees():
     """Statements that are deep."""
     yield Case("64 brackets", *printed("(" * 64 + "1" + ")" * 64, "1"))
-    yield Case("65 brackets", printed("(" * 65 + "1" + ")" * 65, "")[0], told="statement 1 L4\n", status=3)
+    yield Case("65 brackets", printed("(" * 65 + "1" + ")" * 65)[0], told="statement 1 L4\n", status=3)
+    yield Case("64 brackets that stay open", printed("(" * 64)[0], told="statement 1 P1\n", status=3)
     yield Case("64 brackets of a function", *printed("SIZE(" * 64 + "'ABC'" + ")" * 64, "1"))
-    yield Case("64 subscripts", " A = ARRAY(1)\n A<1> = 1\n OUTPUT = " + "A<" * 64 + "1" + ">" * 64 + "\nEND\n", "1\n")
+    subscripts = on_cards(" OUTPUT = " + "A<" * 64 + "1" + ">" * 64)
+    yield Case("64 subscripts", " A = ARRAY(1)\n A<1> = 1\n" + subscripts, "1\n")
     yield Case("16 marks", *printed("-" * 16 + "1", "1"))
-    yield Case("17 marks", printed("-" * 17 + "1", "")[0], told="statement 1 L5\n", status=3)
-    yield Case("1,300 sums", *printed("+ 1 ".join(["1 "] + ["  "] * 0) + "+ 1 " * 900, "901"))
-    yield Case("powers of powers", *printed("1" + " ** 1" * 790, "1"))
-    yield Case("joined strings", *printed(" ".join(["'A'"] * 980), "A" * 980))
-    yield Case("alternatives", " 'B' " + " | ".join(["'A'"] * 660) + " :S(END)\n OUTPUT = 'MISSED'\nEND\n", "MISSED\n")
-    yield Case("assignments of a match", " 'A' 'A'" + " . X" * 980 + "\n OUTPUT = X\nEND\n", "A\n")
+    yield Case("17 marks", printed("-" * 17 + "1")[0], told="statement 1 L5\n", status=3)
+    marks = printed(("-" * 16 + "(1 + ") * 64 + "1" + " + 1" * 500 + ")" * 64, "565")
+    yield Case("16 marks before each of 64 brackets", *marks)
+    calls = printed(("-" * 16 + "SIZE(") * 64 + "'ABC'" + ")" * 64, "1")
+    yield Case("16 marks before each of 64 calls", *calls)
+    yield Case("a sum of 950 parts", *printed("1" + " + 1" * 949, "950"))
+    yield Case("a power of 790 parts", *printed("1" + " ** 1" * 789, "1"))
+    yield Case("a string of 980 parts", *printed(" ".join(["'A'"] * 980), "A" * 980))
+    alternatives = on_cards(" 'B' " + " | ".join(["'A'"] * 650) + " :S(END)")
+    yield Case("650 alternatives", alternatives.replace("END\n", " OUTPUT = 'MISSED'\nEND\n"), "MISSED\n")
+    assignments = on_cards(" 'A' 'A'" + " . X" * 980)
+    yield Case("980 assignments of a match", assignments.replace("END\n", " OUTPUT = X\nEND\n"), "A\n")
     cards = " OUTPUT = 'A'\n" + "+ 'A'\n" * 900 + "END\n"
     yield Case("a statement of 900 cards", cards, "A" * 901 + "\n")
     empty = "\n" * (DECK_BYTES - 4) + "END\n"
     yield Case("a deck of empty cards", empty, "")
-    yield Case("a deck of one comment", "*" + "A" * (DECK_BYTES - 6) + "\nEND\n", told="card 1 C1\n", status=3)
+    yield Case("a deck of one comment", "*" + "A" * (DECK_BYTES - 6) + "\nEND\n")
     yield Case("a deck that is too large", "\n" * (DECK_BYTES - 3) + "END\n", told="card 0 C5\n", status=3)
     faults = " X = #\n" * 500_000 + "END\n"
     told = "".join(f"statement {n} L1\n" for n in range(1, 500_001))
@@ -220,7 +239,7 @@ def of_case(program, case, folder):
 
 LARGE = {
     "assignments of a string": lambda n: " X = 'AAAAAAAAAAAAAAAAAAAAAAAA'\n",
-    "labels and gotos": lambda n: f"L{n:06} A{n:06} = B{n:06} :(L{n:06})\n",
+    "labels and gotos": lambda n: f"L{n:06} A{n:06} = B :(L{n:06})\n",
     "names of their own": lambda n: f" NAME{n:06} = .OTHER{n:06} N\n",
     "patterns": lambda n: f" X ('A' | B{n:06} . C) LEN(1)\n",
 }
@@ -236,7 +255,7 @@ def large(program, folder):
             seen = ran(program, ["compile", "deck.sno", "deck.module"], folder)
             seconds.append(seen.seconds)
         times = ", ".join(f"{it:.1f}" for it in seconds)
-        told = f"{len(deck) / 1e6:.1f} MB of {name}: {times} seconds, {seen.megabytes:.0f} megabytes"
+        told = f"{len(deck) / 1e6:.1f} megabytes of {name}: {times} seconds, {seen.megabytes:.0f} megabytes"
         slow = any(later > MOST_TIMES * earlier for earlier, later in zip(seconds, seconds[1:]))
         yield told, seen.status != 0 or slow or seen.megabytes > MEGABYTES
 

@@ -87,7 +87,7 @@ def found_of(program, case, k, folder):
         if content is not None:
             (folder / name).write_bytes(content)
     how = {"input": case.given, "capture_output": True, "cwd": folder, "timeout": SECONDS}
-    ran = subprocess.run([str(program), str(k)], check=False, **how)
+    ran = subprocess.run([str(program), str(k), "deck.sno"], check=False, **how)
     outputs = (name for name, content in case.files.items() if content is None)
     files = {name: cases.content(folder / name) or b"" for name in outputs}
     return Seen(ran.stdout, ran.stderr, ran.returncode, files)

@@ -1,6 +1,7 @@
 /* Preloaded into a program, this starts the program anew for each line of standard input, and lets some of its calls
- * fail. A line is `KIND FIRST LAST`: of the calls of that kind, counted from 1, those from FIRST to LAST fail; of the
- * kind `space` the program has FIRST bytes of address space more than it has when it starts. The answer
+ * fail. A line is `KIND FIRST LAST`: of the calls of that kind, counted from 1, those from FIRST to LAST fail. Of
+ * the kind `space` the program has FIRST bytes of address space more than it has when it starts; behind a line of the
+ * kind `file` stand FIRST bytes, which the file `file` of the current folder holds then, and no call fails. The answer
  * is a line `CALLS FAILED STATUS KILOBYTES OUT ERR`, and then OUT bytes that the program printed and ERR bytes that it
  * wrote to standard error. STATUS is 256 more than the number of a signal, if one ended it. The program's standard
  * input is the file `stdin` of the current folder, or nothing. It has at most 60 seconds.
@@ -22,9 +23,9 @@
 
 /* Growths of memory that are refused; reads and writes that fail, move one byte, or are interrupted; files that don't
  * open. */
-enum kind { NONE, GROWTH, READ, WRITE, OPEN, SHORT_READ, SHORT_WRITE, READ_AGAIN, WRITE_AGAIN, SPACE, KINDS };
+enum kind { NONE, GROWTH, READ, WRITE, OPEN, SHORT_READ, SHORT_WRITE, READ_AGAIN, WRITE_AGAIN, SPACE, FILED, KINDS };
 static const char *const names[KINDS] = {
-    "none", "growth", "read", "write", "open", "short_read", "short_write", "read_again", "write_again", "space",
+    "none", "growth", "read", "write", "open", "short_read", "short_write", "read_again", "write_again", "space", "file",
 };
 
 /* What a run is asked for and tells, in memory that it shares with its parent. */
@@ -99,6 +100,18 @@ static void give_up(const char *what) {
     _exit(125);
 }
 
+/* Puts the next bytes of the requests into the file. */
+static void fill(size_t size, FILE *requests) {
+    char piece[65536];
+    int file = syscall(SYS_openat, AT_FDCWD, "file", O_WRONLY | O_CREAT | O_TRUNC, 0644);
+    for (size_t part; size > 0; size -= part) {
+        part = size < sizeof piece ? size : sizeof piece;
+        if (fread(piece, 1, part, requests) != part || syscall(SYS_write, file, piece, part) != (ssize_t)part)
+            give_up("file");
+    }
+    close(file);
+}
+
 /* Reads a request; it's false where there is none left. */
 static int asked(FILE *requests) {
     char name[16];
@@ -108,6 +121,10 @@ static int asked(FILE *requests) {
     *tally = (struct tally){.first = first, .last = last};
     while (tally->kind < KINDS && strcmp(name, names[tally->kind]) != 0)
         tally->kind++;
+    if (tally->kind == FILED) {
+        getc(requests);
+        fill(first, requests);
+    }
     return tally->kind < KINDS;
 }
 

@@ -7,6 +7,7 @@ import os
 import pathlib
 import shutil
 import subprocess
+import threading
 import typing
 
 HERE = pathlib.Path(__file__).resolve().parent
@@ -59,11 +60,33 @@ class Served:
         """Runs the program; of the calls of this kind the first to the last fail, or the first alone."""
         self.process.stdin.write(f"{kind} {first} {first if last is None else last}\n".encode())
         self.process.stdin.flush()
+        return self.answer()
+
+    def answer(self):
+        """The next answer."""
         line = self.process.stdout.readline()
         if not line:
             raise RuntimeError("the program with failing calls doesn't answer")
         *numbers, out, told = map(int, line.split())
         return Answer(*numbers, self.process.stdout.read(out), self.process.stdout.read(told))
+
+    def run_on(self, content):
+        """Runs the program with this content of the file `file`."""
+        self.ask_each([content])
+        return self.answer()
+
+    def run_each(self, contents):
+        """Runs the program for each of some contents of the file `file`; the answers."""
+        asking = threading.Thread(target=self.ask_each, args=(contents,))
+        asking.start()
+        yield from (self.answer() for _ in contents)
+        asking.join()
+
+    def ask_each(self, contents):
+        """Asks for a run with each of these contents."""
+        for content in contents:
+            self.process.stdin.write(f"file {len(content)} 0\n".encode() + content)
+        self.process.stdin.flush()
 
     def put(self, name, content):
         """Puts a file into the folder; None is no file."""

@@ -1,8 +1,7 @@
-//! Runs the deck in the file `deck.sno` on units of which one call fails: `tests_failing K`, where K is the number of
-//! that call, counted from 1, or 0. Units 5 and 6 are standard input and output, and 7, 8 and 9 the files `7`, `8` and
+//! Runs a deck on units of which one call fails: `tests_failing K DECK`, where K is the number of that call, counted
+//! from 1, or 0, and DECK a file. Units 5 and 6 are standard input and output, and 7, 8 and 9 the files `7`, `8` and
 //! `9`. It tells what `sno` tells, without cards. Its status is 9 if a machine that came to its end or was stopped
 //! answers something else when it is to run on.
-#![tactic(auto)]
 
 use driver::{Ran, Told, compile_deck, report};
 use loader::{Module, load};
@@ -27,16 +26,22 @@ struct Answers {
     again: Status,
 }
 
-/// The number of the call that fails.
-fn failing_call<R: Env + AllocGlobal>(rt: &R) -> Result<u64, Told<'static>> {
+/// The number of the call that fails, and the file of the deck.
+#[derive(Drop)]
+struct Words {
+    k: u64,
+    deck: String,
+}
+
+fn read_words<R: Env + AllocGlobal>(rt: &R) -> Result<Words, Told<'static>> {
     let Ok(mut words) = env::args(rt) else {
         return Err(Told::NoMemory);
     };
-    let Some(word) = words.nth(1) else {
+    let (Some(number), Some(deck)) = (words.nth(1), words.next()) else {
         return Err(Told::BadCommandLine);
     };
-    match word.parse::<u64>() {
-        Ok(k) => Ok(k),
+    match number.parse::<u64>() {
+        Ok(k) => Ok(Words { k, deck }),
         Err(_) => Err(Told::BadCommandLine),
     }
 }
@@ -56,10 +61,10 @@ fn units_of<R: Files + Input + Print + AllocGlobal>(
     Ok(units)
 }
 
-/// The module of the deck.
-fn compiled<R: Files + AllocGlobal>(rt: &R) -> Result<Module, Told<'static>> {
-    let Ok(deck) = fs::read(rt, "deck.sno") else {
-        return Err(Told::CannotRead("deck.sno"));
+/// The module of a deck.
+fn compiled<R: Files + AllocGlobal>(rt: &R, deck: &str) -> Result<Module, Told<'static>> {
+    let Ok(deck) = fs::read(rt, deck) else {
+        return Err(Told::CannotRead("the deck"));
     };
     let bytes = match compile_deck(rt.alloc(), &deck) {
         Ok(bytes) => bytes,
@@ -90,9 +95,9 @@ fn run_twice<R: Files + Input + Print + AllocGlobal>(
 }
 
 fn run<R: Env + Files + Input + Print + AllocGlobal>(rt: &R) -> Result<Answers, Told<'static>> {
-    let k = failing_call(rt)?;
-    let module = compiled(rt)?;
-    run_twice(rt, &module, k)
+    let words = read_words(rt)?;
+    let module = compiled(rt, &words.deck)?;
+    run_twice(rt, &module, words.k)
 }
 
 /// What is told of the answers, if they are the same.
