@@ -12,7 +12,7 @@ export RT
 BUILT := $(PROGRAM)/out/sno $(PROGRAM)/out/sno.by-rattle
 FAILING := crates/tests_failing/out/tests_failing
 # A part of the faults that `make refuse`, `failing`, `damage` and `deep` run whole.
-FAULTS := "tests/refuse --every 50 $(PROGRAM)/out/sno" "tests/failing $(PROGRAM)/out/sno $(FAILING)" \
+FAULTS := "tests/refuse --every 50 $(PROGRAM)/out/sno $(FAILING)" "tests/failing $(PROGRAM)/out/sno $(FAILING)" \
 	"tests/damage --every 900 $(PROGRAM)/out/sno" "tests/deep --part $(PROGRAM)/out/sno"
 # What a proof of the program reads, folders too, so that a file that goes is noticed.
 PARTS := $(foreach crate,$(shell tools/below sno 2>/dev/null),crates/$(crate)/src crates/$(crate)/specs crates/$(crate)/proofs)
@@ -59,7 +59,7 @@ build/sno: $(SOURCES) | program
 	@cp $(PROGRAM)/out/sno build/sno.new && mv build/sno.new build/sno
 
 build/failing: $(SOURCES) crates/tests_failing/src/main.rt | program
-	@(cd crates/tests_failing && ../../tools/progress "$(RT) lib" >&2) || { echo "failing: not proved, or not built" >&2; exit 1; }
+	@(cd crates/tests_failing && ../../tools/progress "$(RT) run -- 0 data/deck.sno" >&2) || { echo "failing: not proved, or not built" >&2; exit 1; }
 	@cp crates/tests_failing/out/tests_failing build/failing
 
 # A program that the gate proved is the one that `make run` runs, unless a source changed since the gate began.
@@ -75,8 +75,8 @@ decks: build/sno ## the decks of tests/ alone, on the proved program
 bound: build/sno ## 2,000 random decks on the proved program and on the reference of tests/, with steps and rules
 	@tests/bound build/sno --decks 2000
 
-refuse: build/sno ## each growth of memory refused in turn, on the proved program and under 88 decks
-	@tests/refuse build/sno
+refuse: build/sno build/failing ## each growth of memory refused in turn, to the proved program on some hundred decks
+	@tests/refuse build/sno build/failing
 
 failing: build/sno build/failing ## each read and write failed in turn, on the proved program and on units that fail
 	@tests/failing build/sno build/failing

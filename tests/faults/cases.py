@@ -9,8 +9,9 @@ import typing
 from .served import Served
 
 DECKS = pathlib.Path(__file__).resolve().parents[1] / "decks"
-# Of these no deck is taken but the worked ones: their runs are long.
-LONG = ("big", "programs", "worked")
+# The subjects of which all decks are taken, and those of which none is, as their runs are long.
+WORKED = ("worked", "failing")
+LONG = ("big", "programs")
 # How many decks are taken beside the worked ones, or more if the instructions want more.
 DECKS_TAKEN = 50
 
@@ -104,10 +105,10 @@ def covering(found):
 
 def chosen(library_file, program):
     """The worked cases, and the others that are taken, with the number of instructions that these have."""
-    found = list(looked_at(cases_of(["but", *LONG]), library_file, program))
+    found = list(looked_at(cases_of(["but", *LONG, *WORKED]), library_file, program))
     taken = covering(found)
     rest = [it for it in found if it not in taken]
     wanted = max(DECKS_TAKEN - len(taken), 0)
     taken += rest[:: max(len(rest) // wanted, 1)][:wanted] if wanted else []
     every = set().union(*(it.instructions for it in taken))
-    return cases_of(["worked"]) + [it.case for it in taken], len(every)
+    return cases_of(WORKED) + [it.case for it in taken], len(every)

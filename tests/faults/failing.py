@@ -8,7 +8,6 @@ Where calls move one byte or are interrupted, it answers as before. The last lin
 """
 
 import argparse
-import functools
 import pathlib
 import re
 import subprocess
@@ -19,10 +18,9 @@ from reference.command import seen_of
 from reference.units import UnitFault, Units
 
 from . import cases
-from .refuse import COMPILE, PROGRAM, Command, Run, commands_of
+from .refuse import FAILING, PROGRAM, Run, commands_of
 from .served import LAST, SIGNAL, Served, library
 
-FAILING = PROGRAM.parents[1] / "crates" / "tests_failing" / "out" / "tests_failing"
 SECONDS = 60
 FAULT = re.compile(rb"(unit [5-9] U[23]|cannot (read|write) [a-z. ]+)\n")
 # The calls of a run of the copying deck that fail, and what comes then.
@@ -166,7 +164,7 @@ KINDS = ("read", "write", "open", "short_read", "short_write", "read_again", "wr
 def of_system(library_file, program, case):
     """Lets calls of the system fail in each command of a case."""
     with tempfile.TemporaryDirectory(prefix="sno-failing-") as folder:
-        for command in commands_of(case):
+        for command in (it for it in commands_of(case) if not it.asks_again):
             with Served(library_file, program, command.words, folder) as served:
                 run = Run(served, case, command)
                 for kind in KINDS:
@@ -179,7 +177,7 @@ def arguments():
     """The words of the command line."""
     parser = argparse.ArgumentParser(description=__doc__.partition("\n\n")[0])
     parser.add_argument("program", nargs="?", default=PROGRAM, help="build/sno if none is given")
-    parser.add_argument("failing", nargs="?", default=FAILING, help="tests_failing, as the gate leaves it")
+    parser.add_argument("failing", nargs="?", default=FAILING, help="tests_failing; build/failing if none is given")
     return parser.parse_args()
 
 

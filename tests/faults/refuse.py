@@ -2,8 +2,9 @@
 
 For each deck and each command the Nth growth is refused, for each N until none is refused, once alone and once with all
 that follow. The command answers as it does with ample memory, or tells `no memory` with status 6, having printed a
-beginning of the right records; a compilation leaves the same module, or none. Then the commands are run with so little
-address space that memory is really refused, at twenty sizes. The last line is `N passed, M failed`.
+beginning of the right records; a compilation leaves the same module, or none. `tests_failing` shows besides that a
+machine which was stopped answers the same again. Then the commands are run with so little address space that memory is
+really refused, at twenty sizes. The last line is `N passed, M failed`.
 """
 
 import argparse
@@ -18,9 +19,10 @@ from . import cases
 from .served import LAST, SIGNAL, Served, library
 
 PROGRAM = pathlib.Path(__file__).resolve().parents[2] / "build" / "sno"
+FAILING = PROGRAM.parent / "failing"
 NO_MEMORY = (6, b"no memory\n")
-# How many sizes of address space there are, and how many bytes each has more than the one before.
-SPACES, STEP_OF_SPACE = 20, 32768
+# Sizes of address space, as bytes more than the program has at its start.
+SPACES = [1024 * k * k for k in range(20)]
 
 
 class Seen(typing.NamedTuple):
@@ -33,20 +35,25 @@ class Seen(typing.NamedTuple):
 
 
 class Command(typing.NamedTuple):
-    """The words of a command, and the files that it writes whole or not at all."""
+    """The words of a command, the files that it writes whole or not at all, and whether it's one of `tests_failing`."""
 
     words: typing.List[str]
     whole: typing.Tuple[str, ...] = ()
+    asks_again: bool = False
 
 
 COMPILE = Command(["compile", "deck.sno", "deck.module"], ("deck.module",))
 OF_MODULES = (Command(["check", "deck.module"]), Command(["show", "deck.module"]))
 
 
+ASKING_AGAIN = Command(["0", "deck.sno"], asks_again=True)
+
+
 def commands_of(case):
     """The commands that a deck is given to."""
     alone = [] if case.words or case.given else [Command([])]
-    return [*alone, COMPILE, *OF_MODULES, Command(["run", "deck.module", *case.words])]
+    again = [ASKING_AGAIN] if case.words == [f"{it}={it}" for it in case.files] else []
+    return [*alone, *again, COMPILE, *OF_MODULES, Command(["run", "deck.module", *case.words])]
 
 
 def is_beginning(some, whole):
@@ -82,7 +89,8 @@ class Run:
 
     def name(self):
         """The name of the deck, and the command."""
-        return f"{self.case.name}, sno {' '.join(self.command.words)}"
+        program = "tests_failing" if self.command.asks_again else "sno"
+        return f"{self.case.name}, {program} {' '.join(self.command.words)}"
 
     def seen(self, first=0, last=0, kind="growth"):
         """What is seen where these growths are refused, and how many are."""
@@ -115,7 +123,7 @@ def in_little_space(run):
     """Runs a command in little address space; how many times it was too little, and what is wrong."""
     wanted, _ = run.seen()
     count, lines = 0, []
-    for space in range(0, SPACES * STEP_OF_SPACE, STEP_OF_SPACE):
+    for space in SPACES:
         seen, _ = run.seen(space, kind="space")
         why = fault(wanted, seen, run.command.whole)
         count += seen.told == NO_MEMORY[1]
@@ -124,15 +132,16 @@ def in_little_space(run):
     return count, lines
 
 
-def of_case(library_file, program, every, number, case):
+def of_case(library_file, program, failing, every, number, case):
     """Refuses memory to each command of a case; how many growths were refused, and what is wrong."""
     total, found = 0, []
     with tempfile.TemporaryDirectory(prefix="sno-refuse-") as folder:
         for command in commands_of(case):
-            with Served(library_file, program, command.words, folder) as served:
+            of_a_module = "deck.module" in command.words and command != COMPILE
+            if of_a_module and not pathlib.Path(folder, "deck.module").is_file():
+                break
+            with Served(library_file, failing if command.asks_again else program, command.words, folder) as served:
                 run = Run(served, case, command)
-                if command != COMPILE and command.words and served.get("deck.module") is None:
-                    break
                 parts = [refused(run, 1 + number % every, every)]
                 if number % every == 0:
                     parts.append(in_little_space(run))
@@ -147,6 +156,7 @@ def arguments():
     """The words of the command line."""
     parser = argparse.ArgumentParser(description=__doc__.partition("\n\n")[0])
     parser.add_argument("program", nargs="?", default=PROGRAM, help="build/sno if none is given")
+    parser.add_argument("failing", nargs="?", default=FAILING, help="tests_failing; build/failing if none is given")
     parser.add_argument("--every", type=int, default=1, metavar="K", help="only each K-th growth")
     parser.add_argument("--jobs", type=int, default=os.cpu_count(), metavar="N", help="how many at once")
     return parser.parse_args()
@@ -155,12 +165,12 @@ def arguments():
 def main():
     """Runs what the command line asks for."""
     given = arguments()
-    program = pathlib.Path(given.program).resolve()
+    program, failing = (pathlib.Path(it).resolve() for it in (given.program, given.failing))
     total = failed = 0
     with tempfile.TemporaryDirectory(prefix="sno-refuse-") as folder:
         built = library(folder)
         decks, instructions = cases.chosen(built, program)
-        one = functools.partial(of_case, built, program, given.every)
+        one = functools.partial(of_case, built, program, failing, given.every)
         with concurrent.futures.ProcessPoolExecutor(given.jobs) as pool:
             for count, lines in pool.map(one, range(len(decks)), decks):
                 total, failed = total + count, failed + len(lines)

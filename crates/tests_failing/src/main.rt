@@ -2,6 +2,7 @@
 //! from 1, or 0, and DECK a file. Units 5 and 6 are standard input and output, and 7, 8 and 9 the files `7`, `8` and
 //! `9`. It tells what `sno` tells, without cards. Its status is 9 if a machine that came to its end or was stopped
 //! answers something else when it is to run on.
+#![tactic(auto)]
 
 use driver::{Ran, Told, compile_deck, report};
 use loader::{Module, load};
@@ -14,7 +15,7 @@ use std::process::ExitCode;
 use unit_io::{FailAt, FileUnits};
 
 /// How many steps the deck may take.
-const STEPS: u64 = 10_000_000;
+const STEPS: u64 = 100_000;
 
 /// What is told where a machine answers in another way when it is asked again.
 const ANOTHER_ANSWER: u8 = 9;
