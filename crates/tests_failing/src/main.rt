@@ -10,7 +10,7 @@ use model::Status;
 use statement_machine::Machine;
 use std::env::{self, Env};
 use std::fs::{self, Files};
-use std::io::{Input, Print};
+use std::io::{self, ErrorKind, Input, Print};
 use std::process::ExitCode;
 use unit_io::{FailAt, FileUnits};
 
@@ -62,10 +62,19 @@ fn units_of<R: Files + Input + Print + AllocGlobal>(
     Ok(units)
 }
 
+/// Why the deck was not read.
+fn not_read(error: &io::Error) -> Told<'static> {
+    match error.kind() {
+        ErrorKind::OutOfMemory => Told::NoMemory,
+        _ => Told::CannotRead("the deck"),
+    }
+}
+
 /// The module of a deck.
 fn compiled<R: Files + AllocGlobal>(rt: &R, deck: &str) -> Result<Module, Told<'static>> {
-    let Ok(deck) = fs::read(rt, deck) else {
-        return Err(Told::CannotRead("the deck"));
+    let deck = match fs::read(rt, deck) {
+        Ok(deck) => deck,
+        Err(error) => return Err(not_read(&error)),
     };
     let bytes = match compile_deck(rt.alloc(), &deck) {
         Ok(bytes) => bytes,
