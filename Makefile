@@ -10,11 +10,15 @@ BENCHES := $(wildcard crates/bench_*)
 export RT
 # The program as the gate leaves it: as LLVM built it, and as Rattle's own compiler did.
 BUILT := $(PROGRAM)/out/sno $(PROGRAM)/out/sno.by-rattle
+FAILING := crates/tests_failing/out/tests_failing
+# A part of the faults that `make refuse`, `failing`, `damage` and `deep` run whole.
+FAULTS := "tests/refuse --every 50 $(PROGRAM)/out/sno $(FAILING)" "tests/failing $(PROGRAM)/out/sno $(FAILING)" \
+	"tests/damage --every 900 $(PROGRAM)/out/sno" "tests/deep --part $(PROGRAM)/out/sno"
 # What a proof of the program reads, folders too, so that a file that goes is noticed.
 PARTS := $(foreach crate,$(shell tools/below sno 2>/dev/null),crates/$(crate)/src crates/$(crate)/specs crates/$(crate)/proofs)
 SOURCES := $(shell find crates.txt $(wildcard $(PARTS)) 2>/dev/null)
 
-.PHONY: help run try sno test decks bound damage wrong time check bench fmt clean toolchain program deck input
+.PHONY: help run try sno test decks bound refuse failing damage deep wrong time check bench fmt clean toolchain program deck input
 .DEFAULT_GOAL := help
 
 help: ## list the targets
@@ -54,11 +58,15 @@ build/sno: $(SOURCES) | program
 	@(cd $(PROGRAM) && echo END | ../../tools/progress "$(RT) run") >&2 || { echo "sno: not proved, or not built" >&2; exit 1; }
 	@cp $(PROGRAM)/out/sno build/sno.new && mv build/sno.new build/sno
 
+build/failing: $(SOURCES) crates/tests_failing/src/main.rt | program
+	@(cd crates/tests_failing && ../../tools/progress "$(RT) run -- 0 data/deck.sno" >&2) || { echo "failing: not proved, or not built" >&2; exit 1; }
+	@cp crates/tests_failing/out/tests_failing build/failing
+
 # A program that the gate proved is the one that `make run` runs, unless a source changed since the gate began.
 test: toolchain ## the gate: every proof from nothing, must-fail edits, tests, programs, decks (last line 'N passed, M failed')
 	@echo "test: proving every crate from nothing; this takes many minutes (all lines go to build/log)"
 	@mkdir -p build && touch build/began
-	@RT_JOBS=$${RT_JOBS:-$$(tools/jobs)} tools/progress "$(RT) ci" "tools/wrong --texts" "tests/docs" "tests/run $(BUILT)" "tests/pipe $(PROGRAM)/out/sno" "tests/bound --decks 100 $(PROGRAM)/out/sno"
+	@RT_JOBS=$${RT_JOBS:-$$(tools/jobs)} tools/progress "$(RT) ci" "tools/wrong --texts" "tests/docs" "tests/run $(BUILT)" "tests/pipe $(PROGRAM)/out/sno" "tests/bound --decks 100 $(PROGRAM)/out/sno" $(FAULTS)
 	@cp $(PROGRAM)/out/sno build/sno.new && touch -r build/began build/sno.new && mv build/sno.new build/sno
 
 decks: build/sno ## the decks of tests/ alone, on the proved program
@@ -67,8 +75,17 @@ decks: build/sno ## the decks of tests/ alone, on the proved program
 bound: build/sno ## 2,000 random decks on the proved program and on the reference of tests/, with steps and rules
 	@tests/bound build/sno --decks 2000
 
-damage: build/sno ## each hundredth of some nine million damaged modules on the proved program
-	@tests/damage build/sno --every 100
+refuse: build/sno build/failing ## each growth of memory refused in turn, to the proved program on some hundred decks
+	@tests/refuse build/sno build/failing
+
+failing: build/sno build/failing ## each read and write failed in turn, on the proved program and on units that fail
+	@tests/failing build/sno build/failing
+
+damage: build/sno ## a million of some nine million damaged modules on the proved program
+	@tests/damage build/sno --every 8
+
+deep: build/sno ## deep and large decks on the proved program, with a small stack and little memory
+	@tests/deep build/sno
 
 wrong: toolchain ## [CRATE=name]: try the wrong bodies that the gate doesn't; each must be refused
 	@tools/wrong $(CRATE)
