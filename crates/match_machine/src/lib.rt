@@ -15,6 +15,7 @@ mod ends;
 mod event;
 mod matcher;
 mod run;
+mod starts;
 mod state;
 mod step;
 mod trail;
