@@ -7,11 +7,14 @@ use Rattle.std.proofs.lemmas.Bool.{ne_eqb, ltb-true, ltb-false}
 use Rattle.std.proofs.lemmas.Bool.Decides.{eqb_tells}
 use Rattle.std.proofs.lemmas.List.{reverse-append, reverse-reverse, length-reverse, length-append, length-drop, take-append-le, take-append-drop, take_all}
 use Rattle.std.proofs.lemmas.Option.{none-some, same_Some, slice_get_cases}
+use Rattle.model.specs.Pattern.Steps as s
 use Rattle.model.specs.Pattern.Steps.{Code}
 use Rattle.match_machine.specs.declared.event.Assignment.{Assignment}
 use Rattle.match_machine.specs.declared.trail.Entry.{Entry}
 use Rattle.match_machine.specs.declared.trail.Choice.{Choice}
-use Rattle.match_machine.specs.Standing.{Back, no_backs, oldest}
+use Rattle.match_machine.specs.declared.state.Kept.{Kept}
+use Rattle.match_machine.specs.declared.state.Kept.TheVariants as kept
+use Rattle.match_machine.specs.Standing.{Back, Standing, IsAtArb, no_backs, oldest}
 use Rattle.match_machine.specs.Logs.{note_of, chain, entry_at, below_of, last_code, Logs, cut, back_of, backs, Marks}
 
 -- ---- lists of notes
@@ -188,6 +191,32 @@ no_backs_of l (x ∷ xs) = sym (eqb-suc-zero (length xs))
 
 pub no_choices : (l : Logs) (xs : List Choice) → no_backs (backs l (reverse xs)) ≡ eqb (length xs) 0
 no_choices l xs = no_backs_of l (reverse xs) ∙ ap (λ n. eqb n 0) (length-reverse xs)
+
+-- ---- the newest choice
+pub last_is : (xs : List Choice) (x : Choice) → slice_get xs (length xs - 1) ≡ Some x → (ys : List Choice) × (reverse xs ≡ x ∷ ys)
+last_is xs x h = go (reverse xs) refl
+  where
+    go : (zs : List Choice) → reverse xs ≡ zs → (ys : List Choice) × (reverse xs ≡ x ∷ ys)
+    go [] e =
+        let q : xs ≡ [] = sym (reverse-reverse xs) ∙ ap reverse e in
+        absurd (none-some x (ap (λ (l : List Choice). slice_get l (length l - 1)) (sym q) ∙ h))
+    go (z ∷ zs) e =
+        let q : xs ≡ reverse zs ++ z ∷ [] = sym (reverse-reverse xs) ∙ ap reverse e ∙ reverse-append (z ∷ []) zs in
+        let n : length xs - 1 ≡ length (reverse zs) = omega (arith, ap length q ∙ length-append (reverse zs) (z ∷ [])) in
+        last (get_push (reverse zs) z x (length (reverse zs)) (ap (λ (l : List Choice). slice_get l (length (reverse zs))) (sym q) ∙ ap (slice_get xs) (sym n) ∙ h))
+      where
+        last : ((slice_get (reverse zs) (length (reverse zs)) ≡ Some x) × (length (reverse zs) < length (reverse zs))) ⊎ ((length (reverse zs) ≡ length (reverse zs)) × (z ≡ x)) → (ys : List Choice) × (reverse xs ≡ x ∷ ys)
+        last (inl (g, l)) = absurd (omega (arith, l))
+        last (inr (g, p)) = (zs, e ∙ ap (λ (y : Choice). y ∷ zs) p)
+
+pub at_arb : (l : Logs) (xs : List Choice) (x : Choice) (e : ℕ) (st : Standing) → slice_get xs (length xs - 1) ≡ Some x → x.kept ≡ kept.Arb e → length l.codes ≤ x.codes → last_code l.codes ≡ st.code → st.backs ≡ backs l (reverse xs) → IsAtArb st x.place e
+at_arb l xs x e st h k n c b = go (last_is xs x h)
+  where
+    go : (ys : List Choice) × (reverse xs ≡ x ∷ ys) → IsAtArb st x.place e
+    go (ys, q) =
+        let t : s.Thread = (back_of (cut l x) x).thread in
+        let bs : List Back = backs (cut l x) ys in
+        (t, bs, b ∙ ap (backs l) q ∙ ap (λ (y : Kept). let all : List Back = record { kept = y; thread = t } ∷ bs in all) k, refl, ap last_code (take_all x.codes l.codes n) ∙ c)
 
 -- ---- the oldest choices
 -- the marks of older choices are those of the whole logs too

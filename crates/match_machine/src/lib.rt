@@ -11,6 +11,7 @@
 #![tactic(auto)]
 
 mod act;
+mod arbs;
 mod ends;
 mod event;
 mod matcher;

@@ -1,13 +1,13 @@
 //! Where the attempt under way stands, and the choices that are gone back to.
 
-ghost use Rattle.std.specs.Prelude.{◌≡◌, ◌∷◌, ◌++◌, List, [], true, false, Bool, IfOk, OnOk, OnErr};
+ghost use Rattle.std.specs.Prelude.{◌≡◌, ◌∷◌, ◌++◌, List, [], true, false, Bool, IfOk, IfSome, OnOk, OnErr};
 ghost use Rattle.std.specs.Prelude.{MatchOption, length, reverse, take, Some, None, option_copied};
 ghost use Rattle.std.specs.Prelude.{if◌then◌else◌};
 ghost use Rattle.model.specs.Pattern.Steps as s;
 ghost use Rattle.model.specs.Pattern.Steps.{Code};
 ghost use Rattle.model.specs.Pattern.Patterns.{Pending};
 ghost use Rattle.match_machine.specs.Standing.{Standing, Back, inside, opened, unopened, fenced};
-ghost use Rattle.match_machine.specs.Standing.{unfenced, no_backs, oldest};
+ghost use Rattle.match_machine.specs.Standing.{unfenced, no_backs, oldest, IsAtArb, from_end};
 ghost use Rattle.match_machine.specs.Logs.{assigned, pending_of, note_of, chain, entry_at, below_of, last_code};
 
 use crate::event::Assignment;
@@ -264,6 +264,38 @@ impl Trail {
             pending: self.pending.len(),
             codes: self.codes.len(),
         })?;
+        Ok(())
+    }
+
+    /// The place and the next end of ARB, where the newest choice goes back to one of the code under way.
+    #[inline(always)]
+    pub fn arb_here(&self) -> Option<(usize, usize)>
+        ensures { IfSome result (λ (place, end). IsAtArb self.now place end) }
+    {
+        let choice = self.choices.last()?;
+        match choice.kept {
+            Kept::Arb(end) => {
+                if self.stored && self.codes.len() <= choice.codes {
+                    Some((choice.place, end))
+                } else {
+                    None
+                }
+            }
+            _ => None,
+        }
+    }
+
+    /// The newest choice, which goes back to ARB, does so from a further end.
+    pub fn pass_arb(&mut self, end: usize) -> Result<(), AllocError>
+        ensures { OnOk result
+            (self.new ≡ record self.old { backs = from_end end self.old.backs }) }
+    {
+        if let Some(choice) = self.choices.pop() {
+            self.choices.push(Choice {
+                kept: Kept::Arb(end),
+                ..choice
+            })?;
+        }
         Ok(())
     }
 
