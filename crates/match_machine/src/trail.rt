@@ -9,6 +9,7 @@ ghost use Rattle.model.specs.Pattern.Patterns.{Pending};
 ghost use Rattle.match_machine.specs.Standing.{Standing, Back, inside, opened, unopened, fenced};
 ghost use Rattle.match_machine.specs.Standing.{unfenced, no_backs, oldest, IsAtArb, from_end};
 ghost use Rattle.match_machine.specs.Logs.{assigned, pending_of, note_of, chain, entry_at, below_of, last_code};
+ghost use Rattle.match_machine.specs.Logs.{LeavesAll};
 
 use crate::event::Assignment;
 use crate::state::Kept;
@@ -237,8 +238,43 @@ impl Trail {
     }
 
     /// Keeps a choice. Takes memory only where a log has to grow.
-    #[inline(never)]
+    #[inline(always)]
     pub fn keep(&mut self, kept: Kept, place: usize, cursor: usize) -> Result<(), AllocError>
+        ensures { OnOk result
+            (self.new ≡ record self.old {
+              backs = record {
+                kept = kept;
+                thread = record {
+                  code = self.old.code;
+                  place = place;
+                  cursor = cursor;
+                  notes = self.old.notes;
+                  pending = self.old.pending;
+                };
+              } ∷ self.old.backs;
+            }) }
+    {
+        let (log, pending, codes) = (self.log.len(), self.pending.len(), self.codes.len());
+        let (count, room) = (self.choices.len(), self.choices.capacity());
+        if !self.stored || count >= room {
+            return self.keep_growing(kept, place, cursor);
+        }
+        self.choices.push(Choice {
+            kept,
+            place,
+            cursor,
+            head: self.head,
+            log,
+            pending,
+            codes,
+        })?;
+        Ok(())
+    }
+
+    /// The same, where the code isn't stored yet or the choices have no room. Apart, so that the other way is short.
+    #[cold]
+    #[inline(never)]
+    fn keep_growing(&mut self, kept: Kept, place: usize, cursor: usize) -> Result<(), AllocError>
         ensures { OnOk result
             (self.new ≡ record self.old {
               backs = record {
@@ -302,6 +338,36 @@ impl Trail {
     /// Back to the newest choice, if there is one.
     #[inline(always)]
     pub fn back(&mut self) -> Result<Option<Choice>, AllocError>
+        ensures { IfOk result (λ o.
+            MatchOption o (self.old.backs ≡ []) (λ x.
+            self.old.backs ≡ record {
+              kept = x.kept;
+              thread = record {
+                code = self.new.code;
+                place = x.place;
+                cursor = x.cursor;
+                notes = self.new.notes;
+                pending = self.new.pending;
+              };
+            } ∷ self.new.backs)) }
+    {
+        let choices = self.choices.as_slice();
+        let (log, pending, codes) = (self.log.len(), self.pending.len(), self.codes.len());
+        if !self.stored || !leaves_all(choices, log, pending, codes) {
+            return self.back_cutting();
+        }
+        match self.choices.pop() {
+            Some(choice) => {
+                self.head = choice.head;
+                Ok(Some(choice))
+            }
+            None => Ok(None),
+        }
+    }
+
+    /// The same, where a log may have to be cut. Apart, so that the other way is short.
+    #[inline(never)]
+    fn back_cutting(&mut self) -> Result<Option<Choice>, AllocError>
         ensures { IfOk result (λ o.
             MatchOption o (self.old.backs ≡ []) (λ x.
             self.old.backs ≡ record {
@@ -397,6 +463,19 @@ fn left_at(log: &[Entry], head: usize) -> Result<Option<(PatCode, usize, usize)>
             let code = code.clone()?;
             Ok(Some((code, *place, list_below(head, entry.below))))
         }
+    }
+}
+
+/// Whether the newest choice leaves logs of these lengths as they are.
+#[inline(always)]
+fn leaves_all(choices: &[Choice], log: usize, pending: usize, codes: usize) -> bool
+    ensures { result ≡ true → LeavesAll choices.now log pending codes }
+{
+    match choices.last() {
+        Some(choice) => {
+            log <= choice.log && pending <= choice.pending && codes <= choice.codes
+        }
+        None => false,
     }
 }
 
