@@ -472,9 +472,7 @@ fn leaves_all(choices: &[Choice], log: usize, pending: usize, codes: usize) -> b
     ensures { result ≡ true → LeavesAll choices.now log pending codes }
 {
     match choices.last() {
-        Some(choice) => {
-            log <= choice.log && pending <= choice.pending && codes <= choice.codes
-        }
+        Some(choice) => { log <= choice.log && pending <= choice.pending && codes <= choice.codes }
         None => false,
     }
 }

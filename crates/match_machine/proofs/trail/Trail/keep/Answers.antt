@@ -1,4 +1,4 @@
-use Rattle.std.proofs.Common.{◌∷◌, ◌++◌, [], List, ◌∙◌, ap, sym, reverse}
+use Rattle.std.proofs.Common.{◌∷◌, [], List, ◌∙◌, ap, sym, reverse}
 use Rattle.std.proofs.lemmas.List.{append-nil}
 use Rattle.model.specs.Pattern.Steps.{Code}
 use Rattle.match_machine.specs.Standing.{Back}
