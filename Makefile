@@ -4,6 +4,10 @@ RT ?= rt
 DECK ?= examples/hello.sno
 INPUT ?=
 CRATE ?=
+PREFIX ?= /usr/local
+# What `install` puts into PREFIX.
+SNO ?= build/sno
+LIST ?= build/sno_list
 
 PROGRAM := crates/sno
 BENCHES := $(wildcard crates/bench_*)
@@ -14,7 +18,7 @@ BUILT := $(PROGRAM)/out/sno $(PROGRAM)/out/sno.by-rattle
 PARTS := $(foreach crate,$(shell tools/below sno 2>/dev/null),crates/$(crate)/src crates/$(crate)/specs crates/$(crate)/proofs)
 SOURCES := $(shell find crates.txt $(wildcard $(PARTS)) 2>/dev/null)
 
-.PHONY: help run try sno test decks bound damage wrong time check bench fmt clean toolchain program deck input
+.PHONY: help run try sno install uninstall test decks pages bound damage wrong time check bench fmt clean toolchain program deck input
 .DEFAULT_GOAL := help
 
 help: ## list the targets
@@ -54,15 +58,24 @@ build/sno: $(SOURCES) | program
 	@(cd $(PROGRAM) && echo END | ../../tools/progress "$(RT) run") >&2 || { echo "sno: not proved, or not built" >&2; exit 1; }
 	@cp $(PROGRAM)/out/sno build/sno.new && mv build/sno.new build/sno
 
+install: $(SNO) ## [PREFIX=folder]: put the proved program, manual pages and completion there (/usr/local if none is told)
+	@tools/install "$(DESTDIR)$(PREFIX)" $(SNO) $(LIST) && echo "install: in $(DESTDIR)$(PREFIX)"
+
+uninstall: ## [PREFIX=folder]: take away what install put there
+	@tools/install --remove "$(DESTDIR)$(PREFIX)" && echo "uninstall: from $(DESTDIR)$(PREFIX)"
+
 # A program that the gate proved is the one that `make run` runs, unless a source changed since the gate began.
 test: toolchain ## the gate: every proof from nothing, must-fail edits, tests, programs, decks (last line 'N passed, M failed')
 	@echo "test: proving every crate from nothing; this takes many minutes (all lines go to build/log)"
 	@mkdir -p build && touch build/began
-	@RT_JOBS=$${RT_JOBS:-$$(tools/jobs)} tools/progress "$(RT) ci" "tools/wrong --texts" "tests/docs" "tests/run $(BUILT)" "tests/pipe $(PROGRAM)/out/sno" "tests/bound --decks 100 $(PROGRAM)/out/sno"
+	@RT_JOBS=$${RT_JOBS:-$$(tools/jobs)} tools/progress "$(RT) ci" "tools/wrong --texts" "tests/docs $(PROGRAM)/out/sno" "tests/run $(BUILT)" "tests/pipe $(PROGRAM)/out/sno" "tests/bound --decks 100 $(PROGRAM)/out/sno"
 	@cp $(PROGRAM)/out/sno build/sno.new && touch -r build/began build/sno.new && mv build/sno.new build/sno
 
 decks: build/sno ## the decks of tests/ alone, on the proved program
 	@tests/run build/sno && tests/pipe build/sno
+
+pages: build/sno ## what the pages name and show, on the proved program
+	@tests/docs build/sno
 
 bound: build/sno ## 2,000 random decks on the proved program and on the reference of tests/, with steps and rules
 	@tests/bound build/sno --decks 2000
