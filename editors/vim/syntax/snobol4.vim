@@ -9,7 +9,7 @@ syntax sync fromstart
 " Statements.
 syntax match snobol4Bad /[^ ]/
 syntax match snobol4Separator /;/
-syntax match snobol4Mark /[()<>,=:\/+.$@?&|~-]\|\*\%(\%<73c\*\)\?/
+syntax match snobol4Mark "[()<>,=:/+.$@?&|~-]\|\*\%(\%<73c\*\)\?"
 syntax match snobol4Integer /[0-9]\%(\%<73c[0-9]\)*/
 syntax match snobol4Name /\a\%(\%<73c[A-Za-z0-9._]\)*/
 syntax match snobol4Call /\a\%(\%<73c[A-Za-z0-9._]\)*(\@=/
