@@ -11,14 +11,14 @@ const WIDEST: usize = 132;
 
 /// How lines are written: how wide, and whether in colours.
 #[derive(Clone, Copy, Debug)]
-pub(crate) struct Style {
+pub struct Style {
     width: usize,
     has_colours: bool,
 }
 
 impl Style {
     /// Lines of some width, from 40 to 132.
-    pub(crate) fn new(width: usize, has_colours: bool) -> Style {
+    pub fn new(width: usize, has_colours: bool) -> Style {
         Style {
             width: width.clamp(NARROWEST, WIDEST),
             has_colours,
@@ -44,6 +44,14 @@ fn byte_shown<W: Write>(byte: u8, out: &mut W) -> io::Result<()> {
         32..=126 => out.write_all(&[byte]),
         _ => write!(out, "\\x{byte:02x}"),
     }
+}
+
+/// Bytes, those that aren't printable as their numbers.
+pub(crate) fn printable<W: Write>(bytes: &[u8], out: &mut W) -> io::Result<()> {
+    for byte in bytes.iter().copied() {
+        byte_shown(byte, out)?;
+    }
+    Ok(())
 }
 
 /// The text of a card, on as many lines as it needs.

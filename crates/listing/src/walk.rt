@@ -55,6 +55,7 @@ pub(crate) struct Spot {
 }
 
 /// Where a walk over the bytes of cards has come to.
+#[derive(Drop)]
 pub(crate) struct Walk {
     quote: Option<u8>,
     number: u32,
