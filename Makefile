@@ -10,15 +10,17 @@ SNO ?= build/sno
 LIST ?= build/sno_list
 
 PROGRAM := crates/sno
+LISTER := crates/sno_list
 BENCHES := $(wildcard crates/bench_*)
 export RT
 # The program as the gate leaves it: as LLVM built it, and as Rattle's own compiler did.
 BUILT := $(PROGRAM)/out/sno $(PROGRAM)/out/sno.by-rattle
 # What a proof of the program reads, folders too, so that a file that goes is noticed.
-PARTS := $(foreach crate,$(shell tools/below sno 2>/dev/null),crates/$(crate)/src crates/$(crate)/specs crates/$(crate)/proofs)
-SOURCES := $(shell find crates.txt $(wildcard $(PARTS)) 2>/dev/null)
+PARTS = $(foreach crate,$(shell tools/below $(1) 2>/dev/null),$(foreach part,src specs proofs,crates/$(crate)/$(part)))
+SOURCES := $(shell find crates.txt $(wildcard $(call PARTS,sno)) 2>/dev/null)
+LISTER_SOURCES := $(shell find crates.txt $(wildcard $(call PARTS,sno_list)) 2>/dev/null)
 
-.PHONY: help run try sno install uninstall test decks pages bound damage wrong time check bench fmt clean toolchain program deck input
+.PHONY: help run try sno list install uninstall test decks pages bound damage wrong time check bench fmt clean toolchain program deck input
 .DEFAULT_GOAL := help
 
 help: ## list the targets
@@ -58,7 +60,15 @@ build/sno: $(SOURCES) | program
 	@(cd $(PROGRAM) && echo END | ../../tools/progress "$(RT) run") >&2 || { echo "sno: not proved, or not built" >&2; exit 1; }
 	@cp $(PROGRAM)/out/sno build/sno.new && mv build/sno.new build/sno
 
-install: $(SNO) ## [PREFIX=folder]: put the proved program, manual pages and completion there (/usr/local if none is told)
+list: deck build/sno_list ## DECK=file: list a deck with what is wrong in it, on the proved program sno_list
+	@build/sno_list $(DECK) || [ $$? -eq 3 ]
+
+build/sno_list: $(LISTER_SOURCES) | program
+	@echo "list: proving and building the program sno_list (all lines go to build/log)" >&2
+	@(cd $(LISTER) && ../../tools/progress "$(RT) run" < /dev/null) >&2 || [ -x $(LISTER)/out/sno_list ] || exit 1
+	@cp $(LISTER)/out/sno_list build/sno_list.new && mv build/sno_list.new build/sno_list
+
+install: $(SNO) $(LIST) ## [PREFIX=folder]: put the proved programs, manual pages and completion there (/usr/local if none is told)
 	@tools/install "$(DESTDIR)$(PREFIX)" $(SNO) $(LIST) && echo "install: in $(DESTDIR)$(PREFIX)"
 
 uninstall: ## [PREFIX=folder]: take away what install put there
@@ -68,14 +78,14 @@ uninstall: ## [PREFIX=folder]: take away what install put there
 test: toolchain ## the gate: every proof from nothing, must-fail edits, tests, programs, decks (last line 'N passed, M failed')
 	@echo "test: proving every crate from nothing; this takes many minutes (all lines go to build/log)"
 	@mkdir -p build && touch build/began
-	@RT_JOBS=$${RT_JOBS:-$$(tools/jobs)} tools/progress "$(RT) ci" "tools/wrong --texts" "tests/docs $(PROGRAM)/out/sno" "tests/run $(BUILT)" "tests/pipe $(PROGRAM)/out/sno" "tests/bound --decks 100 $(PROGRAM)/out/sno"
+	@RT_JOBS=$${RT_JOBS:-$$(tools/jobs)} tools/progress "$(RT) ci" "tools/wrong --texts" "tests/docs $(PROGRAM)/out/sno $(LISTER)/out/sno_list" "tests/run $(BUILT)" "tests/pipe $(PROGRAM)/out/sno" "tests/bound --decks 100 $(PROGRAM)/out/sno"
 	@cp $(PROGRAM)/out/sno build/sno.new && touch -r build/began build/sno.new && mv build/sno.new build/sno
 
 decks: build/sno ## the decks of tests/ alone, on the proved program
 	@tests/run build/sno && tests/pipe build/sno
 
-pages: build/sno ## what the pages name and show, on the proved program
-	@tests/docs build/sno
+pages: build/sno build/sno_list ## what the pages name and show, on the proved program
+	@tests/docs build/sno build/sno_list
 
 bound: build/sno ## 2,000 random decks on the proved program and on the reference of tests/, with steps and rules
 	@tests/bound build/sno --decks 2000

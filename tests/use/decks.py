@@ -58,6 +58,8 @@ def page_checks(sno, page):
         same = (out.decode("latin-1"), told.decode("latin-1")) == (it.prints, it.told)
         what = f"what {by_whom} answers to the deck there: {out!r} {told!r}"
         yield f"{page.relative_to(ROOT)}:{it.line}", what, same
+        narrow = all(len(line) <= 72 for line in it.deck.splitlines())
+        yield f"{page.relative_to(ROOT)}:{it.line}", "cards of at most 72 columns", narrow
 
 
 def checks(sno):

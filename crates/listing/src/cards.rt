@@ -56,7 +56,7 @@ fn card_fault<W: Write>(
     sentence(style, INDENT, of_card(fault.rule), out)
 }
 
-fn note<W: Write>(style: Style, note: Note, out: &mut W) -> io::Result<()> {
+fn write_note<W: Write>(style: Style, note: Note, out: &mut W) -> io::Result<()> {
     loud(style, true, out)?;
     if let Some(column) = note.column {
         caret(style, column, out)?;
@@ -75,7 +75,7 @@ fn notes_of<'a, W: Write>(
 ) -> io::Result<&'a [Note]> {
     let count = notes.iter().take_while(|note| note.card == card).count();
     for here in notes.get(..count).unwrap_or(&[]) {
-        note(style, *here, out)?;
+        write_note(style, *here, out)?;
     }
     Ok(notes.get(count..).unwrap_or(&[]))
 }

@@ -2,8 +2,8 @@
 
 use crate::decks::{Trouble, list};
 use crate::errors::{Explained, error};
-use crate::terminal::style;
-use crate::words::{Job, job};
+use crate::terminal::output_style;
+use crate::words::{Job, read_job};
 use std::alloc::AllocError;
 use std::env::{self, Env};
 use std::fs::{self, Files};
@@ -92,7 +92,7 @@ fn list_deck<'a, R: Env + Files + Input + Print + AllocGlobal>(
     let Ok(mut out) = BufWriter::new(rt.alloc(), io::writer(rt)) else {
         return Err(Told::NoMemory);
     };
-    let is_faultless = match list(rt.alloc(), style(rt), has_code, &bytes, &mut out) {
+    let is_faultless = match list(rt.alloc(), output_style(rt), has_code, &bytes, &mut out) {
         Ok(is_faultless) => is_faultless,
         Err(trouble) => return Err(of_trouble(trouble)),
     };
@@ -122,7 +122,7 @@ fn answer<'a, R: Env + Files + Input + Print + AllocGlobal>(
     rt: &R,
     words: &[&'a str],
 ) -> Result<u8, Told<'a>> {
-    match job(words) {
+    match read_job(words) {
         None => Err(Told::BadCommandLine),
         Some(Job::List { deck, has_code }) => list_deck(rt, deck, has_code),
         Some(Job::Explain { error }) => explain(rt, error),

@@ -1,7 +1,7 @@
 //! The faults of a deck's statements, and where on its cards they are told.
 
 use crate::places::place;
-use crate::walk::{Joined, Spot, Walk, columns, joined, next_line};
+use crate::walk::{Joined, Spot, Walk, columns, joining, next_line};
 use model::{Cause, Deck, StmtFault};
 use std::alloc::{AllocError, Global};
 
@@ -16,7 +16,7 @@ pub(crate) struct Note {
 }
 
 // The note of a fault, told under the card where the statement begins.
-fn note(alloc: Global, deck: &Deck, fault: StmtFault) -> Result<Note, AllocError> {
+fn note_of(alloc: Global, deck: &Deck, fault: StmtFault) -> Result<Note, AllocError> {
     let index = fault.number.saturating_sub(1) as usize;
     let (card, place) = match deck.statements.as_slice().get(index) {
         Some(statement) => (
@@ -52,7 +52,7 @@ fn see(notes: &mut [Note], next: usize, spot: Spot, card: u32, column: usize) ->
 // Goes over a card.
 fn see_card(walk: &mut Walk, notes: &mut [Note], next: usize, card: u32, line: &[u8]) -> usize {
     let read = columns(line);
-    let skipped = match joined(read) {
+    let skipped = match joining(read) {
         Joined::Nothing => return next,
         Joined::Text => {
             walk.next_text();
@@ -94,7 +94,7 @@ pub(crate) fn notes(
 ) -> Result<Vec<Note>, AllocError> {
     let mut notes = Vec::new(alloc);
     for fault in faults.iter().copied() {
-        notes.push(note(alloc, deck, fault)?)?;
+        notes.push(note_of(alloc, deck, fault)?)?;
     }
     locate(bytes, notes.as_mut_slice());
     Ok(notes)

@@ -36,7 +36,7 @@ pub(crate) fn columns(line: &[u8]) -> &[u8] {
 }
 
 /// How a card with these columns goes on what stands before it.
-pub(crate) fn joined(columns: &[u8]) -> Joined {
+pub(crate) fn joining(columns: &[u8]) -> Joined {
     if columns.iter().all(|byte| *byte == b' ') {
         return Joined::Nothing;
     }

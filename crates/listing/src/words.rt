@@ -15,7 +15,7 @@ pub(crate) enum Job<'a> {
 }
 
 /// What the words after the program's name ask for; nothing where they are in no row of the table.
-pub(crate) fn job<'a>(words: &[&'a str]) -> Option<Job<'a>> {
+pub(crate) fn read_job<'a>(words: &[&'a str]) -> Option<Job<'a>> {
     let (deck, has_code) = match words {
         [] => (None, false),
         ["--code"] => (None, true),
