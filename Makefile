@@ -20,7 +20,7 @@ PARTS = $(foreach crate,$(shell tools/below $(1) 2>/dev/null),$(foreach part,src
 SOURCES := $(shell find crates.txt $(wildcard $(call PARTS,sno)) 2>/dev/null)
 LISTER_SOURCES := $(shell find crates.txt $(wildcard $(call PARTS,sno_list)) 2>/dev/null)
 
-.PHONY: help run try sno list install uninstall test decks pages bound damage wrong time check bench fmt clean toolchain program deck input
+.PHONY: help run try sno list install uninstall test decks pages bound damage wrong time check bench compare fmt clean toolchain program deck input
 .DEFAULT_GOAL := help
 
 help: ## list the targets
@@ -106,6 +106,9 @@ check: toolchain ## prove every crate over what earlier checks kept
 bench: toolchain ## prove, build and run the benchmark programs
 	@: $(if $(BENCHES),,$(error there are no benchmark programs yet: no crate crates/bench_*))
 	@for crate in $(BENCHES); do echo "bench: $$crate"; (cd $$crate && $(RT) run -- time < /dev/null) || exit 1; done
+
+compare: build/sno ## the workloads of bench/ on the proved program and on the others that are installed
+	@bench/compare build/sno
 
 fmt: toolchain ## lay out every crate's files
 	@for crate in crates/*/; do echo "fmt: $$crate"; (cd $$crate && $(RT) fmt) || exit 1; done

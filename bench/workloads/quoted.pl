@@ -2,9 +2,9 @@ while (my $line = <STDIN>) {
     chomp $line;
     my @fields;
     while ($line =~ /\G(?:"((?:[^"]|"")*)"|([^,]*))(,|$)/g) {
-        my $f = defined $1 ? $1 =~ s/""/"/gr : $2;
-        push @fields, $f;
-        last if $3 eq '';
+        my ($quoted, $bare, $end) = ($1, $2, $3);
+        push @fields, defined $quoted ? $quoted =~ s/""/"/gr : $bare;
+        last if $end eq '';
     }
     print scalar(@fields), " $fields[1]\n";
 }
