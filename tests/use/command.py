@@ -13,7 +13,10 @@ SECONDS = 60
 def run(words, given=b"", folder=None, **environment):
     """What a command prints, what it tells, and its exit status."""
     how = {"cwd": folder, "env": {**os.environ, **environment}, "timeout": SECONDS}
-    ran = subprocess.run([str(word) for word in words], input=given, capture_output=True, check=False, **how)
+    try:
+        ran = subprocess.run([str(word) for word in words], input=given, capture_output=True, check=False, **how)
+    except (OSError, subprocess.TimeoutExpired) as error:
+        return b"", str(error).encode(), 127
     return ran.stdout, ran.stderr, ran.returncode
 
 

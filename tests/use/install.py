@@ -30,8 +30,8 @@ def files_below(folder):
 
 def made(target, prefix, programs):
     """What `make` does for a target, with programs that are there already."""
-    words = ["make", "-s", target, f"PREFIX={prefix}", f"SNO={programs[0]}", f"LIST={programs[1]}"]
-    return run(words, folder=ROOT)
+    sno, other = (program if program.exists() else "" for program in programs)
+    return run(["make", "-s", target, f"PREFIX={prefix}", f"SNO={sno}", f"LIST={other}"], folder=ROOT)
 
 
 def page_checks(prefix):
