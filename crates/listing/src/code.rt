@@ -104,13 +104,12 @@ fn value_operands<W: Write>(image: &Image, instr: Instr, out: &mut W) -> io::Res
     }
 }
 
-fn instruction<W: Write>(
-    image: &Image,
-    offset: u32,
-    instr: Instr,
-    out: &mut W,
-) -> io::Result<()> {
-    write!(out, "                {offset:08x} {}", instruction_name(instr))?;
+fn instruction<W: Write>(image: &Image, offset: u32, instr: Instr, out: &mut W) -> io::Result<()> {
+    write!(
+        out,
+        "                {offset:08x} {}",
+        instruction_name(instr)
+    )?;
     call_operands(image, instr, out)?;
     way_operands(instr, out)?;
     value_operands(image, instr, out)?;

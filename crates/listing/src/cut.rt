@@ -2,6 +2,9 @@
 
 use std::alloc::{AllocError, Global};
 
+/// The bytes that are marks.
+const MARKS: &[u8] = b"()<>,=:*/+-.$@?&|~";
+
 /// What a piece is.
 #[derive(Clone, Copy, Debug, PartialEq, Eq)]
 pub(crate) enum Kind {
@@ -69,8 +72,7 @@ fn kind_of(byte: u8) -> Kind {
         b'A'..=b'Z' | b'a'..=b'z' => Kind::Word,
         b'0'..=b'9' => Kind::Digits,
         b'\'' | b'"' => Kind::Unclosed,
-        b'(' | b')' | b'<' | b'>' | b',' | b'=' | b':' | b'*' | b'/' | b'+' | b'-' | b'.'
-        | b'$' | b'@' | b'?' | b'&' | b'|' | b'~' => Kind::Mark,
+        _ if MARKS.contains(&byte) => Kind::Mark,
         _ => Kind::Stray,
     }
 }

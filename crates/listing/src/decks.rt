@@ -1,5 +1,9 @@
 //! A deck's listing as a whole.
 
+ghost use Rattle.std.specs.Prelude.{◌≡◌, List, IfOk, true};
+ghost use Rattle.model.specs.Deck.Trees as tree;
+ghost use Rattle.driver.specs.Compiled.{IsAccepted};
+
 use crate::cards::{Known, cards};
 use crate::lines::Style;
 use crate::notes::notes;
@@ -116,7 +120,10 @@ pub fn list<W: Write>(
     has_code: bool,
     bytes: &[u8],
     out: &mut W,
-) -> Result<bool, Trouble> {
+) -> Result<bool, Trouble>
+    // A deck of which that is said has trees, and each of its statements runs.
+    ensures faultless { IfOk result (λ f. f ≡ true → (ss : List tree.Stmt) × IsAccepted bytes.now ss) }
+{
     match compile_deck(alloc, bytes) {
         Ok(module) => {
             let module = has_code.then_some(module.as_slice());

@@ -19,7 +19,8 @@ pub(crate) fn of_card(rule: CardRule) -> &'static str {
         CardRule::NoEnd => {
             "The deck has no END statement; write END in column 1 of a last card, and look for a quote that isn't closed."
         }
-        CardRule::DeckTooLong => "The deck has more than 16,777,216 bytes; put what is data into a file that it reads.",
+        CardRule::DeckTooLong =>
+            "The deck has more than 16,777,216 bytes; put what is data into a file that it reads.",
         CardRule::StatementTooLong => {
             "The statement has more than 4,000 bytes; give parts of it to variables in statements of their own."
         }
@@ -38,18 +39,21 @@ fn of_tokens(cause: Cause) -> &'static str {
             "The literal that begins here isn't closed; write its quote again behind it, and a text that has one kind of \
              quote in it within the other kind."
         }
-        Cause::IntegerTooLarge => "The integer is over 9223372036854775807; write a smaller one, or a string of digits.",
+        Cause::IntegerTooLarge =>
+            "The integer is over 9223372036854775807; write a smaller one, or a string of digits.",
         Cause::TooManyBrackets => {
             "More than 64 brackets are open here; give what is in inner ones to a variable in a statement before."
         }
-        _ => "More than 16 marks stand here in a row; put some of what follows into brackets, or blanks between.",
+        _ =>
+            "More than 16 marks stand here in a row; put some of what follows into brackets, or blanks between.",
     }
 }
 
 /// What a faulty statement's cause means.
 pub(crate) fn of_cause(cause: Cause) -> &'static str {
     match cause {
-        Cause::NotYet => "The program doesn't run statements of this form yet; write it without this construct.",
+        Cause::NotYet =>
+            "The program doesn't run statements of this form yet; write it without this construct.",
         Cause::NoTree => {
             "The statement has no form that is permitted; look for binary operators without blanks on both sides, for a \
              blank behind a function's name, for brackets that don't match, and for a label that doesn't begin in column 1."

@@ -12,7 +12,9 @@ use std::process::ExitCode;
 
 /// Exit statuses, as `sno` has them.
 const BAD_WORDS: u8 = 2;
+
 const REFUSED: u8 = 3;
+
 const FAILED: u8 = 6;
 
 /// Why the program ends without what it was asked for.
@@ -47,7 +49,10 @@ fn read_arguments<R: Env + AllocGlobal>(rt: &R) -> Result<Vec<String>, Told<'sta
     Ok(words)
 }
 
-fn borrowed<'a, R: AllocGlobal>(rt: &R, arguments: &'a [String]) -> Result<Vec<&'a str>, AllocError> {
+fn borrowed<'a, R: AllocGlobal>(
+    rt: &R,
+    arguments: &'a [String],
+) -> Result<Vec<&'a str>, AllocError> {
     let mut words = Vec::new(rt.alloc());
     for argument in arguments {
         words.push(argument.as_str())?;

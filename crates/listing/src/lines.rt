@@ -7,6 +7,7 @@ const MARGIN: usize = 16;
 
 /// The least and the greatest width.
 const NARROWEST: usize = 40;
+
 const WIDEST: usize = 132;
 
 /// How lines are written: how wide, and whether in colours.
