@@ -67,7 +67,7 @@ first_writes x =
 first_io : (io : Io) → io ≡ record { left = io.left; printed = io.printed ++ [] }
 first_io io = ap (λ ps. record { left = io.left; printed = ps }) (sym (append-nil io.printed))
 
-pub first_holds : (h : WorldView) (io : Io) → h ≡ record { variables = first_variables; objects = []; keys = first_keys } → world_of h io ≡ after_w io.printed (first_m io.left)
+pub first_holds : (h : WorldView) (io : Io) → h ≡ record { variables = first_variables; objects = []; functions = []; keys = first_keys } → world_of h io ≡ after_w io.printed (first_m io.left)
 first_holds h io is =
     ap (λ z. world_of z io) is
     ∙ (λ i. record {

@@ -14,6 +14,7 @@ use Rattle.model.specs.Pattern.Steps.{Code}
 use Rattle.model.specs.Machine.Steps.{MVal, MW, codes_of}
 use Rattle.world.specs.Values.{value_of}
 use Rattle.world.specs.Objects.{object_map}
+use Rattle.world.specs.Functions.{Functions, functions_in}
 use Rattle.world.specs.declared.value.Value.{Value}
 use Rattle.world.specs.declared.value.Value.TheVariants as v
 use Rattle.world.specs.declared.world.Variable.{Variable}
@@ -23,6 +24,8 @@ pub record WorldView : Type 0 where
   pub variables : List (Bytes × Variable)
   -- arrays, tables and records, in the order of making
   pub objects : List (Object Value)
+  -- those that aren't primitive, by their names
+  pub functions : Functions
   pub keys : Keys
 
 abbrev pub variable_at : Bytes → List (Bytes × Variable) → Option Variable
@@ -51,7 +54,7 @@ world_of h io = record {
   vars = λ x. value_in (variable_at x h.variables);
   objects = map (object_map value_of) h.objects;
   plain = record {
-    functions = λ f. None;
+    functions = functions_in h.functions;
     keys = h.keys;
     reads = λ x. input_in (variable_at x h.variables);
     writes = λ x. output_in (variable_at x h.variables);

@@ -12,22 +12,30 @@
 //! CALLING.md tells how answers are stated.
 #![tactic(auto)]
 
+mod arguments;
 mod arithmetic;
 mod associations;
+mod calls;
 mod conversions;
 mod counts;
 mod elements;
 mod fault;
+mod functions;
 mod items;
 mod making;
 mod operators;
+mod records;
+mod types;
 mod unit_calls;
 mod value;
 mod world;
 mod world_operators;
 
+pub use arguments::argument;
 pub use arithmetic::{arith, sign};
+pub use calls::{Given, Kept};
 pub use fault::Fault;
+pub use functions::Function;
 pub use operators::{alt, cond, cursor, imm, indir};
 pub use value::Value;
 pub use world::World;

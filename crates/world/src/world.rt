@@ -14,6 +14,7 @@ ghost use Rattle.world.specs.Held.{with_variable, pattern_variable, first_patter
 ghost use Rattle.world.specs.declared.value.Value.TheVariants.{String};
 ghost use Rattle.world.specs.declared.world.Variable.{Variable};
 
+use crate::functions::FunctionTable;
 use crate::value::Value;
 use aggregates::Heap;
 use indexmap::IndexMap;
@@ -80,6 +81,7 @@ impl Variable {
 pub struct World {
     variables: IndexMap<Text, Variable>,
     pub(crate) heap: Heap<Value>,
+    pub(crate) functions: FunctionTable,
     pub(crate) keywords: Keywords,
 }
 
@@ -88,6 +90,7 @@ impl Drop for World {
         let World {
             variables: _,
             heap: _,
+            functions: _,
             keywords: _,
         } = self;
     }
@@ -101,6 +104,7 @@ impl Model for World {
     ghost view = { λ w. record {
       variables = w.variables.entries;
       objects = w.heap;
+      functions = w.functions;
       keys = w.keywords;
     } };
 }
@@ -117,6 +121,7 @@ impl World {
         let mut world = World {
             variables: IndexMap::new(alloc),
             heap: Heap::new(alloc),
+            functions: FunctionTable::new(alloc),
             keywords,
         };
         world.put_patterns(alloc)?;
