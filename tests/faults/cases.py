@@ -17,7 +17,7 @@ DECKS_TAKEN = 50
 
 
 class Case(typing.NamedTuple):
-    """A deck, the words after `run deck.module`, standard input, and the files that the words name, as they are before."""
+    """A deck, the words after `run deck.module`, standard input, and the files of the words as they are before."""
 
     name: str
     deck: bytes

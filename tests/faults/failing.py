@@ -1,8 +1,8 @@
 """Lets each read and write fail in turn, and compares what a run does then with the reference.
 
-The decks are those of decks/failing/, which read and write several units, and one that copies records. `tests_failing K`
-runs them on units whose call K fails, for each K until none fails; what it prints on each unit, tells, and its status
-are those of the reference with such units. Then the calls of the system fail in turn in the program itself: each read,
+The decks are those of decks/failing/, which read and write several units, and one that copies records. The program
+`tests_failing` runs them on units whose call K fails, for each K until none fails; what it prints on each unit, tells,
+and its status are those of the reference with such units. Then the calls of the system fail in turn in the program itself: each read,
 write and opening of a file; it answers as before, or tells what can't be read or written, having printed a beginning.
 Where calls move one byte or are interrupted, it answers as before. The last line is `N passed, M failed`.
 """

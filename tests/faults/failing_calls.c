@@ -25,7 +25,8 @@
  * open. */
 enum kind { NONE, GROWTH, READ, WRITE, OPEN, SHORT_READ, SHORT_WRITE, READ_AGAIN, WRITE_AGAIN, SPACE, FILED, KINDS };
 static const char *const names[KINDS] = {
-    "none", "growth", "read", "write", "open", "short_read", "short_write", "read_again", "write_again", "space", "file",
+    "none",        "growth",     "read",        "write", "open", "short_read",
+    "short_write", "read_again", "write_again", "space", "file",
 };
 
 /* What a run is asked for and tells, in memory that it shares with its parent. */
