@@ -1,8 +1,10 @@
 //! A deck's listing as a whole.
 
-ghost use Rattle.std.specs.Prelude.{◌≡◌, List, IfOk, true};
+ghost use Rattle.std.specs.Prelude.{◌≡◌, ◌≢◌, List, IfOk, true, false};
 ghost use Rattle.model.specs.Deck.Trees as tree;
-ghost use Rattle.driver.specs.Compiled.{IsAccepted};
+ghost use Rattle.driver.specs.declared.refusal.Refusal as reasons;
+ghost use Rattle.driver.specs.declared.refusal.Refusal.TheVariants.{Memory};
+ghost use Rattle.driver.specs.Compiled.{IsAccepted, IsRefusalOf};
 
 use crate::cards::{Known, cards};
 use crate::lines::Style;
@@ -123,6 +125,9 @@ pub fn list<W: Write>(
 ) -> Result<bool, Trouble>
     // A deck of which that is said has trees, and each of its statements runs.
     ensures faultless { IfOk result (λ f. f ≡ true → (ss : List tree.Stmt) × IsAccepted bytes.now ss) }
+    // Any other is refused, by exactly its faults.
+    ensures faulty { IfOk result (λ f. f ≡ false → (why : reasons.Refusal)
+        × IsRefusalOf bytes.now why × (why ≢ Memory)) }
 {
     match compile_deck(alloc, bytes) {
         Ok(module) => {

@@ -6,8 +6,8 @@
 //!     let status = run(&runtime, &mut errors);
 //!     let is_faultless = list(alloc, Style::new(80, false), false, b"END\n", &mut out)?;
 //!
-//! Nothing is proved of it but that it returns. What a deck's faults are, and where its statements begin, it has from
-//! `compile_deck` and `read_deck`.
+//! Promised, of `list`: a deck that it calls faultless has trees and each of its statements runs; any other is refused by
+//! exactly its faults. Lines, carets, sentences, words and statuses are tested.
 #![tactic(auto)]
 
 mod cards;
