@@ -94,7 +94,7 @@ pub(crate) fn data(
     ensures unchanged { OnErr result (world.new ≡ world.old) }
 {
     let text = prototype.to_text(alloc)?;
-    let Some(prototype) = type_prototype(alloc, world.level(), text.as_slice())? else {
+    let Some(prototype) = type_prototype(alloc, world.module_level(), text.as_slice())? else {
         return Err(Fault::Error(ErrorCode::BadPrototype));
     };
     world.data(alloc, &prototype)?;

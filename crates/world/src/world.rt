@@ -135,7 +135,7 @@ impl World {
     }
 
     /// The level of the module that runs.
-    pub fn level(&self) -> Level
+    pub fn module_level(&self) -> Level
         ensures { result ≡ self.now.level }
     {
         self.level
