@@ -11,6 +11,7 @@
 //! CALLING.md has the clauses, and how an instruction is added.
 #![tactic(auto)]
 
+mod callers;
 mod calls;
 mod elements;
 mod failing;
@@ -19,6 +20,7 @@ mod instructions;
 mod machine;
 mod matches;
 mod operators;
+mod resuming;
 mod run;
 mod state;
 mod status;
