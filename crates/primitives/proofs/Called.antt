@@ -1,5 +1,5 @@
 -- What APPLY calls.
-use Rattle.std.proofs.Common.{◌≡◌, ℕ, ◌<◌, ◌≤◌, List, ◌∷◌, length, Bool, true, false, nat_lt, map, Option, Some, None, Ok, Err, sym, ap, subst, ◌∙◌, arith}
+use Rattle.std.proofs.Common.{◌≡◌, ◌<◌, ◌≤◌, List, ◌∷◌, length, Bool, true, false, nat_lt, map, Some, None, Ok, Err, ap, subst, ◌∙◌, arith}
 use Rattle.std.specs.Borrow.{Bor}
 use Rattle.std.specs.Prelude.{if◌then◌else◌}
 use Rattle.std.proofs.lemmas.Bool.Decides.{nat_tests}
@@ -9,9 +9,9 @@ use Rattle.model.specs.declared.primitives.PrimId.TheVariants as p
 use Rattle.model.specs.declared.run.ErrorCode.TheVariants as error
 use Rattle.model.specs.Deck.Trees.{Bytes}
 use Rattle.model.specs.Language.Names.{prim_at, most_args}
-use Rattle.model.specs.Language.Conversions.{Conv, Got, Op, Gives, Faults, conv, to_variable}
-use Rattle.model.specs.Machine.Steps.{PCode, MVal, MW, codes_of}
-use Rattle.model.specs.Language.Primitives.{Outcome, Calls, applied, prim_op}
+use Rattle.model.specs.Language.Conversions.{Conv, Got, Gives, Faults, conv, to_variable}
+use Rattle.model.specs.Machine.Steps.{MVal, MW, codes_of}
+use Rattle.model.specs.Language.Primitives.{Calls, applied, prim_op}
 use Rattle.world.specs.Answers.{Converts}
 use Rattle.world.specs.declared.fault.Fault.{Fault}
 use Rattle.world.specs.declared.fault.Fault.TheVariants as fault

@@ -81,11 +81,7 @@ pub(crate) fn item(arguments: &[Value], world: &World) -> Result<Outcome, Fault>
 }
 
 /// DATA.
-pub(crate) fn data(
-    alloc: Global,
-    prototype: &Value,
-    world: &mut World,
-) -> Result<Outcome, Fault>
+pub(crate) fn data(alloc: Global, prototype: &Value, world: &mut World) -> Result<Outcome, Fault>
     ensures answer { (io : Io)
         → ComesTo result (world_of world.new io)
         (returned (conv (to_text (value_of prototype.now)) (world_of world.old io) (λ s.

@@ -2,7 +2,7 @@
 use Rattle.std.specs.Prelude.{◌≡◌, ℕ, ◌+◌, ◌<◌, List, [], ◌∷◌, ◌++◌, length, take, drop, get_or, Option, Some, None}
 use Rattle.std.specs.Borrow.{Bor}
 use Rattle.model.specs.Deck.Trees.{Bytes}
-use Rattle.model.specs.Language.Prototypes.{Cut, cut_at, FunctionPrototype, TypePrototype}
+use Rattle.model.specs.Language.Prototypes.{cut_at, FunctionPrototype, TypePrototype}
 
 -- the text is cut so at the first such byte, which is gone
 abbrev pub IsCut : ℕ → Bytes → Option (Bor Bytes × Bor Bytes) → Type 0

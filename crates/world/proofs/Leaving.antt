@@ -1,5 +1,5 @@
 -- The end of a call.
-use Rattle.std.proofs.Common.{◌≡◌, ℕ, ℤ, List, [], Option, Some, None, Result, Ok, Err, refl, sym, ap, subst, ◌∙◌}
+use Rattle.std.proofs.Common.{◌≡◌, ℕ, ℤ, List, [], Option, Some, None, Result, Ok, Err, sym, ap, subst, ◌∙◌}
 use Rattle.std.specs.Prelude.{option_map}
 use Rattle.model.specs.declared.instr.ReturnKind.{ReturnKind}
 use Rattle.model.specs.declared.instr.ReturnKind.TheVariants as kind
@@ -25,7 +25,7 @@ use Rattle.world.specs.Held.{WorldView, world_of}
 use Rattle.world.specs.Values.{value_of}
 use Rattle.world.specs.declared.calls.Given.TheVariants as given
 use Rattle.world.specs.declared.value.Value.{Value}
-use Rattle.world.specs.Answers.{AnswersOrFails, answer_map}
+use Rattle.world.specs.Answers.{AnswersOrFails}
 use Rattle.world.specs.Calling.{LeavesTo, given_of, kept_with, saved_as, saved_by}
 use Rattle.world.specs.declared.calls.Kept.{Kept}
 use Rattle.world.specs.declared.calls.Given.{Given}

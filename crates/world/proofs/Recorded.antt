@@ -1,16 +1,14 @@
 -- Records that are made, and the names of their fields.
-use Rattle.std.proofs.Common.{◌≡◌, ℕ, zero, suc, ◌+◌, ◌<◌, List, [], ◌∷◌, ◌++◌, length, map, take, drop, get_or, Option, Some, None, refl, sym, ap, ◌∙◌, arith}
+use Rattle.std.proofs.Common.{◌≡◌, ℕ, suc, ◌+◌, ◌<◌, List, [], ◌∷◌, ◌++◌, length, map, take, get_or, Option, Some, None, refl, sym, ap, ◌∙◌, arith}
 use Rattle.std.specs.Prelude.{slice_get, option_map}
 use Rattle.std.proofs.lemmas.Option.{slice_get-map}
 use Rattle.std.proofs.lemmas.List.{length-take-le, map_push, take_more}
-use Rattle.model.specs.declared.run.ErrorCode.TheVariants as error
 use Rattle.model.specs.declared.image.Level.{Level}
 use Rattle.model.specs.Deck.Trees.{Bytes}
 use Rattle.model.specs.Language.Io.{Io}
-use Rattle.model.specs.Deck.Target.{Name, Element}
 use Rattle.model.specs.Language.Values.{Obj, Object, ArrayOf, TableOf, RecordOf}
-use Rattle.model.specs.Language.Conversions.{Op, Gives, Faults, then_op}
-use Rattle.model.specs.Language.Calls.{AValue, AName, arg_at, construct_op, select_op}
+use Rattle.model.specs.Language.Conversions.{Gives, then_op}
+use Rattle.model.specs.Language.Calls.{AValue, arg_at, construct_op}
 use Rattle.model.specs.Language.Keywords.{Keys}
 use Rattle.model.specs.Language.Aggregates as model
 use Rattle.model.specs.Language.Aggregates.{new_object, field_values, field_op, named_field}

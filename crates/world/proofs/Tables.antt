@@ -1,5 +1,5 @@
 -- Functions by their names.
-use Rattle.std.proofs.Common.{◌≡◌, List, [], Bool, true, false, cond, Option, Some, None, refl, sym, ap, subst, ◌∙◌, bytes_eq}
+use Rattle.std.proofs.Common.{◌≡◌, [], Bool, true, false, cond, Option, Some, None, refl, sym, ap, subst, ◌∙◌, bytes_eq}
 use Rattle.std.specs.Prelude.{IfSome, option_map, if◌then◌else◌}
 use Rattle.std.specs.Option.{option_copied}
 use Rattle.std.specs.Borrow.{Bor}

@@ -98,10 +98,7 @@ impl FunctionTable {
     }
 
     /// Puts functions in the places of those that have their names.
-    pub(crate) fn append(
-        &mut self,
-        functions: IndexMap<Text, Function>,
-    ) -> Result<(), AllocError>
+    pub(crate) fn append(&mut self, functions: IndexMap<Text, Function>) -> Result<(), AllocError>
         requires unique { IsUnique bytes_eq functions }
         requires named { (x : Bytes) → IfNamed x (function_at x functions.entries) }
         ensures ok { OnOk result ((x : Bytes) → function_at x self.new

@@ -1,4 +1,4 @@
-use Rattle.std.proofs.Common.{◌≡◌, ap, map, sym, ◌∙◌, take, arith}
+use Rattle.std.proofs.Common.{◌≡◌, ap, map, ◌∙◌, take, arith}
 use Rattle.std.proofs.lemmas.Grind.{common_steps}
 use Rattle.world.specs.Values.{value_of}
 use Rattle.world.proofs.Recorded.{all_values, values_from, values_turn}

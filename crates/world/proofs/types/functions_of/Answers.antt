@@ -1,4 +1,4 @@
-use Rattle.std.proofs.Common.{◌≡◌, ap, sym, ◌∙◌, take, arith}
+use Rattle.std.proofs.Common.{◌≡◌, ap, ◌∙◌, take, arith}
 use Rattle.std.proofs.lemmas.Grind.{common_steps}
 use Rattle.world.specs.Functions.{function_of_type}
 use Rattle.world.proofs.TypeFunctions.{constructor_first, field_turn}

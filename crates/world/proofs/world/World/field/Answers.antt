@@ -1,4 +1,4 @@
-use Rattle.std.proofs.Common.{Some, sym, ap, ◌∙◌}
+use Rattle.std.proofs.Common.{sym, ap, ◌∙◌}
 use Rattle.model.specs.Language.Aggregates.{field_op, named_field}
 use Rattle.world.specs.Held.{world_of}
 use Rattle.world.specs.Values.{value_of}
