@@ -3,11 +3,12 @@ use Rattle.std.proofs.Common.{◌≡◌, ◌<◌, ◌≤◌, List, ◌∷◌, le
 use Rattle.std.specs.Borrow.{Bor}
 use Rattle.std.specs.Prelude.{if◌then◌else◌}
 use Rattle.std.proofs.lemmas.Bool.Decides.{nat_tests}
+use Rattle.model.specs.declared.image.Level.{Level}
 use Rattle.model.specs.declared.primitives.PrimId.{PrimId}
 use Rattle.model.specs.declared.primitives.PrimId.TheVariants as p
 use Rattle.model.specs.declared.run.ErrorCode.TheVariants as error
 use Rattle.model.specs.Deck.Trees.{Bytes}
-use Rattle.model.specs.Language.Names.{prim_named, most_args}
+use Rattle.model.specs.Language.Names.{prim_at, most_args}
 use Rattle.model.specs.Language.Conversions.{Conv, Got, Gives, Faults, conv, to_variable}
 use Rattle.model.specs.Machine.Steps.{MVal, MW, codes_of}
 use Rattle.model.specs.Language.Primitives.{Calls, applied, prim_op}
@@ -21,29 +22,31 @@ use Rattle.primitives.specs.Calling.{IsApplied, IsOtherApplied, IsReached}
 use Rattle.primitives.specs.declared.applying.Applied.{Applied}
 use Rattle.primitives.specs.declared.applying.Applied.TheVariants as applied_to
 
-module _ (v : MVal) (vs : List MVal) (f : Bytes) (w : MW) (is : to_variable v ≡ Got f) where
-  by_name : prim_op codes_of p.Apply (v ∷ vs) w ≡ applied f vs w (λ q. prim_op codes_of q vs w) (prim_named f)
-  by_name = ap (λ (c : Conv Bytes). conv c w (λ g. applied g vs w (λ q. prim_op codes_of q vs w) (prim_named g))) is
+module _ (v : MVal) (vs : List MVal) (f : Bytes) (l : Level) (w : MW) (at : w.plain.level ≡ l) (is : to_variable v ≡ Got f) where
+  by_name : prim_op codes_of p.Apply (v ∷ vs) w ≡ applied f vs w (λ q. prim_op codes_of q vs w) (prim_at l f)
+  by_name =
+      ap (λ (c : Conv Bytes). conv c w (λ g. applied g vs w (λ q. prim_op codes_of q vs w) (prim_at w.plain.level g))) is
+      ∙ ap (λ k. applied f vs w (λ q. prim_op codes_of q vs w) (prim_at k f)) at
 
-  pub calls_function : prim_named f ≡ None → prim_op codes_of p.Apply (v ∷ vs) w ≡ Gives (Calls f vs) w
+  pub calls_function : prim_at l f ≡ None → prim_op codes_of p.Apply (v ∷ vs) w ≡ Gives (Calls f vs) w
   calls_function none = by_name ∙ ap (applied f vs w (λ q. prim_op codes_of q vs w)) none
 
-  counted : (q : PrimId) (b : Bool) → prim_named f ≡ Some q → nat_lt (most_args q) (length vs) ≡ b
+  counted : (q : PrimId) (b : Bool) → prim_at l f ≡ Some q → nat_lt (most_args q) (length vs) ≡ b
       → prim_op codes_of p.Apply (v ∷ vs) w ≡ (if b then Faults error.TooManyArguments w else prim_op codes_of q vs w)
   counted q b named many =
       by_name
       ∙ ap (applied f vs w (λ r. prim_op codes_of r vs w)) named
       ∙ ap (λ x. if x then Faults error.TooManyArguments w else prim_op codes_of q vs w) many
 
-  pub calls_primitive : (q : PrimId) → prim_named f ≡ Some q → length vs ≤ most_args q → prim_op codes_of p.Apply (v ∷ vs) w ≡ prim_op codes_of q vs w
+  pub calls_primitive : (q : PrimId) → prim_at l f ≡ Some q → length vs ≤ most_args q → prim_op codes_of p.Apply (v ∷ vs) w ≡ prim_op codes_of q vs w
   calls_primitive q named few = counted q false named (grind (arith, nat_tests, few))
 
-  pub too_many : (q : PrimId) → prim_named f ≡ Some q → most_args q < length vs → prim_op codes_of p.Apply (v ∷ vs) w ≡ Faults error.TooManyArguments w
+  pub too_many : (q : PrimId) → prim_at l f ≡ Some q → most_args q < length vs → prim_op codes_of p.Apply (v ∷ vs) w ≡ Faults error.TooManyArguments w
   too_many q named many = counted q true named (grind (arith, nat_tests, many))
 
 -- what isn't the name of a variable
 pub not_applied : (v : MVal) (vs : List MVal) (w : MW) (e : Fault) → Converts {A = Bytes} (Err e) (to_variable v) → IsApplied (Err e) (v ∷ vs) w
-not_applied v vs w (fault.Error e) h = ap (λ (c : Conv Bytes). conv c w (λ g. applied g vs w (λ q. prim_op codes_of q vs w) (prim_named g))) h
+not_applied v vs w (fault.Error e) h = ap (λ (c : Conv Bytes). conv c w (λ g. applied g vs w (λ q. prim_op codes_of q vs w) (prim_at w.plain.level g))) h
 not_applied v vs w (fault.Stop s) h = tt
 
 -- ---- what APPLY calls at last, after these arguments of its own

@@ -9,11 +9,11 @@ use Rattle.model.specs.Language.Prototypes.{FunctionPrototype, function_prototyp
 use Rattle.model.specs.Machine.Steps.{MVal, MW}
 use Rattle.primitives.specs.Calling.{define_row}
 
-pub defined : (a b null : MVal) (s : Bytes) (l : Option Bytes) (f : FunctionPrototype) (w w1 : MW) → to_text a ≡ Got s → to_entry_label b ≡ Got l → function_prototype s ≡ Some f
+pub defined : (a b null : MVal) (s : Bytes) (l : Option Bytes) (f : FunctionPrototype) (w w1 : MW) → to_text a ≡ Got s → to_entry_label b ≡ Got l → function_prototype w.plain.level s ≡ Some f
     → define_op l (Some f) w ≡ Gives (Str []) w1 → Str [] ≡ null → returned (define_row a b w) ≡ Gives (Returns (AValue null)) w1
 defined a b null s l f w w1 text label prototype made is =
-    ap (λ c. returned (conv c w (λ t. conv (to_entry_label b) w (λ k. define_op k (function_prototype t) w)))) text
-    ∙ ap (λ c. returned (conv c w (λ k. define_op k (function_prototype s) w))) label
+    ap (λ c. returned (conv c w (λ t. conv (to_entry_label b) w (λ k. define_op k (function_prototype w.plain.level t) w)))) text
+    ∙ ap (λ c. returned (conv c w (λ k. define_op k (function_prototype w.plain.level s) w))) label
     ∙ ap (λ p. returned (define_op l p w)) prototype
     ∙ ap returned made
     ∙ ap (λ v. Gives (Returns (AValue v)) w1) is

@@ -15,7 +15,7 @@ use Rattle.primitives.specs.declared.applying.Applied.{Applied}
 use Rattle.primitives.specs.declared.applying.Applied.TheVariants as applied
 
 abbrev pub define_row : MVal → MVal → MW → Op MW MVal
-define_row a b w = conv (to_text a) w (λ s. conv (to_entry_label b) w (λ l. define_op l (function_prototype s) w))
+define_row a b w = conv (to_text a) w (λ s. conv (to_entry_label b) w (λ l. define_op l (function_prototype w.plain.level s) w))
 
 -- unless it stopped, this is what APPLY calls with the other arguments, or its error
 abbrev pub IsApplied : Result Applied Fault → List MVal → MW → Type 0

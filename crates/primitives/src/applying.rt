@@ -7,7 +7,7 @@ ghost use Rattle.world.specs.Answers.{IfStopped};
 ghost use Rattle.world.specs.Values.{value_of};
 ghost use Rattle.primitives.specs.Calling.{IsApplied, IsApplyIf, IsReached};
 
-use model::{ErrorCode, PrimId};
+use model::{ErrorCode, Level, PrimId};
 use std::alloc::{AllocError, Global};
 use strings::Text;
 use world::{Fault, Value};
@@ -19,13 +19,19 @@ pub(crate) enum Applied {
     Function(Text),
 }
 
-// What APPLY calls by a name with other arguments, of which a primitive takes no more than it may.
-fn applied_to(alloc: Global, name: &Value, others: &[Value]) -> Result<Applied, Fault>
-    ensures applied { (w : MW) → IsApplied result (value_of name.now ∷ map value_of others.now) w }
+// What APPLY calls by a name at a level with other arguments, of which a primitive takes no more than it may.
+fn applied_to(
+    alloc: Global,
+    level: Level,
+    name: &Value,
+    others: &[Value],
+) -> Result<Applied, Fault>
+    ensures applied { (w : MW) → w.plain.level ≡ level
+        → IsApplied result (value_of name.now ∷ map value_of others.now) w }
     ensures stop { IfStopped result (λ stop. stop ≡ NoMemory) }
 {
     let name = name.to_variable(alloc)?;
-    let Some(id) = PrimId::named(name.as_slice()) else {
+    let Some(id) = PrimId::named_at(level, name.as_slice()) else {
         return Ok(Applied::Function(name));
     };
     if id.most_arguments() < others.len() {
@@ -43,14 +49,19 @@ impl Applied {
     }
 }
 
-/// What APPLY calls at last, by its arguments, and the arguments for that. It may call itself on the way.
-pub(crate) fn apply(alloc: Global, arguments: &[Value]) -> Result<(Applied, &[Value]), Fault>
-    ensures applied { (w : MW) → IsReached result (map value_of arguments.now) w }
+/// What APPLY calls at last at a level, by its arguments, and the arguments for that. It may call itself on the way.
+pub(crate) fn apply(
+    alloc: Global,
+    level: Level,
+    arguments: &[Value],
+) -> Result<(Applied, &[Value]), Fault>
+    ensures applied { (w : MW) → w.plain.level ≡ level
+        → IsReached result (map value_of arguments.now) w }
     ensures stop { IfStopped result (λ stop. stop ≡ NoMemory) }
 {
     let mut rest = arguments;
     while let Some((name, others)) = rest.split_first() {
-        let applied = applied_to(alloc, name, others)?;
+        let applied = applied_to(alloc, level, name, others)?;
         if !applied.is_apply() {
             return Ok((applied, others));
         }

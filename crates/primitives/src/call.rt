@@ -51,7 +51,7 @@ fn call_applied(alloc: Global, arguments: &[Value], world: &mut World) -> Result
     ensures stop { IfStopped result (λ stop. stop ≡ NoMemory) }
     ensures unchanged { OnErr result (world.new ≡ world.old) }
 {
-    let (applied, others) = apply(alloc, arguments)?;
+    let (applied, others) = apply(alloc, world.module_level(), arguments)?;
     match applied {
         Applied::Primitive(id) => call_other(alloc, id, others, world),
         Applied::Function(name) => Ok(Outcome::Call(name, copied(alloc, others)?)),

@@ -43,7 +43,7 @@ pub(crate) fn define(
 {
     let text = prototype.to_text(alloc)?;
     let entry = entry_label(alloc, label)?;
-    let Some(prototype) = function_prototype(alloc, text.as_slice())? else {
+    let Some(prototype) = function_prototype(alloc, world.module_level(), text.as_slice())? else {
         return Err(Fault::Error(ErrorCode::BadPrototype));
     };
     world.define(entry, prototype)?;

@@ -85,12 +85,12 @@ pub(crate) fn data(alloc: Global, prototype: &Value, world: &mut World) -> Resul
     ensures answer { (io : Io)
         → ComesTo result (world_of world.new io)
         (returned (conv (to_text (value_of prototype.now)) (world_of world.old io) (λ s.
-        data_op (type_prototype s) (world_of world.old io)))) }
+        data_op (type_prototype world.old.level s) (world_of world.old io)))) }
     ensures stop { IfStopped result (λ stop. stop ≡ NoMemory) }
     ensures unchanged { OnErr result (world.new ≡ world.old) }
 {
     let text = prototype.to_text(alloc)?;
-    let Some(prototype) = type_prototype(alloc, text.as_slice())? else {
+    let Some(prototype) = type_prototype(alloc, world.module_level(), text.as_slice())? else {
         return Err(Fault::Error(ErrorCode::BadPrototype));
     };
     world.data(alloc, &prototype)?;

@@ -2,6 +2,7 @@
 use Rattle.std.proofs.Common.{◌≡◌, length, Bool, true, false, not, nat_lt, Option, Some, None, refl, ap, ◌∙◌}
 use Rattle.std.specs.Prelude.{◌&&◌, ◌==◌, bytes_eq, if◌then◌else◌, ◌∷◌}
 use Rattle.std.specs.List.{list_any, list_all}
+use Rattle.model.specs.declared.image.Level.{Level}
 use Rattle.model.specs.Language.Prototypes.{TypePrototype, passing, is_name, are_distinct, is_primitive, is_type, own_types}
 
 abbrev pub nothing_behind : TypePrototype → Bool
@@ -18,12 +19,12 @@ no_end true true true true o = refl
 no_end true true true false true = refl
 no_end true true true false false = refl
 
-pub checked : (o : Option TypePrototype) → passing is_type o ≡ passing is_type (passing nothing_behind o)
-checked None = refl
-checked (Some t) = go (nothing_behind t) refl
+pub checked : (l : Level) (o : Option TypePrototype) → passing (is_type l) o ≡ passing (is_type l) (passing nothing_behind o)
+checked l None = refl
+checked l (Some t) = go (nothing_behind t) refl
   where
-    go : (b : Bool) → nothing_behind t ≡ b → passing is_type (Some t) ≡ passing is_type (if b then Some t else None)
+    go : (b : Bool) → nothing_behind t ≡ b → passing (is_type l) (Some t) ≡ passing (is_type l) (if b then Some t else None)
     go true q = refl
     go false q =
-        ap (λ e. if by_tests (nat_lt 0 (length t.fields)) (list_all is_name (t.name ∷ t.fields)) (are_distinct (t.name ∷ t.fields)) (list_any is_primitive (t.name ∷ t.fields)) (list_any (λ x. bytes_eq t.name x) own_types) e then Some t else None) q
-        ∙ ap (λ b. if b then Some t else None) (no_end (nat_lt 0 (length t.fields)) (list_all is_name (t.name ∷ t.fields)) (are_distinct (t.name ∷ t.fields)) (list_any is_primitive (t.name ∷ t.fields)) (list_any (λ x. bytes_eq t.name x) own_types))
+        ap (λ e. if by_tests (nat_lt 0 (length t.fields)) (list_all is_name (t.name ∷ t.fields)) (are_distinct (t.name ∷ t.fields)) (list_any (is_primitive l) (t.name ∷ t.fields)) (list_any (λ x. bytes_eq t.name x) own_types) e then Some t else None) q
+        ∙ ap (λ b. if b then Some t else None) (no_end (nat_lt 0 (length t.fields)) (list_all is_name (t.name ∷ t.fields)) (are_distinct (t.name ∷ t.fields)) (list_any (is_primitive l) (t.name ∷ t.fields)) (list_any (λ x. bytes_eq t.name x) own_types))

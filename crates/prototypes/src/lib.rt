@@ -1,6 +1,6 @@
 //! Prototypes: the texts by which DEFINE, DATA and ARRAY are told what to make.
 //!
-//! `function_prototype(alloc, text)` reads `NAME(ARGUMENT,..)LOCAL,..`, `type_prototype` what DATA takes, as
+//! `function_prototype(alloc, level, text)` reads `NAME(ARGUMENT,..)LOCAL,..`, `type_prototype` what DATA takes, as
 //! `TYPE(FIELD,..)`, `dimensions` what ARRAY takes, as `0:9,20`.
 //!
 //!     let bounds = dimensions(alloc, &text)?;

@@ -8,6 +8,7 @@ ghost use Rattle.model.specs.Language.Prototypes.{passing, type_cut, type_protot
 use crate::names::{are_distinct_names, is_primitive};
 use crate::parts::{cut, push_listed, push_name};
 use aggregates::Names;
+use model::Level;
 use std::alloc::{AllocError, Global};
 use std::marker::Model;
 use strings::Text;
@@ -51,15 +52,15 @@ impl TypePrototype {
         &self.names.as_slice()[1..]
     }
 
-    // Whether a type may have this prototype.
-    fn is_type(&self, alloc: Global) -> Result<bool, AllocError>
-        ensures { IfOk result (λ answer. answer ≡ is_type self.now) }
+    // Whether a type may have this prototype at a level.
+    fn is_type(&self, alloc: Global, level: Level) -> Result<bool, AllocError>
+        ensures { IfOk result (λ answer. answer ≡ is_type level self.now) }
     {
         let names = self.names.as_slice();
         if names.len() < 2 {
             return Ok(false);
         }
-        if any_primitive(names) {
+        if any_primitive(level, names) {
             return Ok(false);
         }
         if is_own_type(self.name().as_slice()) {
@@ -69,10 +70,12 @@ impl TypePrototype {
     }
 }
 
-fn any_primitive(names: &[Text]) -> bool
-    ensures { result ≡ list_any is_primitive names.now }
+fn any_primitive(level: Level, names: &[Text]) -> bool
+    ensures { result ≡ list_any (is_primitive level) names.now }
 {
-    names.iter().any(|name| is_primitive(name.as_slice()))
+    names
+        .iter()
+        .any(|name| is_primitive(level, name.as_slice()))
 }
 
 // Whether values that aren't a programmer's have a type of this name.
@@ -116,14 +119,18 @@ fn parts_of(alloc: Global, text: &[u8]) -> Result<Option<TypePrototype>, AllocEr
     Ok(Some(type_of(alloc, name, fields)?))
 }
 
-/// The prototype that a text is, if it is one of a type.
-pub fn type_prototype(alloc: Global, text: &[u8]) -> Result<Option<TypePrototype>, AllocError>
-    ensures { IfOk result (λ prototype. prototype ≡ type_prototype text.now) }
+/// The prototype that a text is, if it is one of a type at a level.
+pub fn type_prototype(
+    alloc: Global,
+    level: Level,
+    text: &[u8],
+) -> Result<Option<TypePrototype>, AllocError>
+    ensures { IfOk result (λ prototype. prototype ≡ type_prototype level text.now) }
 {
     let Some(prototype) = parts_of(alloc, text)? else {
         return Ok(None);
     };
-    if !prototype.is_type(alloc)? {
+    if !prototype.is_type(alloc, level)? {
         return Ok(None);
     }
     Ok(Some(prototype))

@@ -4,7 +4,7 @@
 //! `assign` and `splice` go through the units where a variable is associated with one. `arith`, `cat`, `alt`, .. are
 //! the operators.
 //!
-//!     let mut world = World::new(alloc)?;
+//!     let mut world = World::new(alloc, module.level())?;
 //!     world.assign(alloc, &mut units, &name, value)?;
 //!     let fetched = world.fetch(&mut units, &name)?;
 //!

@@ -19,7 +19,7 @@ use crate::value::Value;
 use aggregates::Heap;
 use indexmap::IndexMap;
 use keywords::{KeyValue, Keywords};
-use model::KeyId;
+use model::{KeyId, Level};
 use pattern_compiler::{Basic, PatCode};
 use std::alloc::{AllocError, Global};
 use std::marker::Model;
@@ -83,6 +83,8 @@ pub struct World {
     pub(crate) heap: Heap<Value>,
     pub(crate) functions: FunctionTable,
     pub(crate) keywords: Keywords,
+    // Of the module that runs.
+    level: Level,
 }
 
 impl Drop for World {
@@ -92,6 +94,7 @@ impl Drop for World {
             heap: _,
             functions: _,
             keywords: _,
+            level: _,
         } = self;
     }
 }
@@ -106,14 +109,15 @@ impl Model for World {
       objects = w.heap;
       functions = w.functions;
       keys = w.keywords;
+      level = w.level;
     } };
 }
 
 impl World {
-    /// The world as a run begins.
-    pub fn new(alloc: Global) -> Result<World, AllocError>
+    /// The world as a run of a module of a level begins.
+    pub fn new(alloc: Global, level: Level) -> Result<World, AllocError>
         ensures { IfOk result (λ world.
-            (io : Io) → world_of world io ≡ after_w io.printed (first_m io.left)) }
+            (io : Io) → world_of world io ≡ after_w io.printed (first_m level io.left)) }
     {
         let Ok(keywords) = Keywords::new(alloc) else {
             return Err(AllocError);
@@ -123,10 +127,18 @@ impl World {
             heap: Heap::new(alloc),
             functions: FunctionTable::new(alloc),
             keywords,
+            level,
         };
         world.put_patterns(alloc)?;
         world.put_units(alloc)?;
         Ok(world)
+    }
+
+    /// The level of the module that runs.
+    pub fn module_level(&self) -> Level
+        ensures { result ≡ self.now.level }
+    {
+        self.level
     }
 
     /// The longest string that `&MAXLNGTH` allows.

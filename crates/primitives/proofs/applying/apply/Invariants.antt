@@ -6,7 +6,7 @@ use Rattle.world.specs.Values.{value_of}
 use Rattle.primitives.proofs.applying.apply.Given as goal
 
 abbrev pub invariant-loop-name : goal.invariant-loop-name
-invariant-loop-name l = (w : MW) → prim_op codes_of p.Apply (map value_of l.arguments) w ≡ prim_op codes_of p.Apply (map value_of l.rest) w
+invariant-loop-name l = (w : MW) → w.plain.level ≡ l.level → prim_op codes_of p.Apply (map value_of l.arguments) w ≡ prim_op codes_of p.Apply (map value_of l.rest) w
 
 abbrev pub decreases-loop-name : goal.decreases-loop-name
 decreases-loop-name l = length l.rest
