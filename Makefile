@@ -4,17 +4,27 @@ RT ?= rt
 DECK ?= examples/hello.sno
 INPUT ?=
 CRATE ?=
+PREFIX ?= /usr/local
+# What `install` puts into PREFIX.
+SNO ?= build/sno
+LIST ?= build/sno_list
 
 PROGRAM := crates/sno
+LISTER := crates/sno_list
 BENCHES := $(wildcard crates/bench_*)
 export RT
 # The program as the gate leaves it: as LLVM built it, and as Rattle's own compiler did.
 BUILT := $(PROGRAM)/out/sno $(PROGRAM)/out/sno.by-rattle
+FAILING := crates/tests_failing/out/tests_failing
+# A part of the faults that `make refuse`, `failing`, `damage` and `deep` run whole.
+FAULTS := "tests/refuse --every 50 $(PROGRAM)/out/sno $(FAILING)" "tests/failing $(PROGRAM)/out/sno $(FAILING)" \
+	"tests/damage --every 900 $(PROGRAM)/out/sno" "tests/deep --part $(PROGRAM)/out/sno"
 # What a proof of the program reads, folders too, so that a file that goes is noticed.
-PARTS := $(foreach crate,$(shell tools/below sno 2>/dev/null),crates/$(crate)/src crates/$(crate)/specs crates/$(crate)/proofs)
-SOURCES := $(shell find crates.txt $(wildcard $(PARTS)) 2>/dev/null)
+PARTS = $(foreach crate,$(shell tools/below $(1) 2>/dev/null),$(foreach part,src specs proofs,crates/$(crate)/$(part)))
+SOURCES := $(shell find crates.txt $(wildcard $(call PARTS,sno)) 2>/dev/null)
+LISTER_SOURCES := $(shell find crates.txt $(wildcard $(call PARTS,sno_list)) 2>/dev/null)
 
-.PHONY: help run try sno test decks bound damage wrong time check bench fmt clean toolchain program deck input
+.PHONY: help run try sno list install uninstall test decks pages bound refuse failing damage deep wrong time check bench compare fmt clean toolchain program deck input
 .DEFAULT_GOAL := help
 
 help: ## list the targets
@@ -54,21 +64,51 @@ build/sno: $(SOURCES) | program
 	@(cd $(PROGRAM) && echo END | ../../tools/progress "$(RT) run") >&2 || { echo "sno: not proved, or not built" >&2; exit 1; }
 	@cp $(PROGRAM)/out/sno build/sno.new && mv build/sno.new build/sno
 
+build/failing: $(SOURCES) crates/tests_failing/src/main.rt | program
+	@(cd crates/tests_failing && ../../tools/progress "$(RT) run -- 0 data/deck.sno" >&2) || { echo "failing: not proved, or not built" >&2; exit 1; }
+	@cp crates/tests_failing/out/tests_failing build/failing
+
+list: deck build/sno_list ## DECK=file: list a deck with what is wrong in it, on the proved program sno_list
+	@build/sno_list $(DECK) || [ $$? -eq 3 ]
+
+build/sno_list: $(LISTER_SOURCES) | program
+	@echo "list: proving and building the program sno_list (all lines go to build/log)" >&2
+	@(cd $(LISTER) && ../../tools/progress "$(RT) run" < /dev/null) >&2 || [ -x $(LISTER)/out/sno_list ] || exit 1
+	@cp $(LISTER)/out/sno_list build/sno_list.new && mv build/sno_list.new build/sno_list
+
+install: $(SNO) $(LIST) ## [PREFIX=folder]: put the proved programs, manual pages and completion there (/usr/local if none is told)
+	@tools/install "$(DESTDIR)$(PREFIX)" $(SNO) $(LIST) && echo "install: in $(DESTDIR)$(PREFIX)"
+
+uninstall: ## [PREFIX=folder]: take away what install put there
+	@tools/install --remove "$(DESTDIR)$(PREFIX)" && echo "uninstall: from $(DESTDIR)$(PREFIX)"
+
 # A program that the gate proved is the one that `make run` runs, unless a source changed since the gate began.
 test: toolchain ## the gate: every proof from nothing, must-fail edits, tests, programs, decks (last line 'N passed, M failed')
 	@echo "test: proving every crate from nothing; this takes many minutes (all lines go to build/log)"
 	@mkdir -p build && touch build/began
-	@RT_JOBS=$${RT_JOBS:-$$(tools/jobs)} tools/progress "$(RT) ci" "tools/wrong --texts" "tests/docs" "tests/run $(BUILT)" "tests/pipe $(PROGRAM)/out/sno" "tests/bound --decks 100 $(PROGRAM)/out/sno"
+	@RT_JOBS=$${RT_JOBS:-$$(tools/jobs)} tools/progress "$(RT) ci" "tools/wrong --texts" "tests/docs $(PROGRAM)/out/sno $(LISTER)/out/sno_list" "tests/run $(BUILT)" "tests/pipe $(PROGRAM)/out/sno" "tests/bound --decks 100 $(PROGRAM)/out/sno" $(FAULTS)
 	@cp $(PROGRAM)/out/sno build/sno.new && touch -r build/began build/sno.new && mv build/sno.new build/sno
 
 decks: build/sno ## the decks of tests/ alone, on the proved program
 	@tests/run build/sno && tests/pipe build/sno
 
+pages: build/sno build/sno_list ## what the pages name and show, on the proved program
+	@tests/docs build/sno build/sno_list
+
 bound: build/sno ## 2,000 random decks on the proved program and on the reference of tests/, with steps and rules
 	@tests/bound build/sno --decks 2000
 
-damage: build/sno ## each hundredth of some nine million damaged modules on the proved program
-	@tests/damage build/sno --every 100
+refuse: build/sno build/failing ## each growth of memory refused in turn, to the proved program on some hundred decks
+	@tests/refuse build/sno build/failing
+
+failing: build/sno build/failing ## each read and write failed in turn, on the proved program and on units that fail
+	@tests/failing build/sno build/failing
+
+damage: build/sno ## a million of some nine million damaged modules on the proved program
+	@tests/damage build/sno --every 8
+
+deep: build/sno ## deep and large decks on the proved program, with a small stack and little memory
+	@tests/deep build/sno
 
 wrong: toolchain ## [CRATE=name]: try the wrong bodies that the gate doesn't; each must be refused
 	@tools/wrong $(CRATE)
@@ -83,6 +123,9 @@ check: toolchain ## prove every crate over what earlier checks kept
 bench: toolchain ## prove, build and run the benchmark programs
 	@: $(if $(BENCHES),,$(error there are no benchmark programs yet: no crate crates/bench_*))
 	@for crate in $(BENCHES); do echo "bench: $$crate"; (cd $$crate && $(RT) run -- time < /dev/null) || exit 1; done
+
+compare: build/sno ## the workloads of bench/ on the proved program and on the others that are installed
+	@bench/compare build/sno
 
 fmt: toolchain ## lay out every crate's files
 	@for crate in crates/*/; do echo "fmt: $$crate"; (cd $$crate && $(RT) fmt) || exit 1; done

@@ -87,6 +87,8 @@ def is_known_control(columns):
 class Reader:
     """Reads cards, one after another, up to END."""
 
+    TEXT = Text
+
     def __init__(self):
         self.texts, self.faults = [], []
 
@@ -107,7 +109,7 @@ class Reader:
             return False
         if columns[:1] in (b"+", b"."):
             return self.go_on(number, columns[1:])
-        self.texts.append(Text())
+        self.texts.append(self.TEXT())
         return self.texts[-1].join(number, columns)
 
     def go_on(self, number, columns):

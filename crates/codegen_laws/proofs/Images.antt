@@ -1,5 +1,5 @@
 -- The image of each accepted deck.
-use Rattle.std.proofs.Common.{slice_get, sym, ◌∙◌}
+use Rattle.std.proofs.Common.{slice_get, refl, sym, ◌∙◌}
 use Rattle.model.specs.Deck.Cards.{first_cards}
 use Rattle.model.proofs.Machine.Agreement.{agrees_where_placed}
 use Rattle.model.proofs.Decks.FirstCards.{first_cards_law}
@@ -35,7 +35,7 @@ pub small : IsSmall
 small text cards ss h = Limits.code_small ss (are_fit text ss h)
 
 pub agrees : DoesAsMeant
-agrees text cards ss h = let p = placed text cards ss h in agrees_where_placed ss (generated_image cards ss) p.0 p.1
+agrees text cards ss h = let p = placed text cards ss h in agrees_where_placed ss (generated_image cards ss) p.0 refl p.1
 
 pub in_time : IsInTime
-in_time text cards ss h = let p = placed text cards ss h in run_steps_law ss (generated_image cards ss) p.0 p.1
+in_time text cards ss h = let p = placed text cards ss h in run_steps_law ss (generated_image cards ss) p.0 refl p.1

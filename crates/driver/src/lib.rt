@@ -24,7 +24,7 @@ mod words;
 pub use compiling::compile_deck;
 pub use refusal::Refusal;
 pub use running::{Ran, run_module, run_with_card};
-pub use showing::{ShowFault, check_module, show};
+pub use showing::{ShowFault, check_module, instruction_name, show};
 pub use telling::{Told, WriteFault, report};
 pub use upgrading::upgrade;
 pub use whole::run_deck;

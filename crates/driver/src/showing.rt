@@ -41,8 +41,8 @@ impl From<io::Error> for ShowFault {
     }
 }
 
-// The name of an instruction.
-fn name(instr: Instr) -> &'static str {
+/// The name of an instruction.
+pub fn instruction_name(instr: Instr) -> &'static str {
     match instr {
         Instr::End => "END",
         Instr::Begin(_) => "BEGIN",
@@ -114,7 +114,7 @@ fn operands(instr: Instr) -> (Option<i64>, Option<i64>) {
 }
 
 fn show_instr<W: Write>(at: u32, instr: Instr, out: &mut W) -> io::Result<()> {
-    let name = name(instr);
+    let name = instruction_name(instr);
     match operands(instr) {
         (Some(first), Some(second)) => writeln!(out, "{at:08x} {name} {first} {second}"),
         (Some(only), None) => writeln!(out, "{at:08x} {name} {only}"),

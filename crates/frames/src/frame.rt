@@ -2,32 +2,13 @@
 
 use crate::matching::Matching;
 use match_machine::Want;
-use strings::Text;
-use world::Value;
-
-/// The value that a variable had before a call.
-#[derive(Drop)]
-pub struct Saved {
-    pub variable: Text,
-    pub value: Value,
-}
-
-/// What a call keeps for its end.
-#[derive(Drop)]
-pub struct Kept {
-    /// The name of the function.
-    pub function: Text,
-    pub saved: Vec<Saved>,
-    /// The number of the statement that the call is in.
-    pub statement: i64,
-    /// How many calls there were around it.
-    pub level: i64,
-}
+use world::Kept;
 
 /// What waits, and for what.
 #[derive(Drop)]
 pub enum Waiting {
-    /// What called a function, for its value or its name. It goes on at the place.
+    /// What called a function, for its value or its name. It goes on at the place. The values that the call saved are
+    /// held beside the frames, those of the newest call last.
     Call {
         kept: Kept,
         place: usize,

@@ -19,7 +19,7 @@ mod operand;
 mod stack;
 
 pub use answering::answer_of;
-pub use frame::{Frame, Kept, Saved, Waiting};
+pub use frame::{Frame, Waiting};
 pub use handler::{Caught, Handler, fail, pop_begin, pop_try};
 pub use matching::Matching;
 pub use operand::{Operand, pop_name, pop_span, pop_value, pop_values, top_name};

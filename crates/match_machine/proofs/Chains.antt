@@ -7,12 +7,15 @@ use Rattle.std.proofs.lemmas.Bool.{ne_eqb, ltb-true, ltb-false}
 use Rattle.std.proofs.lemmas.Bool.Decides.{eqb_tells}
 use Rattle.std.proofs.lemmas.List.{reverse-append, reverse-reverse, length-reverse, length-append, length-drop, take-append-le, take-append-drop, take_all}
 use Rattle.std.proofs.lemmas.Option.{none-some, same_Some, slice_get_cases}
+use Rattle.model.specs.Pattern.Steps as s
 use Rattle.model.specs.Pattern.Steps.{Code}
 use Rattle.match_machine.specs.declared.event.Assignment.{Assignment}
 use Rattle.match_machine.specs.declared.trail.Entry.{Entry}
 use Rattle.match_machine.specs.declared.trail.Choice.{Choice}
-use Rattle.match_machine.specs.Standing.{Back, no_backs, oldest}
-use Rattle.match_machine.specs.Logs.{note_of, chain, entry_at, below_of, last_code, Logs, cut, back_of, backs, Marks}
+use Rattle.match_machine.specs.declared.state.Kept.{Kept}
+use Rattle.match_machine.specs.declared.state.Kept.TheVariants as kept
+use Rattle.match_machine.specs.Standing.{Back, Standing, IsAtArb, no_backs, oldest}
+use Rattle.match_machine.specs.Logs.{note_of, pending_of, chain, entry_at, below_of, last_code, Logs, cut, back_of, backs, Marks, LeavesAll}
 
 -- ---- lists of notes
 pub chain_top : (e : Entry) (es : List Entry) (h : ℕ) → h ≡ suc (length es) → chain (e ∷ es) h ≡ note_of e.note ∷ chain es e.below
@@ -159,13 +162,17 @@ more_codes cs more log ps (x ∷ xs) m =
       backs = ap (λ (k : Logs). back_of k x ∷ backs k xs) e;
     }
 
+-- a choice whose marks don't cut
+uncut_by : (l : Logs) (x : Choice) → length l.codes ≤ x.codes → length l.log ≤ x.log → length l.pending ≤ x.pending → cut l x ≡ l
+uncut_by l x c n p =
+    let e : take x.codes l.codes ≡ l.codes = take_all x.codes l.codes c in
+    let f : take x.log l.log ≡ l.log = take_all x.log l.log n in
+    let g : take x.pending l.pending ≡ l.pending = take_all x.pending l.pending p in
+    λ i. record { codes = e i; log = f i; pending = g i }
+
 -- a choice whose marks are the lengths
 uncut : (l : Logs) (x : Choice) → x.codes ≡ length l.codes → x.log ≡ length l.log → x.pending ≡ length l.pending → cut l x ≡ l
-uncut l x c n p =
-    let e : take x.codes l.codes ≡ l.codes = take_all x.codes l.codes (omega (arith, c)) in
-    let f : take x.log l.log ≡ l.log = take_all x.log l.log (omega (arith, n)) in
-    let g : take x.pending l.pending ≡ l.pending = take_all x.pending l.pending (omega (arith, p)) in
-    λ i. record { codes = e i; log = f i; pending = g i }
+uncut l x c n p = uncut_by l x (omega (arith, c)) (omega (arith, n)) (omega (arith, p))
 
 -- a choice more, with codes added before it
 pub keep_marks : (cs cs' more : List Code) (log : List Entry) (ps : List Assignment) (xs xs' : List Choice) (x : Choice) → cs' ≡ cs ++ more → xs' ≡ xs ++ x ∷ [] → x.codes ≡ length cs' → x.log ≡ length log → x.pending ≡ length ps → Marks (record { codes = cs; log = log; pending = ps }) (reverse xs) → Marks (record { codes = cs'; log = log; pending = ps }) (reverse xs')
@@ -188,6 +195,32 @@ no_backs_of l (x ∷ xs) = sym (eqb-suc-zero (length xs))
 
 pub no_choices : (l : Logs) (xs : List Choice) → no_backs (backs l (reverse xs)) ≡ eqb (length xs) 0
 no_choices l xs = no_backs_of l (reverse xs) ∙ ap (λ n. eqb n 0) (length-reverse xs)
+
+-- ---- the newest choice
+pub last_is : (xs : List Choice) (x : Choice) → slice_get xs (length xs - 1) ≡ Some x → (ys : List Choice) × (reverse xs ≡ x ∷ ys)
+last_is xs x h = go (reverse xs) refl
+  where
+    go : (zs : List Choice) → reverse xs ≡ zs → (ys : List Choice) × (reverse xs ≡ x ∷ ys)
+    go [] e =
+        let q : xs ≡ [] = sym (reverse-reverse xs) ∙ ap reverse e in
+        absurd (none-some x (ap (λ (l : List Choice). slice_get l (length l - 1)) (sym q) ∙ h))
+    go (z ∷ zs) e =
+        let q : xs ≡ reverse zs ++ z ∷ [] = sym (reverse-reverse xs) ∙ ap reverse e ∙ reverse-append (z ∷ []) zs in
+        let n : length xs - 1 ≡ length (reverse zs) = omega (arith, ap length q ∙ length-append (reverse zs) (z ∷ [])) in
+        last (get_push (reverse zs) z x (length (reverse zs)) (ap (λ (l : List Choice). slice_get l (length (reverse zs))) (sym q) ∙ ap (slice_get xs) (sym n) ∙ h))
+      where
+        last : ((slice_get (reverse zs) (length (reverse zs)) ≡ Some x) × (length (reverse zs) < length (reverse zs))) ⊎ ((length (reverse zs) ≡ length (reverse zs)) × (z ≡ x)) → (ys : List Choice) × (reverse xs ≡ x ∷ ys)
+        last (inl (g, l)) = absurd (omega (arith, l))
+        last (inr (g, p)) = (zs, e ∙ ap (λ (y : Choice). y ∷ zs) p)
+
+pub at_arb : (l : Logs) (xs : List Choice) (x : Choice) (e : ℕ) (st : Standing) → slice_get xs (length xs - 1) ≡ Some x → x.kept ≡ kept.Arb e → length l.codes ≤ x.codes → last_code l.codes ≡ st.code → st.backs ≡ backs l (reverse xs) → IsAtArb st x.place e
+at_arb l xs x e st h k n c b = go (last_is xs x h)
+  where
+    go : (ys : List Choice) × (reverse xs ≡ x ∷ ys) → IsAtArb st x.place e
+    go (ys, q) =
+        let t : s.Thread = (back_of (cut l x) x).thread in
+        let bs : List Back = backs (cut l x) ys in
+        (t, bs, b ∙ ap (backs l) q ∙ ap (λ (y : Kept). let all : List Back = record { kept = y; thread = t } ∷ bs in all) k, refl, ap last_code (take_all x.codes l.codes n) ∙ c)
 
 -- ---- the oldest choices
 -- the marks of older choices are those of the whole logs too
@@ -224,6 +257,23 @@ length_backs l (x ∷ xs) = ap suc (length_backs (cut l x) xs)
 
 pub count_choices : (l : Logs) (xs : List Choice) → length (backs l (reverse xs)) ≡ length xs
 count_choices l xs = length_backs l (reverse xs) ∙ length-reverse xs
+
+-- without the newest
+pub rest_marks : (l : Logs) (xs rest : List Choice) (x : Choice) → xs ≡ rest ++ x ∷ [] → Marks l (reverse xs) → Marks l (reverse rest)
+rest_marks l xs rest x e m =
+    older_marks 1 l (x ∷ reverse rest) (subst (Marks l) (ap reverse e ∙ reverse-append rest (x ∷ [])) m)
+
+-- the newest, where it leaves all
+pub newest_whole : (l : Logs) (xs rest : List Choice) (x : Choice) (code : Code) → xs ≡ rest ++ x ∷ [] → LeavesAll xs (length l.log) (length l.pending) (length l.codes) → last_code l.codes ≡ code → backs l (reverse xs) ≡ record { kept = x.kept; thread = record { code = code; place = x.place; cursor = x.cursor; notes = chain (reverse l.log) x.head; pending = pending_of l.pending } } ∷ backs l (reverse rest)
+newest_whole l xs rest x code e (y, h, n, p, c) k =
+    let q : y ≡ x = newest_same (get_push rest x y (length xs - 1) (ap (λ (zs : List Choice). slice_get zs (length xs - 1)) (sym e) ∙ h)) in
+    let f : cut l x ≡ l = subst (λ z. cut l z ≡ l) q (uncut_by l y c n p) in
+    ap (backs l) (ap reverse e ∙ reverse-append rest (x ∷ [])) ∙ ap (λ (m : Logs). back_of m x ∷ backs m (reverse rest)) f
+    ∙ ap (λ (code' : Code). let bs : List Back = record { kept = x.kept; thread = record { code = code'; place = x.place; cursor = x.cursor; notes = chain (reverse l.log) x.head; pending = pending_of l.pending } } ∷ backs l (reverse rest) in bs) k
+  where
+    newest_same : ((slice_get rest (length xs - 1) ≡ Some y) × (length xs - 1 < length rest)) ⊎ ((length xs - 1 ≡ length rest) × (x ≡ y)) → y ≡ x
+    newest_same (inl (g, l)) = absurd (omega (arith, l, ap length e ∙ length-append rest (x ∷ [])))
+    newest_same (inr (g, z)) = sym z
 
 -- the choices that are left of the k oldest
 oldest_choices : (k : ℕ) (xs : List Choice) → reverse (take k xs) ≡ drop (length xs - k) (reverse xs)

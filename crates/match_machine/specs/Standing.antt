@@ -1,8 +1,9 @@
 -- Where an attempt stands, and what is gone back to.
-use Rattle.std.specs.Prelude.{ℕ, ◌-◌, List, [], ◌∷◌, length, drop, Option, Some, None, Bool, true, false}
+use Rattle.std.specs.Prelude.{◌≡◌, ℕ, ◌-◌, List, [], ◌∷◌, length, drop, Option, Some, None, Bool, true, false}
 use Rattle.model.specs.Pattern.Patterns.{Pending}
 use Rattle.model.specs.Pattern.Steps as s
 use Rattle.match_machine.specs.declared.state.Kept.{Kept}
+use Rattle.match_machine.specs.declared.state.Kept.TheVariants as kept
 
 -- what is gone back to, with its copy of the attempt
 pub record Back : Type 0 where
@@ -23,6 +24,16 @@ no_backs (b ∷ bs) = false
 -- the k oldest
 abbrev pub oldest : ℕ → List Back → List Back
 oldest k bs = drop (length bs - k) bs
+
+-- the newest choice goes back to ARB, at the place p of the code under way, from the end e on
+abbrev pub IsAtArb : Standing → ℕ → ℕ → Type 0
+IsAtArb st p e =
+    (t : s.Thread) × (bs : List Back) × (st.backs ≡ record { kept = kept.Arb e; thread = t } ∷ bs) × (t.place ≡ p) × (t.code ≡ st.code)
+
+-- the newest choice goes back to ARB from the end e on
+abbrev pub from_end : ℕ → List Back → List Back
+from_end e [] = []
+from_end e (x ∷ xs) = record { kept = kept.Arb e; thread = x.thread } ∷ xs
 
 -- the newest is that of an entered pattern
 abbrev pub inside : List s.Note → Bool

@@ -11,10 +11,12 @@
 #![tactic(auto)]
 
 mod act;
+mod arbs;
 mod ends;
 mod event;
 mod matcher;
 mod run;
+mod starts;
 mod state;
 mod step;
 mod trail;

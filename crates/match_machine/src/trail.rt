@@ -1,14 +1,15 @@
 //! Where the attempt under way stands, and the choices that are gone back to.
 
-ghost use Rattle.std.specs.Prelude.{◌≡◌, ◌∷◌, ◌++◌, List, [], true, false, Bool, IfOk, OnOk, OnErr};
+ghost use Rattle.std.specs.Prelude.{◌≡◌, ◌∷◌, ◌++◌, List, [], true, false, Bool, IfOk, IfSome, OnOk, OnErr};
 ghost use Rattle.std.specs.Prelude.{MatchOption, length, reverse, take, Some, None, option_copied};
 ghost use Rattle.std.specs.Prelude.{if◌then◌else◌};
 ghost use Rattle.model.specs.Pattern.Steps as s;
 ghost use Rattle.model.specs.Pattern.Steps.{Code};
 ghost use Rattle.model.specs.Pattern.Patterns.{Pending};
 ghost use Rattle.match_machine.specs.Standing.{Standing, Back, inside, opened, unopened, fenced};
-ghost use Rattle.match_machine.specs.Standing.{unfenced, no_backs, oldest};
+ghost use Rattle.match_machine.specs.Standing.{unfenced, no_backs, oldest, IsAtArb, from_end};
 ghost use Rattle.match_machine.specs.Logs.{assigned, pending_of, note_of, chain, entry_at, below_of, last_code};
+ghost use Rattle.match_machine.specs.Logs.{LeavesAll};
 
 use crate::event::Assignment;
 use crate::state::Kept;
@@ -237,8 +238,43 @@ impl Trail {
     }
 
     /// Keeps a choice. Takes memory only where a log has to grow.
-    #[inline(never)]
+    #[inline(always)]
     pub fn keep(&mut self, kept: Kept, place: usize, cursor: usize) -> Result<(), AllocError>
+        ensures { OnOk result
+            (self.new ≡ record self.old {
+              backs = record {
+                kept = kept;
+                thread = record {
+                  code = self.old.code;
+                  place = place;
+                  cursor = cursor;
+                  notes = self.old.notes;
+                  pending = self.old.pending;
+                };
+              } ∷ self.old.backs;
+            }) }
+    {
+        let (log, pending, codes) = (self.log.len(), self.pending.len(), self.codes.len());
+        let (count, room) = (self.choices.len(), self.choices.capacity());
+        if !self.stored || count >= room {
+            return self.keep_growing(kept, place, cursor);
+        }
+        self.choices.push(Choice {
+            kept,
+            place,
+            cursor,
+            head: self.head,
+            log,
+            pending,
+            codes,
+        })?;
+        Ok(())
+    }
+
+    /// The same, where the code isn't stored yet or the choices have no room. Apart, so that the other way is short.
+    #[cold]
+    #[inline(never)]
+    fn keep_growing(&mut self, kept: Kept, place: usize, cursor: usize) -> Result<(), AllocError>
         ensures { OnOk result
             (self.new ≡ record self.old {
               backs = record {
@@ -267,9 +303,71 @@ impl Trail {
         Ok(())
     }
 
+    /// The place and the next end of ARB, where the newest choice goes back to one of the code under way.
+    #[inline(always)]
+    pub fn arb_here(&self) -> Option<(usize, usize)>
+        ensures { IfSome result (λ (place, end). IsAtArb self.now place end) }
+    {
+        let choice = self.choices.last()?;
+        match choice.kept {
+            Kept::Arb(end) => {
+                if self.stored && self.codes.len() <= choice.codes {
+                    Some((choice.place, end))
+                } else {
+                    None
+                }
+            }
+            _ => None,
+        }
+    }
+
+    /// The newest choice, which goes back to ARB, does so from a further end.
+    pub fn pass_arb(&mut self, end: usize) -> Result<(), AllocError>
+        ensures { OnOk result
+            (self.new ≡ record self.old { backs = from_end end self.old.backs }) }
+    {
+        if let Some(choice) = self.choices.pop() {
+            self.choices.push(Choice {
+                kept: Kept::Arb(end),
+                ..choice
+            })?;
+        }
+        Ok(())
+    }
+
     /// Back to the newest choice, if there is one.
     #[inline(always)]
     pub fn back(&mut self) -> Result<Option<Choice>, AllocError>
+        ensures { IfOk result (λ o.
+            MatchOption o (self.old.backs ≡ []) (λ x.
+            self.old.backs ≡ record {
+              kept = x.kept;
+              thread = record {
+                code = self.new.code;
+                place = x.place;
+                cursor = x.cursor;
+                notes = self.new.notes;
+                pending = self.new.pending;
+              };
+            } ∷ self.new.backs)) }
+    {
+        let choices = self.choices.as_slice();
+        let (log, pending, codes) = (self.log.len(), self.pending.len(), self.codes.len());
+        if !self.stored || !leaves_all(choices, log, pending, codes) {
+            return self.back_cutting();
+        }
+        match self.choices.pop() {
+            Some(choice) => {
+                self.head = choice.head;
+                Ok(Some(choice))
+            }
+            None => Ok(None),
+        }
+    }
+
+    /// The same, where a log may have to be cut. Apart, so that the other way is short.
+    #[inline(never)]
+    fn back_cutting(&mut self) -> Result<Option<Choice>, AllocError>
         ensures { IfOk result (λ o.
             MatchOption o (self.old.backs ≡ []) (λ x.
             self.old.backs ≡ record {
@@ -365,6 +463,17 @@ fn left_at(log: &[Entry], head: usize) -> Result<Option<(PatCode, usize, usize)>
             let code = code.clone()?;
             Ok(Some((code, *place, list_below(head, entry.below))))
         }
+    }
+}
+
+/// Whether the newest choice leaves logs of these lengths as they are.
+#[inline(always)]
+fn leaves_all(choices: &[Choice], log: usize, pending: usize, codes: usize) -> bool
+    ensures { result ≡ true → LeavesAll choices.now log pending codes }
+{
+    match choices.last() {
+        Some(choice) => { log <= choice.log && pending <= choice.pending && codes <= choice.codes }
+        None => false,
     }
 }
 

@@ -2,6 +2,7 @@
 pub mod Decks
 pub mod Statements
 pub mod Matches
+pub mod Levels
 pub mod Objects
 pub mod Module
 pub mod Counts

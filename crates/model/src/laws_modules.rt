@@ -25,7 +25,7 @@ pub fn faultless_is_well_formed()
     ensures formed { NoneIsWellFormed }
 {}
 
-/// A module with another level or other cards does the same in as many steps, on all inputs.
-pub fn levels_run_alike()
+/// A module with other cards does the same in as many steps, on all inputs.
+pub fn cards_change_no_run()
     ensures { SameRuns }
 {}

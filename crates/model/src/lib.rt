@@ -52,7 +52,7 @@ pub use laws_machine::{
     asked_expressions_are_there, expressions_stay_in_range, never_stuck, searches_stay_in_range,
 };
 pub use laws_modules::{
-    faultless_is_well_formed, least_fault_is_told, levels_run_alike, worked_images,
+    cards_change_no_run, faultless_is_well_formed, least_fault_is_told, worked_images,
 };
 pub use laws_names::{key_names, prim_names};
 pub use laws_patterns::{

@@ -1,7 +1,9 @@
 //! Primitive functions.
 
 ghost use Rattle.std.specs.Prelude.{◌≡◌};
-ghost use Rattle.model.specs.Language.Names.{most_args, prim_name, prim_named};
+ghost use Rattle.model.specs.Language.Names.{is_newer, most_args, prim_at, prim_name, prim_named};
+
+use crate::image::Level;
 
 /// A primitive function, in the order of the codes that modules have for them.
 #[derive(Clone, Copy)]
@@ -144,6 +146,30 @@ impl PrimId {
             .iter()
             .copied()
             .find(|primitive| primitive.name().as_bytes() == name)
+    }
+
+    /// Whether it came with level 2.
+    pub fn is_newer(self) -> bool
+        ensures { result ≡ is_newer self }
+    {
+        matches!(self, PrimId::Fence)
+    }
+
+    /// The primitive of this name at a level, if there is one.
+    pub fn named_at(level: Level, name: &[u8]) -> Option<PrimId>
+        ensures { result ≡ prim_at level name.now }
+    {
+        let primitive = PrimId::named(name)?;
+        match level {
+            Level::One => {
+                if primitive.is_newer() {
+                    None
+                } else {
+                    Some(primitive)
+                }
+            }
+            Level::Two => Some(primitive),
+        }
     }
 
     /// How many arguments a call may have at most.

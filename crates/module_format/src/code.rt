@@ -3,26 +3,19 @@
 ghost use Rattle.std.specs.Prelude.{◌≡◌, ◌+◌, [], length};
 ghost use Rattle.model.specs.declared.format.FormatRule.TheVariants.{UnknownInstruction};
 ghost use Rattle.model.specs.Module.Reading.{Finds, Gives, code_from, code_at, known_of};
-ghost use Rattle.model.specs.Module.Spelling.{is_newer, is_of, is_of_one};
+ghost use Rattle.model.specs.Module.Spelling.{is_of, is_of_one};
 
 use crate::fields::{MOST_CODE, read_bytes, read_count};
 use code_format::first_instr;
-use model::{FormatRule, Instr, Level, Miss, PrimId, ReadError, Seq};
+use model::{FormatRule, Instr, Level, Miss, ReadError, Seq};
 use std::alloc::Global;
-
-// Whether a primitive came with level 2.
-fn is_newer(id: PrimId) -> bool
-    ensures { result ≡ is_newer id }
-{
-    matches!(id, PrimId::Fence)
-}
 
 // Whether level 1 has an instruction.
 fn is_of_one(instr: Instr) -> bool
     ensures { result ≡ is_of_one instr }
 {
     match instr {
-        Instr::PrimV(id, _) | Instr::PrimN(id, _) => !is_newer(id),
+        Instr::PrimV(id, _) | Instr::PrimN(id, _) => !id.is_newer(),
         _ => true,
     }
 }

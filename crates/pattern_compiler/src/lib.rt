@@ -20,4 +20,4 @@ mod single;
 
 pub use code::PatCode;
 pub use instr::{Basic, Instr, Kind, Name};
-pub use set::Set;
+pub use set::{Set, break_at};

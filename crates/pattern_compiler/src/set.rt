@@ -110,8 +110,8 @@ fn break_by(bytes: &[u8], table: &ByteSet) -> usize
     }
 }
 
-// How many bytes come before the first that is this one.
-fn break_at(bytes: &[u8], byte: u8) -> usize
+/// How many bytes come before the first that is this one.
+pub fn break_at(bytes: &[u8], byte: u8) -> usize
     ensures value { result ≡ prefix_len (λ b. not (is_in_set (byte ∷ []) b)) bytes.now }
     ensures within { result ≤ length bytes.now }
 {

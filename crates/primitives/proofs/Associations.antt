@@ -5,8 +5,8 @@ use Rattle.model.specs.Deck.Trees.{Bytes}
 use Rattle.model.specs.Language.Values.{Str}
 use Rattle.model.specs.Language.Conversions.{Conv, Got, Bad, Op, Gives, conv, then_conv, to_integer, to_variable, is_null}
 use Rattle.model.specs.Language.Calls.{AValue}
-use Rattle.model.specs.Machine.Steps.{MVal, MW, PCode}
-use Rattle.model.specs.Language.Primitives.{Outcome, Returns, returned, unit_number, unit_op, input_op, output_op, detach_op, set_reads, set_writes}
+use Rattle.model.specs.Machine.Steps.{MVal, MW}
+use Rattle.model.specs.Language.Primitives.{Returns, returned, unit_number, unit_op, input_op, output_op, detach_op, set_reads, set_writes}
 use Rattle.primitives.specs.Units.{unit_of}
 
 unit_is : (usual : ℕ) (v : MVal) (w : MW) (k : ℕ → Op MW MVal) → unit_op usual v w k ≡ conv (unit_of usual v) w k

@@ -1,14 +1,10 @@
 -- The arguments of patterns' primitives.
-use Rattle.std.specs.Prelude.{ℕ}
 use Rattle.model.specs.Deck.Trees.{Bytes}
-use Rattle.model.specs.Language.Conversions.{Conv, Got, Op, Gives, conv, then_conv, to_text, to_integer, to_pattern, count_of, set_of, answer_of}
+use Rattle.model.specs.Language.Conversions.{Conv, Got, Op, Gives, conv, then_conv, to_text, to_pattern, set_of, answer_of}
 use Rattle.model.specs.Pattern.Patterns.{Basic, Kind, want_of_kind, with_answer}
 use Rattle.model.specs.Pattern.Code.{basic_code}
 use Rattle.model.specs.Language.Values.{Pat}
 use Rattle.model.specs.Machine.Steps.{MVal, MW, codes_of}
-
-abbrev pub to_count : MVal → Conv ℕ
-to_count v = then_conv (to_integer v) count_of
 
 abbrev pub to_set : MVal → Conv Bytes
 to_set v = then_conv (to_text v) set_of

@@ -1,7 +1,7 @@
 //! The primitive functions.
 //!
-//! `call_prim(alloc, id, &arguments, &mut world)` calls one that is there (`is_there`): all but ITEM, DATA, DEFINE and
-//! APPLY. It comes to an `Outcome`, that is a value, a name, failure or a function to call, or to a `Fault`.
+//! `call_prim(alloc, id, &arguments, &mut world)` calls one. It comes to an `Outcome`, that is a value, a name, failure or
+//! a function to call, or to a `Fault`.
 //!
 //!     let outcome = call_prim(alloc, PrimId::Size, &arguments, &mut world)?;
 //!
@@ -9,7 +9,9 @@
 //! CALLING.md says how another primitive is added.
 #![tactic(auto)]
 
+mod applying;
 mod call;
+mod defining;
 mod functions;
 mod objects;
 mod outcome;
@@ -17,5 +19,5 @@ mod patterns;
 mod predicates;
 mod units;
 
-pub use call::{call_prim, is_there};
+pub use call::call_prim;
 pub use outcome::Outcome;

@@ -1,5 +1,5 @@
 -- Dimensions that are read one after another, and the integers in them.
-use Rattle.std.proofs.Common.{◌≡◌, ℕ, ℤ, false, length, List, [], ◌∷◌, ◌++◌, Option, Some, None, append_assoc, refl, sym, ap, ◌∙◌}
+use Rattle.std.proofs.Common.{◌≡◌, ℤ, false, length, List, [], ◌∷◌, ◌++◌, Option, Some, None, append_assoc, refl, sym, ap, ◌∙◌}
 use Rattle.std.specs.Prelude.{◌==◌, SomeIff, option_map}
 use Rattle.std.specs.Str.Parse.{signed_digits_value}
 use Rattle.model.specs.Deck.Trees.{Bytes}

@@ -4,9 +4,10 @@ ghost use Rattle.std.specs.Prelude.{◌≡◌, IfOk};
 ghost use Rattle.model.specs.Language.Prototypes.{cut_at, function_cut, function_prototype, is_function, listed};
 ghost use Rattle.prototypes.specs.Views.{names_of};
 
-use crate::listed::Names;
 use crate::names::{are_distinct_names, is_primitive};
 use crate::parts::{cut, push_listed, push_name};
+use aggregates::Names;
+use model::Level;
 use std::alloc::{AllocError, Global};
 use std::marker::Model;
 use strings::Text;
@@ -79,11 +80,11 @@ impl FunctionPrototype {
         &self.names.as_slice()[self.arity + 1..]
     }
 
-    // Whether a function may have this prototype.
-    fn is_function(&self, alloc: Global) -> Result<bool, AllocError>
-        ensures { IfOk result (λ answer. answer ≡ is_function self.now) }
+    // Whether a function may have this prototype at a level.
+    fn is_function(&self, alloc: Global, level: Level) -> Result<bool, AllocError>
+        ensures { IfOk result (λ answer. answer ≡ is_function level self.now) }
     {
-        if is_primitive(self.name().as_slice()) {
+        if is_primitive(level, self.name().as_slice()) {
             return Ok(false);
         }
         are_distinct_names(alloc, self.names())
@@ -128,17 +129,18 @@ fn parts_of(alloc: Global, text: &[u8]) -> Result<Option<FunctionPrototype>, All
     Ok(Some(prototype_of(alloc, name, arguments, locals)?))
 }
 
-/// The prototype that a text is, if it is one of a function.
+/// The prototype that a text is, if it is one of a function at a level.
 pub fn function_prototype(
     alloc: Global,
+    level: Level,
     text: &[u8],
 ) -> Result<Option<FunctionPrototype>, AllocError>
-    ensures { IfOk result (λ prototype. prototype ≡ function_prototype text.now) }
+    ensures { IfOk result (λ prototype. prototype ≡ function_prototype level text.now) }
 {
     let Some(prototype) = parts_of(alloc, text)? else {
         return Ok(None);
     };
-    if !prototype.is_function(alloc)? {
+    if !prototype.is_function(alloc, level)? {
         return Ok(None);
     }
     Ok(Some(prototype))

@@ -5,7 +5,7 @@ ghost use Rattle.std.specs.List.{list_all};
 ghost use Rattle.model.specs.Language.Prototypes.{is_letter, is_name_byte, is_name, are_distinct, is_primitive};
 
 use indexmap::IndexSet;
-use model::PrimId;
+use model::{Level, PrimId};
 use std::alloc::{AllocError, Global};
 use strings::Text;
 
@@ -66,9 +66,9 @@ pub(crate) fn are_distinct_names(alloc: Global, names: &[Text]) -> Result<bool, 
     are_distinct(alloc, names)
 }
 
-/// Whether a primitive has this name.
-pub(crate) fn is_primitive(name: &[u8]) -> bool
-    ensures { result ≡ is_primitive name.now }
+/// Whether a primitive has this name at a level.
+pub(crate) fn is_primitive(level: Level, name: &[u8]) -> bool
+    ensures { result ≡ is_primitive level name.now }
 {
-    PrimId::named(name).is_some()
+    PrimId::named_at(level, name).is_some()
 }

@@ -11,6 +11,7 @@
 //! CALLING.md has the clauses, and how an instruction is added.
 #![tactic(auto)]
 
+mod callers;
 mod calls;
 mod elements;
 mod failing;
@@ -20,6 +21,7 @@ mod machine;
 mod matches;
 mod operators;
 mod patterns;
+mod resuming;
 mod run;
 mod state;
 mod status;

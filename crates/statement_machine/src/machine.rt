@@ -47,12 +47,12 @@ impl<'m> Machine<'m> {
         ensures going { IfOk result (λ machine. machine.halt ≡ None) }
         ensures begun { IfOk result (λ machine.
             (io : Io) → Holds machine io
-            (after_s io.printed (begun (module_of program.now) (first_m io.left)))) }
+            (after_s io.printed (begun (module_of program.now) (first_m program.now.level io.left)))) }
     {
         let place = program.start();
         Ok(Machine {
             program,
-            run: Run::new(alloc, place)?,
+            run: Run::new(alloc, program.level(), place)?,
             halt: None,
         })
     }

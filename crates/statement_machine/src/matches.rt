@@ -76,7 +76,8 @@ impl State {
         ensures shape { OnOk result
             ((self.new.place ≡ matching.place) × (self.new.handlers ≡ self.old.handlers)
             × (self.new.operands.under ≡ self.old.operands.under)
-            × (kinds_of self.new.operands.top ≡ found_kinds matching.keep (kinds_of self.old.operands.top))) }
+            × (kinds_of self.new.operands.top ≡ found_kinds matching.keep (kinds_of self.old.operands.top))
+            × (self.new.saved.items ≡ self.old.saved.items)) }
         ensures halts { GoesOrHalts result }
     {
         if let Err(fault) = assign_all(self.alloc, &mut self.world, units, pending.as_slice()) {

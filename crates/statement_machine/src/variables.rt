@@ -46,8 +46,12 @@ impl State {
         }
     }
 
-    // On with the value of an operation that may fail or be an error.
-    fn gave(&mut self, answer: Result<Option<Value>, Fault>, next: usize) -> Result<(), Exit>
+    /// On with the value of an operation that may fail or be an error.
+    pub(crate) fn gave(
+        &mut self,
+        answer: Result<Option<Value>, Fault>,
+        next: usize,
+    ) -> Result<(), Exit>
         ensures left { (im : Image) (fs : List Frame) (io : Io) (o : Op MW MVal)
             → AnswersOrFails (answer_map (option_map value_of) answer)
             (world_of self.old.world io) o →

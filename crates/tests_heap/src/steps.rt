@@ -1,7 +1,7 @@
 //! Steps with objects, and what is seen of them: plain values, since each place that holds a heap is dear to prove.
 
 use crate::items::{At, It, Item, item_of, place_of};
-use aggregates::{Bounds, Heap, Kind};
+use aggregates::{Bounds, Heap, Kind, Names};
 use std::alloc::Global;
 use strings::{StrFault, Text};
 
@@ -94,11 +94,11 @@ fn new_array(
     Ok(number(heap.new_array(alloc, bounds, &Item::Integer(7))?))
 }
 
-fn fields(alloc: Global) -> Result<Vec<Text>, StrFault> {
+fn fields(alloc: Global) -> Result<Names, StrFault> {
     let mut all = Vec::new(alloc);
     all.push(Text::from_slice(alloc, b"LEFT")?)?;
     all.push(Text::from_slice(alloc, b"RIGHT")?)?;
-    Ok(all)
+    Ok(Names::new(alloc, all)?)
 }
 
 fn new_pair(alloc: Global, heap: &mut Heap<Item>) -> Result<Seen, StrFault> {

@@ -1,8 +1,8 @@
 //! Calls with values that no deck makes today, and what they come to: plain values, which are cheap to prove.
 
-use model::{ErrorCode, PrimId};
+use model::{ErrorCode, Level, PrimId};
 use pattern_compiler::{Instr, Name, PatCode};
-use primitives::{Outcome, call_prim, is_there};
+use primitives::{Outcome, call_prim};
 use std::alloc::Global;
 use strings::Text;
 use world::{Fault, Value, World, alt, cond, imm};
@@ -40,6 +40,8 @@ pub enum Call {
     /// The pattern that a match begins with.
     Begin,
     Prim(PrimId),
+    /// In a module of level 1.
+    Older(PrimId),
 }
 
 /// What it comes to.
@@ -99,9 +101,6 @@ fn primitive(
     left: &Value,
     right: &Value,
 ) -> Result<Option<Value>, Fault> {
-    if !is_there(id) {
-        return Err(Fault::Error(ErrorCode::UndefinedFunction));
-    }
     let arguments = vec![in alloc; left.clone()?, right.clone()?]?;
     match call_prim(alloc, id, &arguments, world)? {
         Outcome::Value(value) => Ok(Some(value)),
@@ -117,7 +116,7 @@ fn in_world(
     right: &Value,
 ) -> Result<Option<Value>, Fault> {
     match call {
-        Call::Prim(id) => primitive(alloc, world, id, left, right),
+        Call::Prim(id) | Call::Older(id) => primitive(alloc, world, id, left, right),
         Call::Begin => {
             let begun = world.begin_match(alloc, left, right)?;
             Ok(Some(Value::Pattern(begun.pattern)))
@@ -132,7 +131,10 @@ fn called(alloc: Global, call: Call, left: &Value, right: &Value) -> Result<Opti
         Call::Cond => Ok(Some(cond(alloc, left, right.to_name(alloc)?)?)),
         Call::Imm => Ok(Some(imm(alloc, left, right.to_name(alloc)?)?)),
         Call::Cat | Call::Begin | Call::Prim(_) => {
-            in_world(alloc, &mut World::new(alloc)?, call, left, right)
+            in_world(alloc, &mut World::new(alloc, Level::Two)?, call, left, right)
+        }
+        Call::Older(_) => {
+            in_world(alloc, &mut World::new(alloc, Level::One)?, call, left, right)
         }
         _ => Ok(Some(converted(alloc, call, left)?)),
     }

@@ -78,3 +78,20 @@ fn primitives(rt: HostRuntime) {
         assert!(rt; seen_of(rt.alloc(), Call::Prim(id), Arg::Expr(7), Arg::Null) == want);
     }
 }
+
+// At level 1 the name FENCE is no primitive's.
+#[test]
+fn levels(rt: HostRuntime) {
+    let faulty = Seen::Error(ErrorCode::BadPrototype);
+    for (call, arg, want) in [
+        (Call::Prim(PrimId::Define), "FENCE(P)", faulty),
+        (Call::Older(PrimId::Define), "FENCE(P)", Seen::Null),
+        (Call::Older(PrimId::Define), "LEN(P)", faulty),
+        (Call::Prim(PrimId::Data), "FENCE(A)", faulty),
+        (Call::Older(PrimId::Data), "FENCE(A)", Seen::Null),
+        (Call::Prim(PrimId::Data), "NODE(FENCE)", faulty),
+        (Call::Older(PrimId::Data), "NODE(FENCE)", Seen::Null),
+    ] {
+        assert!(rt; seen_of(rt.alloc(), call, Arg::Text(arg), Arg::Null) == want);
+    }
+}

@@ -1,6 +1,7 @@
 -- The world that a run begins with.
 use Rattle.std.proofs.Common.{◌≡◌, List, [], ◌∷◌, ◌++◌, Bool, true, false, cond, Option, Some, None, refl, sym, ap, ◌∙◌, append-nil, bytes_eq, codes}
 use Rattle.std.proofs.lemmas.Slice.Eq.{bytes_eq-Decides}
+use Rattle.model.specs.declared.image.Level.{Level}
 use Rattle.model.specs.Deck.Trees.{Bytes}
 use Rattle.model.specs.Language.Io.{Io}
 use Rattle.model.specs.Language.Keywords.{first_keys}
@@ -67,13 +68,14 @@ first_writes x =
 first_io : (io : Io) → io ≡ record { left = io.left; printed = io.printed ++ [] }
 first_io io = ap (λ ps. record { left = io.left; printed = ps }) (sym (append-nil io.printed))
 
-pub first_holds : (h : WorldView) (io : Io) → h ≡ record { variables = first_variables; objects = []; keys = first_keys } → world_of h io ≡ after_w io.printed (first_m io.left)
-first_holds h io is =
+pub first_holds : (h : WorldView) (lv : Level) (io : Io) → h ≡ record { variables = first_variables; objects = []; functions = []; keys = first_keys; level = lv } → world_of h io ≡ after_w io.printed (first_m lv io.left)
+first_holds h lv io is =
     ap (λ z. world_of z io) is
     ∙ (λ i. record {
       vars = λ y. first_vars y i;
       objects = [];
       plain = record {
+        level = lv;
         functions = λ f. None;
         keys = first_keys;
         reads = λ y. first_reads y i;

@@ -6,5 +6,11 @@ pub mod Keywords
 pub mod Telling
 pub mod UnitCalls
 pub mod Objects
+pub mod Passing
+pub mod Tables
+pub mod Saving
+pub mod Leaving
 pub mod Made
 pub mod Named
+pub mod TypeFunctions
+pub mod Recorded

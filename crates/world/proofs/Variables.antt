@@ -9,12 +9,14 @@ use Rattle.std.specs.Cmp.Lexicographic.{nat_list_eq_equiv}
 use Rattle.indexmap.specs.IndexMap.{IndexMap, IsUnique, insert_entry, with_value_at}
 use Rattle.indexmap.proofs.CallerLemmas.{updates-with_value_at}
 use Rattle.indexmap.proofs.MapLemmas.{absent_from_lookup, insert_entry-absent}
+use Rattle.model.specs.declared.image.Level.{Level}
 use Rattle.model.specs.Deck.Trees.{Bytes}
 use Rattle.model.specs.Language.Io.{Io}
 use Rattle.model.specs.Language.Keywords.{Keys}
 use Rattle.model.specs.Language.Values.{Object, Str, set_var, set_plain}
 use Rattle.model.specs.Language.Primitives.{set_reads, set_writes}
 use Rattle.world.specs.Values.{value_of}
+use Rattle.world.specs.Functions.{Functions, functions_in}
 use Rattle.world.specs.Objects.{object_map}
 use Rattle.world.specs.declared.value.Value.{Value}
 use Rattle.world.specs.declared.value.Value.TheVariants.{String}
@@ -37,13 +39,14 @@ stays {A} f old new x v h same y = ap f (h y) ∙ go (bytes_eq x y) refl
     go true q = same ∙ ap (λ z. f (variable_at z old)) ((bytes_eq-Decides x y).0 q)
     go false q = refl
 
-pub puts_var : (old new : List (Bytes × Variable)) (os : List (Object Value)) (ks : Keys) (x : Bytes) (v : Variable) → Puts old new x v → v.input ≡ input_in (variable_at x old) → v.output ≡ output_in (variable_at x old)
-    → (io : Io) → world_of (record { variables = new; objects = os; keys = ks }) io ≡ set_var x (value_of v.value) (world_of (record { variables = old; objects = os; keys = ks }) io)
-puts_var old new os ks x v h reads writes io = λ i. record {
+pub puts_var : (old new : List (Bytes × Variable)) (os : List (Object Value)) (fs : Functions) (ks : Keys) (lv : Level) (x : Bytes) (v : Variable) → Puts old new x v → v.input ≡ input_in (variable_at x old) → v.output ≡ output_in (variable_at x old)
+    → (io : Io) → world_of (record { variables = new; objects = os; functions = fs; keys = ks; level = lv }) io ≡ set_var x (value_of v.value) (world_of (record { variables = old; objects = os; functions = fs; keys = ks; level = lv }) io)
+puts_var old new os fs ks lv x v h reads writes io = λ i. record {
   vars = λ y. (ap value_in (h y) ∙ value_by (bytes_eq x y) v (variable_at y old)) i;
   objects = map (object_map value_of) os;
   plain = record {
-    functions = λ f. None;
+    level = lv;
+    functions = functions_in fs;
     keys = ks;
     reads = λ y. stays input_in old new x v h reads y i;
     writes = λ y. stays output_in old new x v h writes y i;
@@ -52,18 +55,18 @@ puts_var old new os ks x v h reads writes io = λ i. record {
 }
 
 -- a variable that is there takes another value
-pub put_there : (vs new : List (Bytes × Variable)) (os : List (Object Value)) (ks : Keys) (held : WorldView) (x : Bytes) (old v : Variable) (value : Value) → record { variables = vs; objects = os; keys = ks } ≡ held → v ≡ record old { value = value } → variable_at x vs ≡ Some old → Puts vs new x v
-    → (io : Io) → world_of (record { variables = new; objects = os; keys = ks }) io ≡ set_var x (value_of value) (world_of held io)
-put_there vs new os ks held x old v value is e at h io =
-    puts_var vs new os ks x v h (ap (λ z. z.input) e ∙ sym (ap input_in at)) (ap (λ z. z.output) e ∙ sym (ap output_in at)) io
-    ∙ ap (λ z. set_var x (value_of z.value) (world_of (record { variables = vs; objects = os; keys = ks }) io)) e
+pub put_there : (vs new : List (Bytes × Variable)) (os : List (Object Value)) (fs : Functions) (ks : Keys) (lv : Level) (held : WorldView) (x : Bytes) (old v : Variable) (value : Value) → record { variables = vs; objects = os; functions = fs; keys = ks; level = lv } ≡ held → v ≡ record old { value = value } → variable_at x vs ≡ Some old → Puts vs new x v
+    → (io : Io) → world_of (record { variables = new; objects = os; functions = fs; keys = ks; level = lv }) io ≡ set_var x (value_of value) (world_of held io)
+put_there vs new os fs ks lv held x old v value is e at h io =
+    puts_var vs new os fs ks lv x v h (ap (λ z. z.input) e ∙ sym (ap input_in at)) (ap (λ z. z.output) e ∙ sym (ap output_in at)) io
+    ∙ ap (λ z. set_var x (value_of z.value) (world_of (record { variables = vs; objects = os; functions = fs; keys = ks; level = lv }) io)) e
     ∙ ap (λ z. set_var x (value_of value) (world_of z io)) is
 
 -- a variable that isn't there is put there
-pub put_new : (vs new : List (Bytes × Variable)) (os : List (Object Value)) (ks : Keys) (held : WorldView) (x : Bytes) (value : Value) → record { variables = vs; objects = os; keys = ks } ≡ held → variable_at x vs ≡ None → Puts vs new x (record { value = value; input = None; output = None })
-    → (io : Io) → world_of (record { variables = new; objects = os; keys = ks }) io ≡ set_var x (value_of value) (world_of held io)
-put_new vs new os ks held x value is at h io =
-    puts_var vs new os ks x (record { value = value; input = None; output = None }) h (sym (ap input_in at)) (sym (ap output_in at)) io
+pub put_new : (vs new : List (Bytes × Variable)) (os : List (Object Value)) (fs : Functions) (ks : Keys) (lv : Level) (held : WorldView) (x : Bytes) (value : Value) → record { variables = vs; objects = os; functions = fs; keys = ks; level = lv } ≡ held → variable_at x vs ≡ None → Puts vs new x (record { value = value; input = None; output = None })
+    → (io : Io) → world_of (record { variables = new; objects = os; functions = fs; keys = ks; level = lv }) io ≡ set_var x (value_of value) (world_of held io)
+put_new vs new os fs ks lv held x value is at h io =
+    puts_var vs new os fs ks lv x (record { value = value; input = None; output = None }) h (sym (ap input_in at)) (sym (ap output_in at)) io
     ∙ ap (λ z. set_var x (value_of value) (world_of z io)) is
 
 -- ---- units
@@ -76,13 +79,14 @@ writes_by : (b : Bool) (v : Variable) (o : Option Variable) → output_in (cond 
 writes_by true v o = refl
 writes_by false v o = refl
 
-pub puts_units : (old new : List (Bytes × Variable)) (os : List (Object Value)) (ks : Keys) (x : Bytes) (v : Variable) → Puts old new x v → value_of v.value ≡ value_in (variable_at x old)
-    → (io : Io) → world_of (record { variables = new; objects = os; keys = ks }) io ≡ set_writes x v.output (set_reads x v.input (world_of (record { variables = old; objects = os; keys = ks }) io))
-puts_units old new os ks x v h same io = λ i. record {
+pub puts_units : (old new : List (Bytes × Variable)) (os : List (Object Value)) (fs : Functions) (ks : Keys) (lv : Level) (x : Bytes) (v : Variable) → Puts old new x v → value_of v.value ≡ value_in (variable_at x old)
+    → (io : Io) → world_of (record { variables = new; objects = os; functions = fs; keys = ks; level = lv }) io ≡ set_writes x v.output (set_reads x v.input (world_of (record { variables = old; objects = os; functions = fs; keys = ks; level = lv }) io))
+puts_units old new os fs ks lv x v h same io = λ i. record {
   vars = λ y. stays value_in old new x v h same y i;
   objects = map (object_map value_of) os;
   plain = record {
-    functions = λ f. None;
+    level = lv;
+    functions = functions_in fs;
     keys = ks;
     reads = λ y. (ap input_in (h y) ∙ reads_by (bytes_eq x y) v (variable_at y old)) i;
     writes = λ y. (ap output_in (h y) ∙ writes_by (bytes_eq x y) v (variable_at y old)) i;
@@ -91,21 +95,21 @@ puts_units old new os ks x v h same io = λ i. record {
 }
 
 -- a variable that is there takes other units
-pub units_there : (vs new : List (Bytes × Variable)) (os : List (Object Value)) (ks : Keys) (held : WorldView) (x : Bytes) (old v : Variable) (input output : Option ℕ) → record { variables = vs; objects = os; keys = ks } ≡ held
+pub units_there : (vs new : List (Bytes × Variable)) (os : List (Object Value)) (fs : Functions) (ks : Keys) (lv : Level) (held : WorldView) (x : Bytes) (old v : Variable) (input output : Option ℕ) → record { variables = vs; objects = os; functions = fs; keys = ks; level = lv } ≡ held
     → v ≡ record old { input = input; output = output } → variable_at x vs ≡ Some old → Puts vs new x v
-    → (io : Io) → world_of (record { variables = new; objects = os; keys = ks }) io ≡ set_writes x output (set_reads x input (world_of held io))
-units_there vs new os ks held x old v input output is e at h io =
-    puts_units vs new os ks x v h (ap (λ z. value_of z.value) e ∙ sym (ap value_in at)) io
-    ∙ ap (λ z. set_writes x z.output (set_reads x z.input (world_of (record { variables = vs; objects = os; keys = ks }) io))) e
+    → (io : Io) → world_of (record { variables = new; objects = os; functions = fs; keys = ks; level = lv }) io ≡ set_writes x output (set_reads x input (world_of held io))
+units_there vs new os fs ks lv held x old v input output is e at h io =
+    puts_units vs new os fs ks lv x v h (ap (λ z. value_of z.value) e ∙ sym (ap value_in at)) io
+    ∙ ap (λ z. set_writes x z.output (set_reads x z.input (world_of (record { variables = vs; objects = os; functions = fs; keys = ks; level = lv }) io))) e
     ∙ ap (λ z. set_writes x output (set_reads x input (world_of z io))) is
 
 -- a variable that isn't there is put there, with units
-pub units_new : (vs new : List (Bytes × Variable)) (os : List (Object Value)) (ks : Keys) (held : WorldView) (x : Bytes) (v : Variable) (input output : Option ℕ) → record { variables = vs; objects = os; keys = ks } ≡ held
+pub units_new : (vs new : List (Bytes × Variable)) (os : List (Object Value)) (fs : Functions) (ks : Keys) (lv : Level) (held : WorldView) (x : Bytes) (v : Variable) (input output : Option ℕ) → record { variables = vs; objects = os; functions = fs; keys = ks; level = lv } ≡ held
     → v ≡ record { value = String []; input = input; output = output } → variable_at x vs ≡ None → Puts vs new x v
-    → (io : Io) → world_of (record { variables = new; objects = os; keys = ks }) io ≡ set_writes x output (set_reads x input (world_of held io))
-units_new vs new os ks held x v input output is e at h io =
-    puts_units vs new os ks x v h (ap (λ z. value_of z.value) e ∙ sym (ap value_in at)) io
-    ∙ ap (λ z. set_writes x z.output (set_reads x z.input (world_of (record { variables = vs; objects = os; keys = ks }) io))) e
+    → (io : Io) → world_of (record { variables = new; objects = os; functions = fs; keys = ks; level = lv }) io ≡ set_writes x output (set_reads x input (world_of held io))
+units_new vs new os fs ks lv held x v input output is e at h io =
+    puts_units vs new os fs ks lv x v h (ap (λ z. value_of z.value) e ∙ sym (ap value_in at)) io
+    ∙ ap (λ z. set_writes x z.output (set_reads x z.input (world_of (record { variables = vs; objects = os; functions = fs; keys = ks; level = lv }) io))) e
     ∙ ap (λ z. set_writes x output (set_reads x input (world_of z io))) is
 
 -- the same at one name is the same everywhere
@@ -134,15 +138,16 @@ writes_set h new x u input (Ok a) is f = λ io. f io ∙ ap (λ z. set_writes x 
 writes_set h new x u input (Err e) is f = tt
 
 -- a variable that isn't there is put there with a null value
-pub put_unseen : (vs new : List (Bytes × Variable)) (os : List (Object Value)) (ks : Keys) (held : WorldView) (x : Bytes) (value : Value) → record { variables = vs; objects = os; keys = ks } ≡ held → variable_at x vs ≡ None → value_of value ≡ Str [] → Puts vs new x (record { value = value; input = None; output = None })
-    → (io : Io) → world_of (record { variables = new; objects = os; keys = ks }) io ≡ world_of held io
-put_unseen vs new os ks held x value is at null h io =
+pub put_unseen : (vs new : List (Bytes × Variable)) (os : List (Object Value)) (fs : Functions) (ks : Keys) (lv : Level) (held : WorldView) (x : Bytes) (value : Value) → record { variables = vs; objects = os; functions = fs; keys = ks; level = lv } ≡ held → variable_at x vs ≡ None → value_of value ≡ Str [] → Puts vs new x (record { value = value; input = None; output = None })
+    → (io : Io) → world_of (record { variables = new; objects = os; functions = fs; keys = ks; level = lv }) io ≡ world_of held io
+put_unseen vs new os fs ks lv held x value is at null h io =
     let v : Variable = record { value = value; input = None; output = None } in
-    let same : world_of (record { variables = new; objects = os; keys = ks }) io ≡ world_of (record { variables = vs; objects = os; keys = ks }) io = λ i. record {
+    let same : world_of (record { variables = new; objects = os; functions = fs; keys = ks; level = lv }) io ≡ world_of (record { variables = vs; objects = os; functions = fs; keys = ks; level = lv }) io = λ i. record {
       vars = λ y. stays value_in vs new x v h (null ∙ ap value_in (sym at)) y i;
       objects = map (object_map value_of) os;
       plain = record {
-        functions = λ f. None;
+        level = lv;
+        functions = functions_in fs;
         keys = ks;
         reads = λ y. stays input_in vs new x v h (ap input_in (sym at)) y i;
         writes = λ y. stays output_in vs new x v h (ap output_in (sym at)) y i;
@@ -199,8 +204,8 @@ pub held_there : (vs : List (Bytes × Variable)) (x : Bytes) (k : ℕ) (v : Vari
 held_there vs x k v (w, is, found) there = found ∙ sym (slice_get-map (λ e. e.1) vs k ∙ ap (λ o. option_map (λ e. e.1) o) is) ∙ sym there
 
 -- the variable in a slot takes another value
-pub put_in_slot : {S : Type 0} (m : IndexMap Bytes Variable S) (os : List (Object Value)) (ks : Keys) (held : WorldView) (x : Bytes) (k : ℕ) (old v : Variable) (value : Value) → record { variables = m.entries; objects = os; keys = ks } ≡ held → IsUnique bytes_eq m → Stands x k m.entries → Some old ≡ slice_get (values_of m.entries) k → v ≡ record old { value = value }
-    → (io : Io) → world_of (record { variables = (with_value_at m k v).entries; objects = os; keys = ks }) io ≡ set_var x (value_of value) (world_of held io)
-put_in_slot m os ks held x k old v value is unique stands there e io =
-    put_there m.entries (with_value_at m k v).entries os ks held x old v value is e (held_there m.entries x k old stands there)
+pub put_in_slot : {S : Type 0} (m : IndexMap Bytes Variable S) (os : List (Object Value)) (fs : Functions) (ks : Keys) (lv : Level) (held : WorldView) (x : Bytes) (k : ℕ) (old v : Variable) (value : Value) → record { variables = m.entries; objects = os; functions = fs; keys = ks; level = lv } ≡ held → IsUnique bytes_eq m → Stands x k m.entries → Some old ≡ slice_get (values_of m.entries) k → v ≡ record old { value = value }
+    → (io : Io) → world_of (record { variables = (with_value_at m k v).entries; objects = os; functions = fs; keys = ks; level = lv }) io ≡ set_var x (value_of value) (world_of held io)
+put_in_slot m os fs ks lv held x k old v value is unique stands there e io =
+    put_there m.entries (with_value_at m k v).entries os fs ks lv held x old v value is e (held_there m.entries x k old stands there)
     ((updates-with_value_at m k v nat_list_eq_equiv unique x stands.0 stands.1).0) io

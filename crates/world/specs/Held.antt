@@ -1,6 +1,7 @@
 -- The world as it is held, and as the definitions see it.
 use Rattle.std.specs.Prelude.{◌≡◌, ◌⊎◌, ℕ, List, [], ◌∷◌, ◌++◌, map, Option, Some, None, bytes_eq, codes, slice_get, Bool, false}
 use Rattle.std.specs.Map.{lookup, keys_of}
+use Rattle.model.specs.declared.image.Level.{Level}
 use Rattle.model.specs.Deck.Trees.{Bytes}
 use Rattle.model.specs.Language.Io.{Io}
 use Rattle.model.specs.Language.Keywords.{Keys, KeyValue, IsInteger, IsText, is_zero}
@@ -14,6 +15,7 @@ use Rattle.model.specs.Pattern.Steps.{Code}
 use Rattle.model.specs.Machine.Steps.{MVal, MW, codes_of}
 use Rattle.world.specs.Values.{value_of}
 use Rattle.world.specs.Objects.{object_map}
+use Rattle.world.specs.Functions.{Functions, functions_in}
 use Rattle.world.specs.declared.value.Value.{Value}
 use Rattle.world.specs.declared.value.Value.TheVariants as v
 use Rattle.world.specs.declared.world.Variable.{Variable}
@@ -23,7 +25,11 @@ pub record WorldView : Type 0 where
   pub variables : List (Bytes × Variable)
   -- arrays, tables and records, in the order of making
   pub objects : List (Object Value)
+  -- those that aren't primitive, by their names
+  pub functions : Functions
   pub keys : Keys
+  -- of the module that runs
+  pub level : Level
 
 abbrev pub variable_at : Bytes → List (Bytes × Variable) → Option Variable
 variable_at x vs = lookup (bytes_eq x) vs
@@ -51,7 +57,8 @@ world_of h io = record {
   vars = λ x. value_in (variable_at x h.variables);
   objects = map (object_map value_of) h.objects;
   plain = record {
-    functions = λ f. None;
+    level = h.level;
+    functions = functions_in h.functions;
     keys = h.keys;
     reads = λ x. input_in (variable_at x h.variables);
     writes = λ x. output_in (variable_at x h.variables);

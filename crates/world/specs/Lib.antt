@@ -3,3 +3,5 @@ pub mod Objects
 pub mod Answers
 pub mod Held
 pub mod Counts
+pub mod Functions
+pub mod Calling

@@ -7,12 +7,12 @@ ghost use Rattle.model.specs.Language.Keywords as keys;
 ghost use Rattle.model.specs.Language.Meaning.{over_limit};
 ghost use Rattle.model.specs.Language.Values as values;
 ghost use Rattle.model.specs.Language.Values.{enter_stmt};
-ghost use Rattle.world.specs.Counts.{is_counted};
+ghost use Rattle.world.specs.Counts.{deeper, is_counted, with_caller};
 ghost use Rattle.world.specs.Held.{world_of};
 
 use crate::world::World;
 use keywords::{KeyValue, Keywords};
-use model::KeyId;
+use model::{KeyId, ReturnKind};
 
 // What a keyword holds that counts or limits statements.
 fn integer(keywords: &Keywords, id: KeyId) -> i64
@@ -57,6 +57,30 @@ impl World {
         self.keywords.put(KeyId::StCount, count);
         self.keywords.put(KeyId::LastNo, last);
         self.keywords.put(KeyId::StNo, i64::from(number));
+    }
+
+    /// How many calls there are that didn't end.
+    pub(crate) fn level(&self) -> i64
+        ensures { self.now.keys.fnclevel ≡ result }
+    {
+        integer(&self.keywords, KeyId::FncLevel)
+    }
+
+    /// One more of them.
+    pub(crate) fn deepen(&mut self)
+        ensures { (io : Io) → world_of self.new io ≡ deeper (world_of self.old io) }
+    {
+        let level = counted(integer(&self.keywords, KeyId::FncLevel));
+        self.keywords.put(KeyId::FncLevel, level);
+    }
+
+    /// The keywords of the caller, as a call ends in this way.
+    pub(crate) fn put_back(&mut self, kind: ReturnKind, statement: i64, level: i64)
+        ensures { (io : Io) → world_of self.new io ≡ with_caller kind statement level (world_of self.old io) }
+    {
+        self.keywords.put(KeyId::StNo, statement);
+        self.keywords.put(KeyId::FncLevel, level);
+        self.keywords.returned(kind);
     }
 
     /// A statement failed.

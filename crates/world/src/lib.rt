@@ -4,7 +4,7 @@
 //! `assign` and `splice` go through the units where a variable is associated with one. `arith`, `cat`, `alt`, .. are
 //! the operators.
 //!
-//!     let mut world = World::new(alloc)?;
+//!     let mut world = World::new(alloc, module.level())?;
 //!     world.assign(alloc, &mut units, &name, value)?;
 //!     let fetched = world.fetch(&mut units, &name)?;
 //!
@@ -12,22 +12,30 @@
 //! CALLING.md tells how answers are stated.
 #![tactic(auto)]
 
+mod arguments;
 mod arithmetic;
 mod associations;
+mod calls;
 mod conversions;
 mod counts;
 mod elements;
 mod fault;
+mod functions;
 mod items;
 mod making;
 mod operators;
+mod records;
+mod types;
 mod unit_calls;
 mod value;
 mod world;
 mod world_operators;
 
+pub use arguments::argument;
 pub use arithmetic::{arith, sign};
+pub use calls::{Given, Kept};
 pub use fault::Fault;
+pub use functions::Function;
 pub use operators::{alt, cond, cursor, imm, indir};
 pub use value::Value;
 pub use world::World;

@@ -14,11 +14,12 @@ ghost use Rattle.world.specs.Held.{with_variable, pattern_variable, first_patter
 ghost use Rattle.world.specs.declared.value.Value.TheVariants.{String};
 ghost use Rattle.world.specs.declared.world.Variable.{Variable};
 
+use crate::functions::FunctionTable;
 use crate::value::Value;
 use aggregates::Heap;
 use indexmap::IndexMap;
 use keywords::{KeyValue, Keywords};
-use model::KeyId;
+use model::{KeyId, Level};
 use pattern_compiler::{Basic, PatCode};
 use std::alloc::{AllocError, Global};
 use std::marker::Model;
@@ -80,7 +81,10 @@ impl Variable {
 pub struct World {
     variables: IndexMap<Text, Variable>,
     pub(crate) heap: Heap<Value>,
+    pub(crate) functions: FunctionTable,
     pub(crate) keywords: Keywords,
+    // Of the module that runs.
+    level: Level,
 }
 
 impl Drop for World {
@@ -88,7 +92,9 @@ impl Drop for World {
         let World {
             variables: _,
             heap: _,
+            functions: _,
             keywords: _,
+            level: _,
         } = self;
     }
 }
@@ -101,15 +107,17 @@ impl Model for World {
     ghost view = { λ w. record {
       variables = w.variables.entries;
       objects = w.heap;
+      functions = w.functions;
       keys = w.keywords;
+      level = w.level;
     } };
 }
 
 impl World {
-    /// The world as a run begins.
-    pub fn new(alloc: Global) -> Result<World, AllocError>
+    /// The world as a run of a module of a level begins.
+    pub fn new(alloc: Global, level: Level) -> Result<World, AllocError>
         ensures { IfOk result (λ world.
-            (io : Io) → world_of world io ≡ after_w io.printed (first_m io.left)) }
+            (io : Io) → world_of world io ≡ after_w io.printed (first_m level io.left)) }
     {
         let Ok(keywords) = Keywords::new(alloc) else {
             return Err(AllocError);
@@ -117,11 +125,20 @@ impl World {
         let mut world = World {
             variables: IndexMap::new(alloc),
             heap: Heap::new(alloc),
+            functions: FunctionTable::new(alloc),
             keywords,
+            level,
         };
         world.put_patterns(alloc)?;
         world.put_units(alloc)?;
         Ok(world)
+    }
+
+    /// The level of the module that runs.
+    pub fn module_level(&self) -> Level
+        ensures { result ≡ self.now.level }
+    {
+        self.level
     }
 
     /// The longest string that `&MAXLNGTH` allows.

@@ -10,7 +10,7 @@ use Rattle.model.specs.declared.primitives.PrimId.TheVariants as p
 use Rattle.model.specs.Deck.Trees.{Bytes}
 use Rattle.model.specs.Language.Keywords.{counted_up, return_name}
 use Rattle.model.specs.Deck.Target.{Name, Variable, Element, IntegerKey, StringKey}
-use Rattle.model.specs.Language.Names.{prim_named}
+use Rattle.model.specs.Language.Names.{prim_at}
 use Rattle.model.specs.Pattern.Patterns.{Kind, KLen, KPos, KRPos, KTab, KRTab, KAny, KNotAny, KSpan, KBreak, Pending, want_of_kind}
 use Rattle.model.specs.Language.Values.{Value, Str, Int, Pat, Nam, Exp, Obj, Makes, Constructor, Field, Bounds, Entry, Object, ArrayOf, TableOf, RecordOf, World, set_io, set_var, set_keys, keys_of}
 use Rattle.model.specs.Language.Conversions.{Op, Gives, Refuses, Faults, Conv, Got, Bad, conv, then_op, to_text, to_integer, to_pattern, to_name, to_variable, is_null, answer_of}
@@ -325,14 +325,14 @@ module _ {P E : Type 0} (before : Records) where
   prim_after mk p.Item vs w = item_after vs w
   prim_after mk p.Copy vs w = returned_after _ _ (copy_after (arg_at vs 0) w)
   prim_after mk p.Convert vs w = returned_after _ _ (by_conv w (to_text (arg_at vs 1)) _ _ (λ t. converted_after mk (arg_at vs 0) t w))
-  prim_after mk p.Data vs w = returned_after _ _ (by_conv w (to_text (arg_at vs 0)) _ _ (λ s. data_after (type_prototype s) w))
-  prim_after mk p.Define vs w = returned_after _ _ (by_conv w (to_text (arg_at vs 0)) _ _ (λ s. by_conv w (to_entry_label (arg_at vs 1)) _ _ (λ l. define_after l (function_prototype s) w)))
+  prim_after mk p.Data vs w = returned_after _ _ (by_conv w (to_text (arg_at vs 0)) _ _ (λ s. data_after (type_prototype w.plain.level s) w))
+  prim_after mk p.Define vs w = returned_after _ _ (by_conv w (to_text (arg_at vs 0)) _ _ (λ s. by_conv w (to_entry_label (arg_at vs 1)) _ _ (λ l. define_after l (function_prototype w.plain.level s) w)))
   prim_after mk p.Input vs w = returned_after _ _ (by_conv w (to_variable (arg_at vs 0)) _ _ (λ x. unit_after 5 (arg_at vs 1) w (λ u. Gives (Str []) (set_reads x (Some u) w)) _ (λ u. refl)))
   prim_after mk p.Output vs w = returned_after _ _ (by_conv w (to_variable (arg_at vs 0)) _ _ (λ x. unit_after 6 (arg_at vs 1) w (λ u. Gives (Str []) (set_writes x (Some u) w)) _ (λ u. refl)))
   prim_after mk p.Detach vs w = returned_after _ _ (by_conv w (to_variable (arg_at vs 0)) _ _ (λ x. refl))
   prim_after mk p.Fence vs w = returned_after _ _ (by_conv w (to_pattern mk (arg_at vs 0)) _ _ (λ q. refl))
   prim_after mk p.Apply [] w = refl
-  prim_after mk p.Apply (v ∷ vs) w = by_conv w (to_variable v) _ _ (λ f. applied_after f vs w _ _ (λ q. prim_after mk q vs w) (prim_named f))
+  prim_after mk p.Apply (v ∷ vs) w = by_conv w (to_variable v) _ _ (λ f. applied_after f vs w _ _ (λ q. prim_after mk q vs w) (prim_at w.plain.level f))
 
   -- ---- calls
 

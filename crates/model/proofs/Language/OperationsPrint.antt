@@ -10,7 +10,7 @@ use Rattle.model.specs.declared.primitives.PrimId.{PrimId}
 use Rattle.model.specs.declared.primitives.PrimId.TheVariants as p
 use Rattle.model.specs.Deck.Trees.{Bytes}
 use Rattle.model.specs.Deck.Target.{Name, Variable, Element, IntegerKey, StringKey}
-use Rattle.model.specs.Language.Names.{prim_named}
+use Rattle.model.specs.Language.Names.{prim_at}
 use Rattle.model.specs.Pattern.Patterns.{Kind, KLen, KPos, KRPos, KTab, KRTab, KAny, KNotAny, KSpan, KBreak, Pending, want_of_kind}
 use Rattle.model.specs.Language.Values.{Value, Str, Int, Pat, Nam, Exp, Obj, Makes, Bounds, Entry, Object, ArrayOf, TableOf, RecordOf, World, set_var, printed_of}
 use Rattle.model.specs.Language.Conversions.{Op, Gives, Refuses, Faults, Conv, Got, Bad, conv, then_op, to_text, to_integer, to_pattern, to_name, to_variable, is_null, answer_of}
@@ -330,14 +330,14 @@ module _ {P E : Type 0} where
   prim_on mk p.Item vs w = item_on vs w
   prim_on mk p.Copy vs w = returned_on (copy_on (arg_at vs 0) w)
   prim_on mk p.Convert vs w = returned_on (by_conv w (to_text (arg_at vs 1)) _ (λ t. converted_on mk (arg_at vs 0) t w))
-  prim_on mk p.Data vs w = returned_on (by_conv w (to_text (arg_at vs 0)) _ (λ s. data_on (type_prototype s) w))
-  prim_on mk p.Define vs w = returned_on (by_conv w (to_text (arg_at vs 0)) _ (λ s. by_conv w (to_entry_label (arg_at vs 1)) _ (λ l. define_on l (function_prototype s) w)))
+  prim_on mk p.Data vs w = returned_on (by_conv w (to_text (arg_at vs 0)) _ (λ s. data_on (type_prototype w.plain.level s) w))
+  prim_on mk p.Define vs w = returned_on (by_conv w (to_text (arg_at vs 0)) _ (λ s. by_conv w (to_entry_label (arg_at vs 1)) _ (λ l. define_on l (function_prototype w.plain.level s) w)))
   prim_on mk p.Input vs w = returned_on (by_conv w (to_variable (arg_at vs 0)) _ (λ x. unit_on 5 (arg_at vs 1) w (λ u. Gives (Str []) (set_reads x (Some u) w)) (λ u. gon (same_printed w _ refl))))
   prim_on mk p.Output vs w = returned_on (by_conv w (to_variable (arg_at vs 0)) _ (λ x. unit_on 6 (arg_at vs 1) w (λ u. Gives (Str []) (set_writes x (Some u) w)) (λ u. gon (same_printed w _ refl))))
   prim_on mk p.Detach vs w = returned_on (by_conv w (to_variable (arg_at vs 0)) _ (λ x. gon (same_printed w _ refl)))
   prim_on mk p.Fence vs w = returned_on (by_conv w (to_pattern mk (arg_at vs 0)) _ (λ q. kept w))
   prim_on mk p.Apply [] w = faulted w
-  prim_on mk p.Apply (v ∷ vs) w = by_conv w (to_variable v) _ (λ f. applied_on f vs w _ (λ q. prim_on mk q vs w) (prim_named f))
+  prim_on mk p.Apply (v ∷ vs) w = by_conv w (to_variable v) _ (λ f. applied_on f vs w _ (λ q. prim_on mk q vs w) (prim_at w.plain.level f))
 
   -- ---- calls
 

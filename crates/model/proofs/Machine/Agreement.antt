@@ -3,6 +3,8 @@ use Rattle.std.proofs.Common.{◌≡◌, ℕ, zero, suc, pred, ◌+◌, ◌-◌,
 use Rattle.model.specs.declared.run.ErrorCode.TheVariants as error
 use Rattle.model.specs.declared.run.Ending.{Ending}
 use Rattle.model.specs.declared.run.Ending.TheVariants as ending
+use Rattle.model.specs.declared.image.Level.{Level}
+use Rattle.model.specs.declared.image.Level.TheVariants as levels
 use Rattle.model.specs.Deck.Trees.{Bytes, Expr}
 use Rattle.model.specs.Language.Programs.{Program, program}
 use Rattle.model.specs.Pattern.Patterns as p
@@ -233,13 +235,13 @@ first_value_same at x =
     (if_vr at (bytes_eq x (codes "ABORT")) (rpat refl)
     (if_vr at (bytes_eq x (codes "FENCE")) (rpat refl) (rstr [])))))))
 
-pub first_same : (at : ℕ → Option Expr) (inputs : Inputs) → WR at (first_w inputs) (first_m inputs)
-first_same at inputs = record { vars = first_value_same at; objects = onil; plain = refl; io = refl }
+pub first_same : (at : ℕ → Option Expr) (inputs : Inputs) (l : Level) → l ≡ levels.Two → WR at (first_w inputs) (first_m l inputs)
+first_same at inputs l two = record { vars = first_value_same at; objects = onil; plain = λ i. record (first_w inputs).plain { level = sym two i }; io = refl }
 
 pub agrees_where_placed : AgreesWherePlaced
-agrees_where_placed deck image at placed = record {
-  ends = λ inputs n e h. ends (program deck) (module_of image) at placed (first_w inputs) (first_m inputs) (first_same at inputs) n e h;
-  ends_only = λ inputs k e h. ends_only (program deck) (module_of image) at placed (first_w inputs) (first_m inputs) (first_same at inputs) k e h;
-  prints = λ inputs n. prints (program deck) (module_of image) at placed (first_w inputs) (first_m inputs) (first_same at inputs) n;
-  prints_only = λ inputs k. prints_only (program deck) (module_of image) at placed (first_w inputs) (first_m inputs) (first_same at inputs) k;
+agrees_where_placed deck image at two placed = record {
+  ends = λ inputs n e h. ends (program deck) (module_of image) at placed (first_w inputs) (first_m image.level inputs) (first_same at inputs image.level two) n e h;
+  ends_only = λ inputs k e h. ends_only (program deck) (module_of image) at placed (first_w inputs) (first_m image.level inputs) (first_same at inputs image.level two) k e h;
+  prints = λ inputs n. prints (program deck) (module_of image) at placed (first_w inputs) (first_m image.level inputs) (first_same at inputs image.level two) n;
+  prints_only = λ inputs k. prints_only (program deck) (module_of image) at placed (first_w inputs) (first_m image.level inputs) (first_same at inputs image.level two) k;
 }

@@ -110,9 +110,9 @@ asked_there im g st fs w h k want e = (get_or im.expressions k 0, slice_get-get_
 pub none_asked : (g : Matching) (st : s.MatchState) (fs : List Frame) (w : MW) → StateIn 0 (InMatch g st fs w) → (k : ℕ) (want : Want) → s.event_of (s.pattern_step g.subject g.code st) ≢ Asks (AskFor k want)
 none_asked g st fs w h k want e = omega (arith, asks_in 0 g st fs w h k want e)
 
-pub runs_ask_there : (im : Image) → IsWellFormed im → (records : ℕ → List Bytes) (m : ℕ) (g : Matching) (st : s.MatchState) (fs : List Frame) (w : MW) → steps (module_of im) m (begun (module_of im) (first_world codes_of records)) ≡ InMatch g st fs w → (k : ℕ) (want : Want)
+pub runs_ask_there : (im : Image) → IsWellFormed im → (records : ℕ → List Bytes) (m : ℕ) (g : Matching) (st : s.MatchState) (fs : List Frame) (w : MW) → steps (module_of im) m (begun (module_of im) (first_world im.level codes_of records)) ≡ InMatch g st fs w → (k : ℕ) (want : Want)
     → s.event_of (s.pattern_step g.subject g.code st) ≡ Asks (AskFor k want) → (at : ℕ) × (slice_get im.expressions k ≡ Some at)
 runs_ask_there im wf records m g st fs w e k want =
     let n : ℕ = length im.expressions in
-    let h = steps_in n (module_of im) (well_formed_in im wf) m (begun (module_of im) (first_world codes_of records)) (begun_in n (module_of im) (first_world codes_of records) (first_in n records)) in
+    let h = steps_in n (module_of im) (well_formed_in im wf) m (begun (module_of im) (first_world im.level codes_of records)) (begun_in n (module_of im) (first_world im.level codes_of records) (first_in n im.level records)) in
     asked_there im g st fs w (subst (StateIn n) e h) k want

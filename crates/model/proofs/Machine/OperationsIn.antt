@@ -6,6 +6,7 @@ use Rattle.model.specs.declared.run.ErrorCode.{ErrorCode}
 use Rattle.model.specs.declared.instr.ArithOp.{ArithOp}
 use Rattle.model.specs.declared.instr.SignOp.{SignOp}
 use Rattle.model.specs.declared.keys.KeyId.{KeyId}
+use Rattle.model.specs.declared.image.Level.{Level}
 use Rattle.model.specs.Deck.Trees.{Bytes}
 use Rattle.model.specs.Deck.Target.{Name, Variable, Element, IntegerKey, StringKey}
 use Rattle.model.specs.Language.Keywords.{KeyValue, IsInteger, IsText, key_value, allows}
@@ -98,8 +99,8 @@ module _ (n : ℕ) where
   pub var_in : (x : Bytes) (v : MVal) (w : MW) → ValueIn n v → WorldIn n w → WorldIn n (set_var x v w)
   var_in x v w h i = record { vars = λ y. choice_in (ValueIn n) (bytes_eq x y) h (i.vars y); objects = i.objects }
 
-  pub first_in : (records : ℕ → List Bytes) → WorldIn n (first_world codes_of records)
-  first_in records = record { vars = variable; objects = tt }
+  pub first_in : (l : Level) (records : ℕ → List Bytes) → WorldIn n (first_world l codes_of records)
+  first_in l records = record { vars = variable; objects = tt }
     where
       variable : (x : Bytes) → ValueIn n (first_value codes_of x)
       variable x =

@@ -6,11 +6,11 @@ use Rattle.model.specs.declared.instr.ReturnKind.TheVariants as kind
 use Rattle.model.specs.declared.primitives.PrimId.{PrimId}
 use Rattle.model.specs.declared.primitives.PrimId.TheVariants as p
 use Rattle.model.specs.Deck.Trees.{Bytes, Expr}
-use Rattle.model.specs.Language.Names.{prim_named, most_args}
+use Rattle.model.specs.Language.Names.{prim_at, most_args}
 use Rattle.model.specs.Language.Keywords.{counted_up, return_name}
 use Rattle.model.specs.Pattern.Patterns.{KLen, KPos, KRPos, KTab, KRTab, KAny, KNotAny, KSpan, KBreak}
 use Rattle.model.specs.Pattern.Stands.{Stands}
-use Rattle.model.specs.Language.Values.{Str, Pat, Obj, Pattern, pattern_trees, Bounds, Key, IntegerAt, StringAt, Entry, Object, ArrayOf, Function, Defined, Constructor, Field}
+use Rattle.model.specs.Language.Values.{Str, Pat, Obj, Plain, Pattern, pattern_trees, Bounds, Key, IntegerAt, StringAt, Entry, Object, ArrayOf, Function, Defined, Constructor, Field}
 use Rattle.model.specs.Language.Conversions.{Conv, Got, Bad, Op, Gives, then_conv, is_null}
 use Rattle.model.specs.Language.Prototypes.{FunctionPrototype, function_prototype, TypePrototype, type_prototype, array_prototype, elements_in}
 use Rattle.model.specs.Language.Aggregates as g
@@ -279,6 +279,9 @@ module _ (at : ℕ → Option Expr) where
 
   -- ---- functions and units
 
+  level_same : {w : W} {m : MW} → WR at w m → w.plain.level ≡ m.plain.level
+  level_same wr = ap (λ (x : Plain). x.level) wr.plain
+
   function_same : (f : Bytes) (d : Function) {w : W} {m : MW} → WR at w m → WR at (set_function f d w) (set_function f d m)
   function_same f d wr = plain_same at _ _ (λ i. record (wr.plain i) { functions = λ g. if bytes_eq f g then Some d else (wr.plain i).functions g }) wr
 
@@ -322,6 +325,11 @@ module _ (at : ℕ → Option Expr) where
   applied_same f k l hs wr h None = gives (calls f hs) wr
   applied_same f k l hs wr h (Some q) = if_same at (OutcomeR at) _ _ _ _ _ _ (ap (nat_lt (most_args q)) (length_same hs)) (faults error.TooManyArguments wr) (h q)
 
+  applied_at_level : (f : Bytes) {vs : List Val} {ms : List MVal} {w : W} {m : MW} (k : PrimId → Op W (Outcome Pattern Expr)) (l : PrimId → Op MW (Outcome PCode ℕ)) → VRs at vs ms → WR at w m
+      → ((q : PrimId) → OpR at (OutcomeR at) (k q) (l q)) → OpR at (OutcomeR at) (applied f vs w k (prim_at w.plain.level f)) (applied f ms m l (prim_at m.plain.level f))
+  applied_at_level f {vs} {ms} {w} {m} k l hs wr h =
+      subst (λ x. OpR at (OutcomeR at) (applied f vs w k (prim_at w.plain.level f)) (applied f ms m l (prim_at x f))) (level_same wr) (applied_same f k l hs wr h (prim_at w.plain.level f))
+
   pub prim_same : (f : PrimId) {vs : List Val} {ms : List MVal} {w : W} {m : MW} → VRs at vs ms → WR at w m → OpR at (OutcomeR at) (prim_op pattern_trees f vs w) (prim_op codes_of f ms m)
   prim_same p.Len hs wr = returned_same (kind_same at KLen (arg_same hs 0) wr)
   prim_same p.Pos hs wr = returned_same (kind_same at KPos (arg_same hs 0) wr)
@@ -359,9 +367,12 @@ module _ (at : ℕ → Option Expr) where
   prim_same p.Item hs wr = item_op_same hs wr
   prim_same p.Copy hs wr = returned_same (copy_same (arg_same hs 0) wr)
   prim_same p.Convert hs wr = returned_same (conv_same at (VR at) _ _ _ _ (text_same at (arg_same hs 1)) wr (λ t. converted_same t (arg_same hs 0) wr))
-  prim_same p.Data hs wr = returned_same (conv_same at (VR at) _ _ _ _ (text_same at (arg_same hs 0)) wr (λ s. data_same (type_prototype s) wr))
-  prim_same p.Define hs wr =
-      returned_same (conv_same at (VR at) _ _ _ _ (text_same at (arg_same hs 0)) wr (λ s. conv_same at (VR at) _ _ _ _ (entry_same (arg_same hs 1)) wr (λ l. define_same l (function_prototype s) wr)))
+  prim_same p.Data {vs} {ms} {w} {m} hs wr =
+      returned_same (conv_same at (VR at) _ _ _ _ (text_same at (arg_same hs 0)) wr
+      (λ s. subst (λ l. OpR at (VR at) (data_op (type_prototype w.plain.level s) w) (data_op (type_prototype l s) m)) (level_same wr) (data_same (type_prototype w.plain.level s) wr)))
+  prim_same p.Define {vs} {ms} {w} {m} hs wr =
+      returned_same (conv_same at (VR at) _ _ _ _ (text_same at (arg_same hs 0)) wr (λ s. conv_same at (VR at) _ _ _ _ (entry_same (arg_same hs 1)) wr
+      (λ e. subst (λ l. OpR at (VR at) (define_op e (function_prototype w.plain.level s) w) (define_op e (function_prototype l s) m)) (level_same wr) (define_same e (function_prototype w.plain.level s) wr))))
   prim_same p.Input hs wr =
       returned_same (conv_same at (VR at) _ _ _ _ (variable_same at (arg_same hs 0)) wr (λ x. unit_same 5 _ _ (arg_same hs 1) wr (λ u. gives (rstr []) (reads_same x (Some u) wr))))
   prim_same p.Output hs wr =
@@ -369,7 +380,7 @@ module _ (at : ℕ → Option Expr) where
   prim_same p.Detach hs wr = returned_same (conv_same at (VR at) _ _ _ _ (variable_same at (arg_same hs 0)) wr (λ x. gives (rstr []) (writes_same x None (reads_same x None wr))))
   prim_same p.Fence hs wr = returned_same (conv_stands at (λ p c. Stands at p c) (VR at) _ _ (pattern_same at (arg_same hs 0)) wr (λ p c x. gives (rpat (c, x, refl)) wr))
   prim_same p.Apply rnil wr = faults error.NotAName wr
-  prim_same p.Apply (rcons h hs) wr = conv_same at (OutcomeR at) _ _ _ _ (variable_same at h) wr (λ f. applied_same f _ _ hs wr (λ q. prim_same q hs wr) (prim_named f))
+  prim_same p.Apply (rcons h hs) wr = conv_same at (OutcomeR at) _ _ _ _ (variable_same at h) wr (λ f. applied_at_level f _ _ hs wr (λ q. prim_same q hs wr))
 
   -- ---- calls
 

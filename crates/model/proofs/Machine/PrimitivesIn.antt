@@ -6,7 +6,7 @@ use Rattle.model.specs.declared.instr.ReturnKind.TheVariants as kind
 use Rattle.model.specs.declared.primitives.PrimId.{PrimId}
 use Rattle.model.specs.declared.primitives.PrimId.TheVariants as p
 use Rattle.model.specs.Deck.Trees.{Bytes}
-use Rattle.model.specs.Language.Names.{prim_named}
+use Rattle.model.specs.Language.Names.{prim_at}
 use Rattle.model.specs.Pattern.Patterns.{KLen, KPos, KRPos, KTab, KRTab, KAny, KNotAny, KSpan, KBreak}
 use Rattle.model.specs.Language.Values.{Str, Obj, Bounds, Key, IntegerAt, StringAt, Entry, Object, ArrayOf, TableOf, RecordOf, set_var}
 use Rattle.model.specs.Language.Conversions.{Conv, Got, Bad, Op, conv, to_text, to_integer, to_pattern, to_name, to_variable, is_null}
@@ -221,14 +221,14 @@ module _ (n : ℕ) where
   prim_in p.Item vs w h i = item_op_in vs w i
   prim_in p.Copy vs w h i = returned_in (copy_in (arg_at vs 0) w i)
   prim_in p.Convert vs w h i = returned_in (text_in (arg_at vs 1) w _ i (λ t. converted_in (arg_at vs 0) t w (arg_in vs 0 h) i))
-  prim_in p.Data vs w h i = returned_in (text_in (arg_at vs 0) w _ i (λ s. data_in (type_prototype s) w i))
-  prim_in p.Define vs w h i = returned_in (text_in (arg_at vs 0) w _ i (λ s. conv_in n (ValueIn n) (to_entry_label (arg_at vs 1)) w _ i (λ l. define_in l (function_prototype s) w i)))
+  prim_in p.Data vs w h i = returned_in (text_in (arg_at vs 0) w _ i (λ s. data_in (type_prototype w.plain.level s) w i))
+  prim_in p.Define vs w h i = returned_in (text_in (arg_at vs 0) w _ i (λ s. conv_in n (ValueIn n) (to_entry_label (arg_at vs 1)) w _ i (λ l. define_in l (function_prototype w.plain.level s) w i)))
   prim_in p.Input vs w h i = returned_in (conv_in n (ValueIn n) (to_variable (arg_at vs 0)) w _ i (λ x. unit_in 5 (arg_at vs 1) w _ i (λ u. gives {a = Str []} {w = set_reads x (Some u) w} tt i)))
   prim_in p.Output vs w h i = returned_in (conv_in n (ValueIn n) (to_variable (arg_at vs 0)) w _ i (λ x. unit_in 6 (arg_at vs 1) w _ i (λ u. gives {a = Str []} {w = set_writes x (Some u) w} tt i)))
   prim_in p.Detach vs w h i = returned_in (conv_in n (ValueIn n) (to_variable (arg_at vs 0)) w _ i (λ x. gives tt i))
   prim_in p.Fence vs w h i = returned_in (got_in n (CodeIn n) (ValueIn n) (to_pattern codes_of (arg_at vs 0)) w _ (pattern_in n (arg_at vs 0) (arg_in vs 0 h)) i (λ c k. gives (fence_code_in n c k) i))
   prim_in p.Apply [] w h i = faults i
-  prim_in p.Apply (v ∷ vs) w h i = conv_in n (OutcomeIn n) (to_variable v) w _ i (λ f. applied_in f vs w _ h.1 i (λ q. prim_in q vs w h.1 i) (prim_named f))
+  prim_in p.Apply (v ∷ vs) w h i = conv_in n (OutcomeIn n) (to_variable v) w _ i (λ f. applied_in f vs w _ h.1 i (λ q. prim_in q vs w h.1 i) (prim_at w.plain.level f))
 
   -- ---- calls
 

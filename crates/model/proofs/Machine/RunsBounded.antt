@@ -71,5 +71,5 @@ module _ (prog : Program) (img : Module) (trees_at : ℕ → Option _) (placed :
         go (Open v) h x = absurd (subst IsThere (sym h) tt)
 
 pub run_steps_law : RunStepsBounded
-run_steps_law deck image at placed inputs n e h b le =
-    ended_by (program deck) (module_of image) at placed (first_w inputs) (first_m inputs) (first_same at inputs) n e h b (omega (arith, le))
+run_steps_law deck image at two placed inputs n e h b le =
+    ended_by (program deck) (module_of image) at placed (first_w inputs) (first_m image.level inputs) (first_same at inputs image.level two) n e h b (omega (arith, le))

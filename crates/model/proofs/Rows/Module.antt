@@ -83,4 +83,4 @@ unfolding no_trees IsThere
 placed = record { stmts = stmts; next = next; labels = λ l. refl; gone_to = gone_to; exprs = λ k e h. absurd (subst IsThere (sym h) tt); entry = refl; entry_is = (0, refl) }
 
 pub hi_agrees : Agrees hi hi_image
-hi_agrees = agrees_where_placed hi hi_image no_trees placed
+hi_agrees = agrees_where_placed hi hi_image no_trees refl placed

@@ -1,7 +1,9 @@
 -- The names of keywords and primitives, and the most arguments that each primitive takes.
-use Rattle.std.specs.Prelude.{ℕ, List, [], ◌∷◌, Option, Bool, true, false, codes}
+use Rattle.std.specs.Prelude.{ℕ, List, [], ◌∷◌, Option, Some, None, Bool, true, false, if◌then◌else◌, codes}
 use Rattle.std.specs.List.{find}
 use Rattle.std.specs.Str.{bytes_eq}
+use Rattle.model.specs.declared.image.Level.{Level}
+use Rattle.model.specs.declared.image.Level.TheVariants as levels
 use Rattle.model.specs.declared.keys.KeyId.{KeyId}
 use Rattle.model.specs.declared.keys.KeyId.TheVariants as k
 use Rattle.model.specs.declared.primitives.PrimId.{PrimId}
@@ -93,6 +95,21 @@ prims = p.Len ∷ p.Pos ∷ p.RPos ∷ p.Tab ∷ p.RTab ∷ p.Any ∷ p.NotAny �
 
 unfoldable pub prim_named : List ℕ → Option PrimId
 prim_named = named prim_name prims
+
+-- those that came with level 2: FENCE of a pattern
+abbrev pub is_newer : PrimId → Bool
+is_newer p.Fence = true
+is_newer _ = false
+
+-- what a level has
+abbrev pub at_level : Level → Option PrimId → Option PrimId
+at_level levels.One None = None
+at_level levels.One (Some p) = if is_newer p then None else Some p
+at_level levels.Two o = o
+
+-- the primitive of a name at a level
+abbrev pub prim_at : Level → List ℕ → Option PrimId
+prim_at l f = at_level l (prim_named f)
 
 -- the most arguments
 abbrev pub most_args : PrimId → ℕ

@@ -6,7 +6,7 @@ use Rattle.model.specs.declared.primitives.PrimId.TheVariants as p
 use Rattle.model.specs.declared.run.ErrorCode.TheVariants as error
 use Rattle.model.specs.Deck.Trees.{Bytes}
 use Rattle.model.specs.Deck.Target.{Name, Variable, Element, IntegerKey, StringKey}
-use Rattle.model.specs.Language.Names.{prim_named, most_args}
+use Rattle.model.specs.Language.Names.{prim_at, most_args}
 use Rattle.model.specs.Language.Strings.{trimmed, replaced}
 use Rattle.model.specs.Pattern.Patterns.{KLen, KPos, KRPos, KTab, KRTab, KAny, KNotAny, KSpan, KBreak}
 use Rattle.model.specs.Language.Values.{Value, Str, Int, Pat, Nam, Exp, Obj, Makes, Function, Defined, Constructor, Field, TableOf, World, set_plain, keys_of}
@@ -218,12 +218,12 @@ module _ {P E : Type 0} where
   prim_op m p.Item vs w = item_op vs w
   prim_op m p.Copy vs w = returned (copy_op (arg_at vs 0) w)
   prim_op m p.Convert vs w = returned (conv (to_text (arg_at vs 1)) w (λ t. converted m (arg_at vs 0) t w))
-  prim_op m p.Data vs w = returned (conv (to_text (arg_at vs 0)) w (λ s. data_op (type_prototype s) w))
-  prim_op m p.Define vs w = returned (conv (to_text (arg_at vs 0)) w (λ s. conv (to_entry_label (arg_at vs 1)) w (λ l. define_op l (function_prototype s) w)))
+  prim_op m p.Data vs w = returned (conv (to_text (arg_at vs 0)) w (λ s. data_op (type_prototype w.plain.level s) w))
+  prim_op m p.Define vs w = returned (conv (to_text (arg_at vs 0)) w (λ s. conv (to_entry_label (arg_at vs 1)) w (λ l. define_op l (function_prototype w.plain.level s) w)))
   prim_op m p.Input vs w = returned (input_op (arg_at vs 0) (arg_at vs 1) w)
   prim_op m p.Output vs w = returned (output_op (arg_at vs 0) (arg_at vs 1) w)
   prim_op m p.Detach vs w = returned (detach_op (arg_at vs 0) w)
   prim_op m p.Fence vs w = returned (conv (to_pattern m (arg_at vs 0)) w (λ q. Gives (Pat (m.fence_of q)) w))
   prim_op m p.Apply [] w = Faults error.NotAName w
   prim_op m p.Apply (v ∷ vs) w =
-      conv (to_variable v) w (λ f. applied f vs w (λ q. prim_op m q vs w) (prim_named f))
+      conv (to_variable v) w (λ f. applied f vs w (λ q. prim_op m q vs w) (prim_at w.plain.level f))

@@ -1,8 +1,9 @@
 -- Prototypes: the texts by which DEFINE, DATA and ARRAY are told what to make.
 use Rattle.std.specs.Prelude.{ℕ, ◌+◌, ◌*◌, List, [], ◌∷◌, ◌++◌, length, ℤ, pos, ◌-ℤ◌, nat_abs, int_le, Option, None, Some, option_map, Bool, true, false, not, ◌&&◌, ◌||◌, nat_le, nat_lt, ◌==◌, bytes_eq, is_some, if◌then◌else◌, codes}
 use Rattle.std.specs.List.{list_any, list_all}
+use Rattle.model.specs.declared.image.Level.{Level}
 use Rattle.model.specs.Deck.Trees.{Bytes}
-use Rattle.model.specs.Language.Names.{prim_named}
+use Rattle.model.specs.Language.Names.{prim_at}
 use Rattle.model.specs.Language.Values.{Bounds}
 use Rattle.model.specs.Language.Conversions.{Conv, Got, Bad, read_integer}
 
@@ -49,8 +50,8 @@ abbrev pub are_distinct : List Bytes → Bool
 are_distinct [] = true
 are_distinct (x ∷ xs) = not (list_any (λ y. bytes_eq x y) xs) && are_distinct xs
 
-abbrev pub is_primitive : Bytes → Bool
-is_primitive f = is_some (prim_named f)
+abbrev pub is_primitive : Level → Bytes → Bool
+is_primitive l f = is_some (prim_at l f)
 
 -- the types of values that aren't a programmer's
 abbrev pub own_types : List Bytes
@@ -63,10 +64,10 @@ pub record FunctionPrototype : Type 0 where
   pub arguments : List Bytes
   pub locals : List Bytes
 
-abbrev pub is_function : FunctionPrototype → Bool
-is_function f =
+abbrev pub is_function : Level → FunctionPrototype → Bool
+is_function l f =
     let names : List Bytes = f.name ∷ (f.arguments ++ f.locals) in
-    list_all is_name names && are_distinct names && not (is_primitive f.name)
+    list_all is_name names && are_distinct names && not (is_primitive l f.name)
 
 abbrev pub passing : {A : Type 0} → (A → Bool) → Option A → Option A
 passing test None = None
@@ -80,8 +81,8 @@ abbrev pub function_cut : Option Cut → Option FunctionPrototype
 function_cut None = None
 function_cut (Some c) = function_rest c.before (cut_at 41 c.after)
 
-abbrev pub function_prototype : Bytes → Option FunctionPrototype
-function_prototype text = passing is_function (function_cut (cut_at 40 text))
+abbrev pub function_prototype : Level → Bytes → Option FunctionPrototype
+function_prototype l text = passing (is_function l) (function_cut (cut_at 40 text))
 
 -- ---- of DATA: `TYPE(FIELD,..)`
 
@@ -91,10 +92,10 @@ pub record TypePrototype : Type 0 where
   -- what stands after the bracket
   pub rest : Bytes
 
-abbrev pub is_type : TypePrototype → Bool
-is_type t =
+abbrev pub is_type : Level → TypePrototype → Bool
+is_type l t =
     let names : List Bytes = t.name ∷ t.fields in
-    nat_lt 0 (length t.fields) && list_all is_name names && are_distinct names && not (list_any is_primitive names) && not (list_any (λ x. bytes_eq t.name x) own_types) && length t.rest == 0
+    nat_lt 0 (length t.fields) && list_all is_name names && are_distinct names && not (list_any (is_primitive l) names) && not (list_any (λ x. bytes_eq t.name x) own_types) && length t.rest == 0
 
 abbrev pub type_rest : Bytes → Option Cut → Option TypePrototype
 type_rest name None = None
@@ -104,8 +105,8 @@ abbrev pub type_cut : Option Cut → Option TypePrototype
 type_cut None = None
 type_cut (Some c) = type_rest c.before (cut_at 41 c.after)
 
-abbrev pub type_prototype : Bytes → Option TypePrototype
-type_prototype text = passing is_type (type_cut (cut_at 40 text))
+abbrev pub type_prototype : Level → Bytes → Option TypePrototype
+type_prototype l text = passing (is_type l) (type_cut (cut_at 40 text))
 
 -- ---- of ARRAY: `n` or `low:high`, up to eight with commas
 

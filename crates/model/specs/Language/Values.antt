@@ -1,5 +1,6 @@
 -- Values and the world. P is what stands for a pattern and E for an unevaluated expression: trees in the meaning, code and a number in the machine.
 use Rattle.std.specs.Prelude.{ℕ, List, [], ℤ, pos, Option, Some, None, if◌then◌else◌, bytes_eq, codes}
+use Rattle.model.specs.declared.image.Level.{Level}
 use Rattle.model.specs.Deck.Trees.{Bytes, Expr}
 use Rattle.model.specs.Deck.Target.{Name}
 use Rattle.model.specs.Language.Io.{Io}
@@ -77,6 +78,8 @@ pub data Function : Type 0 where
 
 -- what of the world holds no values
 pub record Plain : Type 0 where
+  -- of the module that runs, the same in the whole run
+  pub level : Level
   pub functions : Bytes → Option Function
   pub keys : Keys
   pub reads : Bytes → Option ℕ
@@ -130,12 +133,13 @@ module _ {P E : Type 0} where
       else if bytes_eq x (codes "FENCE") then Pat m.fence
       else Str []
 
-  -- the world as a run begins, with these records on each unit
-  abbrev pub first_world : Makes P E → (ℕ → List Bytes) → World P E
-  first_world m records = record {
+  -- the world as a run at a level begins, with these records on each unit
+  abbrev pub first_world : Level → Makes P E → (ℕ → List Bytes) → World P E
+  first_world l m records = record {
     vars = first_value m;
     objects = [];
     plain = record {
+      level = l;
       functions = λ f. None;
       keys = first_keys;
       reads = λ x. if bytes_eq x (codes "INPUT") then Some 5 else None;

@@ -2,6 +2,8 @@
 use Rattle.std.specs.Prelude.{◌≡◌, ℕ, ◌+◌, List, ◌++◌, Option, Some, None}
 use Rattle.model.specs.declared.run.Ending.{Ending}
 use Rattle.model.specs.declared.image.Image.{Image}
+use Rattle.model.specs.declared.image.Level.{Level}
+use Rattle.model.specs.declared.image.Level.TheVariants as levels
 use Rattle.model.specs.Deck.Trees.{Bytes, Expr, Stmt}
 use Rattle.model.specs.Language.Programs.{program}
 use Rattle.model.specs.Language.Values.{pattern_trees, first_world, printed_of}
@@ -33,16 +35,17 @@ seen_at (InMatch g st fs w) = record { ending = None; printed = printed_of w }
 seen_at (Over e w) = record { ending = Some e; printed = printed_of w }
 seen_at (Stuck w) = record { ending = None; printed = printed_of w }
 
--- ---- from the first world, with these records on each unit
+-- ---- from the first world, with these records on each unit: the meaning's is of level 2
 
 abbrev pub Inputs : Type 0
 Inputs = ℕ → List Bytes
 
 abbrev pub first_w : Inputs → W
-first_w inputs = first_world pattern_trees inputs
+first_w inputs = first_world levels.Two pattern_trees inputs
 
-abbrev pub first_m : Inputs → MW
-first_m inputs = first_world codes_of inputs
+-- and at the level of the module
+abbrev pub first_m : Level → Inputs → MW
+first_m level inputs = first_world level codes_of inputs
 
 -- the meaning of a deck's statements, to the depth n
 abbrev pub meaning_at : ℕ → List Stmt → Inputs → Seen
@@ -50,7 +53,7 @@ meaning_at n deck inputs = seen_of (run (program deck) n (first_w inputs))
 
 -- what a module does in m steps
 abbrev pub machine_at : Image → Inputs → ℕ → Seen
-machine_at image inputs m = seen_at (steps (module_of image) m (begun (module_of image) (first_m inputs)))
+machine_at image inputs m = seen_at (steps (module_of image) m (begun (module_of image) (first_m image.level inputs)))
 
 -- the run of a module reaches an ending exactly when its program does, that ending and those records; and whatever either has printed the other prints too
 pub record Agrees (deck : List Stmt) (image : Image) : Type 0 where
@@ -59,9 +62,9 @@ pub record Agrees (deck : List Stmt) (image : Image) : Type 0 where
   pub prints : (inputs : Inputs) (n : ℕ) → (m : ℕ) × IsBeginning (meaning_at n deck inputs).printed (machine_at image inputs m).printed
   pub prints_only : (inputs : Inputs) (m : ℕ) → (n : ℕ) × IsBeginning (machine_at image inputs m).printed (meaning_at n deck inputs).printed
 
--- the law: wherever the code of each statement stands
+-- the law: for a module of level 2, wherever the code of each statement stands
 abbrev pub AgreesWherePlaced : Type 0
-AgreesWherePlaced = (deck : List Stmt) (image : Image) (trees_at : ℕ → Option Expr) → Placed (program deck) (module_of image) trees_at → Agrees deck image
+AgreesWherePlaced = (deck : List Stmt) (image : Image) (trees_at : ℕ → Option Expr) → image.level ≡ levels.Two → Placed (program deck) (module_of image) trees_at → Agrees deck image
 
 -- ---- more fuel only adds
 

@@ -1,6 +1,7 @@
 -- What each step of the machine keeps of the numbers of unevaluated expressions, and of where its states stand.
 use Rattle.std.specs.Prelude.{◌≡◌, ◌≢◌, ◌<◌, ℕ, List, [], ◌∷◌, length, Some}
 use Rattle.model.specs.declared.image.Image.{Image}
+use Rattle.model.specs.declared.image.Level.{Level}
 use Rattle.model.specs.declared.instr.Instr.{Instr}
 use Rattle.model.specs.declared.instr.Instr.TheVariants as op
 use Rattle.model.specs.Deck.Trees.{Bytes}
@@ -33,7 +34,7 @@ AskedAreIn = (n : ℕ) (st : s.MatchState) → SearchIn n st → (k : ℕ) (want
 
 -- the world as a run begins
 abbrev pub FirstWorldsAreIn : Type 0
-FirstWorldsAreIn = (n : ℕ) (records : ℕ → List Bytes) → WorldIn n (first_world codes_of records)
+FirstWorldsAreIn = (n : ℕ) (l : Level) (records : ℕ → List Bytes) → WorldIn n (first_world l codes_of records)
 
 -- the machine at the entry statement
 abbrev pub BegunAreIn : Type 0
@@ -71,7 +72,7 @@ AskedAreThere =
 abbrev pub RunsAskForWhatIsThere : Type 0
 RunsAskForWhatIsThere =
     (im : Image) → IsWellFormed im → (records : ℕ → List Bytes) (m : ℕ) (g : Matching) (st : s.MatchState) (fs : List Frame) (w : MW)
-    → steps (module_of im) m (begun (module_of im) (first_world codes_of records)) ≡ InMatch g st fs w → (k : ℕ) (want : Want)
+    → steps (module_of im) m (begun (module_of im) (first_world im.level codes_of records)) ≡ InMatch g st fs w → (k : ℕ) (want : Want)
     → s.event_of (s.pattern_step g.subject g.code st) ≡ Asks (AskFor k want) → (at : ℕ) × ((module_of im).expr k ≡ Some at)
 
 -- ---- no run lacks what it needs
@@ -110,4 +111,4 @@ StandingAreNotStuck = (im : Image) (w : MW) → Stands im (Stuck w) → ⊥
 
 -- so no run of a well-formed image gets stuck, whatever stands on its units
 abbrev pub NeverStuck : Type 0
-NeverStuck = (im : Image) → IsWellFormed im → (inputs : Inputs) (m : ℕ) (w : MW) → steps (module_of im) m (begun (module_of im) (first_m inputs)) ≢ Stuck w
+NeverStuck = (im : Image) → IsWellFormed im → (inputs : Inputs) (m : ℕ) (w : MW) → steps (module_of im) m (begun (module_of im) (first_m im.level inputs)) ≢ Stuck w

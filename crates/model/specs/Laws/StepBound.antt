@@ -2,6 +2,7 @@
 use Rattle.std.specs.Prelude.{◌≡◌, ◌≢◌, ℕ, ◌≤◌, ◌+◌, ◌*◌, List, Option, Some}
 use Rattle.model.specs.declared.run.Ending.{Ending}
 use Rattle.model.specs.declared.image.Image.{Image}
+use Rattle.model.specs.declared.image.Level.TheVariants as levels
 use Rattle.model.specs.Deck.Trees.{Stmt, Expr}
 use Rattle.model.specs.Language.Programs.{program}
 use Rattle.model.specs.Module.Images.{module_of}
@@ -32,4 +33,4 @@ EndsInTime deck image = (inputs : Inputs) (n : ℕ) (e : Ending) → (meaning_at
 
 -- the law: wherever the code of each statement stands
 abbrev pub RunStepsBounded : Type 0
-RunStepsBounded = (deck : List Stmt) (image : Image) (trees_at : ℕ → Option Expr) → Placed (program deck) (module_of image) trees_at → EndsInTime deck image
+RunStepsBounded = (deck : List Stmt) (image : Image) (trees_at : ℕ → Option Expr) → image.level ≡ levels.Two → Placed (program deck) (module_of image) trees_at → EndsInTime deck image

@@ -15,8 +15,7 @@ use Rattle.model.specs.declared.image.PatInstr.{PatInstr}
 use Rattle.model.specs.declared.image.PatInstr.TheVariants as pats
 use Rattle.model.specs.declared.instr.Instr.{Instr}
 use Rattle.model.specs.declared.instr.Instr.TheVariants as instrs
-use Rattle.model.specs.declared.primitives.PrimId.{PrimId}
-use Rattle.model.specs.declared.primitives.PrimId.TheVariants as prims
+use Rattle.model.specs.Language.Names.{is_newer}
 
 -- numbers of two, four and eight bytes
 unfoldable pub u16 : ℕ → List ℕ
@@ -312,10 +311,6 @@ pub record AreCards (l : Level) (statements cards : List ℕ) : Type 0 where
   pub entries : Follow (CardFits l) [] cards
 
 -- whether a level has an instruction: FENCE of a pattern came with level 2
-abbrev pub is_newer : PrimId → Bool
-is_newer prims.Fence = true
-is_newer _ = false
-
 abbrev pub is_of_one : Instr → Bool
 is_of_one (instrs.PrimV p n) = not (is_newer p)
 is_of_one (instrs.PrimN p n) = not (is_newer p)

@@ -1,4 +1,6 @@
-use Rattle.std.proofs.Common.{ap}
+use Rattle.std.proofs.Common.{ap, ◌∙◌}
+use Rattle.model.specs.Laws.Agreement.{first_m}
+use Rattle.model.specs.Laws.PrintedBefore.{after_w}
 use Rattle.loader.specs.Places.{offset_at}
 use Rattle.statement_machine.proofs.Flowing.{statement_begins, statement_stands}
 use Rattle.statement_machine.proofs.Running.{begun_is}
@@ -19,4 +21,4 @@ returns-clause-begun c = λ io.
     let e = c.in_ok-new.ensures.code in
     let p = c.in_ok-new.ensures.place in
     let at = statement_begins im (runnable im c.start-place.ensures.loaded) im.entry c.start-place.result c.start-place.ensures.place in
-    begun_is im _ c.in_ok-new.field-0 io at (ap (offset_at im.code) p.0) e.0 e.1 p.1 p.2 (c.in_ok-new.ensures.world io)
+    begun_is im _ c.in_ok-new.field-0 io at (ap (offset_at im.code) p.0) e.0 e.1 p.1 p.2 (c.in_ok-new.ensures.world io ∙ ap (λ l. after_w io.printed (first_m l io.left)) c.level.ensures)

@@ -1,0 +1,1 @@
+while (<STDIN>) { chomp; print /^(?:([a-z])|Z)*$/ ? "$1\n" : "no\n" }

@@ -1,0 +1,1 @@
+while (<STDIN>) { print /(.{4}).*?\1/ ? "$1\n" : "none\n" }

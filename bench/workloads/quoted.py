@@ -1,0 +1,3 @@
+import csv, sys
+for row in csv.reader(sys.stdin):
+    print(len(row), row[1])

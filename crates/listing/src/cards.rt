@@ -1,0 +1,130 @@
+//! The cards of a deck with what is told of them.
+
+use crate::code::{Reached, statement};
+use crate::explained::{of_card, of_cause};
+use crate::lines::{Style, caret, loud, sentence, text};
+use crate::notes::Note;
+use crate::walk::next_line;
+use model::{CardFault, Image, Statement};
+use std::io::{self, Write};
+
+/// How far sentences about a card stand from the margin.
+const INDENT: usize = 16;
+
+/// What is known of a deck.
+#[derive(Clone, Copy)]
+pub(crate) struct Known<'a> {
+    pub(crate) statements: &'a [Statement],
+    pub(crate) notes: &'a [Note],
+    pub(crate) fault: Option<CardFault>,
+    pub(crate) image: Option<&'a Image>,
+}
+
+// How many of the statements begin at a card, which are the first of these.
+fn begin_at(statements: &[Statement], card: u32) -> usize {
+    statements
+        .iter()
+        .take_while(|statement| statement.card == card)
+        .count()
+}
+
+// The numbers before a card: its own, and those of the statements that begin there.
+fn numbers<W: Write>(card: u32, here: &[Statement], out: &mut W) -> io::Result<()> {
+    match here {
+        [] => write!(out, "{card:>6}          "),
+        [only] => write!(out, "{card:>6} {:>7}  ", only.number),
+        [first, .., last] => write!(out, "{card:>6} {:>3}-{:<3}  ", first.number, last.number),
+    }
+}
+
+// The fault of the cards, where it is told at this card.
+fn card_fault<W: Write>(
+    style: Style,
+    fault: Option<CardFault>,
+    card: u32,
+    out: &mut W,
+) -> io::Result<()> {
+    let Some(fault) = fault else {
+        return Ok(());
+    };
+    if fault.card != card {
+        return Ok(());
+    }
+    loud(style, true, out)?;
+    writeln!(out, "{:>16}{fault}", "")?;
+    loud(style, false, out)?;
+    sentence(style, INDENT, of_card(fault.rule), out)
+}
+
+fn write_note<W: Write>(style: Style, note: Note, out: &mut W) -> io::Result<()> {
+    loud(style, true, out)?;
+    if let Some(column) = note.column {
+        caret(style, column, out)?;
+    }
+    writeln!(out, "{:>16}statement {} {}", "", note.number, note.cause)?;
+    loud(style, false, out)?;
+    sentence(style, INDENT, of_cause(note.cause), out)
+}
+
+// Writes the notes of a card, which are the first of these, and gives the others.
+fn notes_of<'a, W: Write>(
+    style: Style,
+    notes: &'a [Note],
+    card: u32,
+    out: &mut W,
+) -> io::Result<&'a [Note]> {
+    let count = notes.iter().take_while(|note| note.card == card).count();
+    for here in notes.get(..count).unwrap_or(&[]) {
+        write_note(style, *here, out)?;
+    }
+    Ok(notes.get(count..).unwrap_or(&[]))
+}
+
+// Writes the instructions of some statements.
+fn code_of<W: Write>(
+    image: Option<&Image>,
+    here: &[Statement],
+    reached: Reached,
+    out: &mut W,
+) -> io::Result<Reached> {
+    let Some(image) = image else {
+        return Ok(reached);
+    };
+    let mut reached = reached;
+    for one in here {
+        reached = statement(image, one.number, reached, out)?;
+    }
+    Ok(reached)
+}
+
+/// Writes the cards of a deck, each with what is told of it, and gives how many there are.
+pub(crate) fn cards<W: Write>(
+    style: Style,
+    bytes: &[u8],
+    known: Known<'_>,
+    out: &mut W,
+) -> io::Result<u32> {
+    let mut statements = known.statements;
+    let mut notes = known.notes;
+    let mut reached = Reached::start();
+    let mut rest = bytes;
+    let mut card: u32 = 1;
+    card_fault(style, known.fault, 0, out)?;
+    for _ in 0..bytes.len() {
+        let Some((line, more)) = next_line(rest) else {
+            break;
+        };
+        let count = begin_at(statements, card);
+        let here = statements.get(..count).unwrap_or(&[]);
+        numbers(card, here, out)?;
+        text(style, line, out)?;
+        card_fault(style, known.fault, card, out)?;
+        notes = notes_of(style, notes, card, out)?;
+        reached = code_of(known.image, here, reached, out)?;
+        statements = statements.get(count..).unwrap_or(&[]);
+        card = card.saturating_add(1);
+        rest = more;
+    }
+    card_fault(style, known.fault, card, out)?;
+    Ok(card.saturating_sub(1))
+}

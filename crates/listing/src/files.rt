@@ -1,0 +1,183 @@
+//! The program's words, its files and its exit status.
+
+use crate::decks::{Trouble, list};
+use crate::errors::{Explained, error};
+use crate::terminal::output_style;
+use crate::words::{Job, read_job};
+use std::alloc::AllocError;
+use std::env::{self, Env};
+use std::fs::{self, Files};
+use std::io::{self, BufWriter, ErrorKind, Input, Print, Read, Write};
+use std::process::ExitCode;
+
+/// Exit statuses, as `sno` has them.
+const BAD_WORDS: u8 = 2;
+
+const REFUSED: u8 = 3;
+
+const FAILED: u8 = 6;
+
+/// Why the program ends without what it was asked for.
+#[derive(Debug, Drop)]
+enum Told<'a> {
+    BadCommandLine,
+    NoSuchError(&'a str),
+    CannotRead(&'a str),
+    CannotWrite,
+    NoMemory,
+}
+
+fn of_trouble(trouble: Trouble) -> Told<'static> {
+    match trouble {
+        Trouble::Memory => Told::NoMemory,
+        Trouble::Write(_) => Told::CannotWrite,
+    }
+}
+
+fn read_arguments<R: Env + AllocGlobal>(rt: &R) -> Result<Vec<String>, Told<'static>> {
+    let arguments = match env::args(rt) {
+        Ok(arguments) => arguments,
+        Err(error) if error.kind() == ErrorKind::OutOfMemory => return Err(Told::NoMemory),
+        Err(_) => return Err(Told::BadCommandLine),
+    };
+    let mut words = Vec::new(rt.alloc());
+    for argument in arguments.skip(1) {
+        if words.push(argument).is_err() {
+            return Err(Told::NoMemory);
+        }
+    }
+    Ok(words)
+}
+
+fn borrowed<'a, R: AllocGlobal>(
+    rt: &R,
+    arguments: &'a [String],
+) -> Result<Vec<&'a str>, AllocError> {
+    let mut words = Vec::new(rt.alloc());
+    for argument in arguments {
+        words.push(argument.as_str())?;
+    }
+    Ok(words)
+}
+
+fn not_read<'a>(error: &io::Error, name: &'a str) -> Told<'a> {
+    match error.kind() {
+        ErrorKind::OutOfMemory => Told::NoMemory,
+        _ => Told::CannotRead(name),
+    }
+}
+
+fn read_input<R: Input + AllocGlobal>(rt: &R) -> Result<Vec<u8>, Told<'static>> {
+    let mut bytes = Vec::new(rt.alloc());
+    match rt.reader().read_to_end(&mut bytes) {
+        Ok(_) => Ok(bytes),
+        Err(error) => Err(not_read(&error, "standard input")),
+    }
+}
+
+fn read_deck<'a, R: Files + Input + AllocGlobal>(
+    rt: &R,
+    deck: Option<&'a str>,
+) -> Result<Vec<u8>, Told<'a>> {
+    let Some(file) = deck else {
+        return read_input(rt);
+    };
+    match fs::read(rt, file) {
+        Ok(bytes) => Ok(bytes),
+        Err(error) => Err(not_read(&error, file)),
+    }
+}
+
+fn list_deck<'a, R: Env + Files + Input + Print + AllocGlobal>(
+    rt: &R,
+    deck: Option<&'a str>,
+    has_code: bool,
+) -> Result<u8, Told<'a>> {
+    let bytes = read_deck(rt, deck)?;
+    let Ok(mut out) = BufWriter::new(rt.alloc(), io::writer(rt)) else {
+        return Err(Told::NoMemory);
+    };
+    let is_faultless = match list(rt.alloc(), output_style(rt), has_code, &bytes, &mut out) {
+        Ok(is_faultless) => is_faultless,
+        Err(trouble) => return Err(of_trouble(trouble)),
+    };
+    match out.flush() {
+        Ok(()) => Ok(if is_faultless { 0 } else { REFUSED }),
+        Err(_) => Err(Told::CannotWrite),
+    }
+}
+
+fn print_error<R: Print>(rt: &R, error: Explained) -> io::Result<()> {
+    println!(rt; "{}: {}", error.name, error.meaning)?;
+    println!(rt; "\n{}\n", error.when)?;
+    println!(rt; "A deck that ends so:\n\n{}", error.deck)
+}
+
+fn explain<'a, R: Print>(rt: &R, name: &'a str) -> Result<u8, Told<'a>> {
+    let Some(error) = error(name) else {
+        return Err(Told::NoSuchError(name));
+    };
+    match print_error(rt, error) {
+        Ok(()) => Ok(0),
+        Err(_) => Err(Told::CannotWrite),
+    }
+}
+
+fn answer<'a, R: Env + Files + Input + Print + AllocGlobal>(
+    rt: &R,
+    words: &[&'a str],
+) -> Result<u8, Told<'a>> {
+    match read_job(words) {
+        None => Err(Told::BadCommandLine),
+        Some(Job::List { deck, has_code }) => list_deck(rt, deck, has_code),
+        Some(Job::Explain { error }) => explain(rt, error),
+    }
+}
+
+// Tells it, and gives the exit status.
+fn tell<W: Write>(told: &Told<'_>, errors: &mut W) -> io::Result<u8> {
+    match told {
+        Told::BadCommandLine => {
+            writeln!(errors, "bad command line")?;
+            Ok(BAD_WORDS)
+        }
+        Told::NoSuchError(name) => {
+            writeln!(errors, "no error {name}")?;
+            Ok(BAD_WORDS)
+        }
+        Told::CannotRead(name) => {
+            writeln!(errors, "cannot read {name}")?;
+            Ok(FAILED)
+        }
+        Told::CannotWrite => {
+            writeln!(errors, "cannot write standard output")?;
+            Ok(FAILED)
+        }
+        Told::NoMemory => {
+            writeln!(errors, "no memory")?;
+            Ok(FAILED)
+        }
+    }
+}
+
+fn status<W: Write>(done: Result<u8, Told<'_>>, errors: &mut W) -> ExitCode {
+    ExitCode::from(match done {
+        Ok(status) => status,
+        Err(told) => tell(&told, errors).unwrap_or(FAILED),
+    })
+}
+
+/// Does what the program's words ask for, tells what is to be told as lines of `errors`, and gives the exit status.
+pub fn run<R: Env + Files + Input + Print + AllocGlobal, W: Write>(
+    rt: &R,
+    errors: &mut W,
+) -> ExitCode {
+    let arguments = match read_arguments(rt) {
+        Ok(arguments) => arguments,
+        Err(told) => return status(Err(told), errors),
+    };
+    match borrowed(rt, &arguments) {
+        Ok(words) => status(answer(rt, &words), errors),
+        Err(_) => status(Err(Told::NoMemory), errors),
+    }
+}

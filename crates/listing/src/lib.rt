@@ -1,0 +1,29 @@
+//! What the program `sno_list` does: lists decks, and explains their faults and the errors of runs.
+//!
+//! `run(runtime, errors)` reads the words, does what they ask, tells what is wrong with files or words as a line of
+//! `errors`, and gives the exit status. `list` writes the listing of a deck. docs/listing.md has the rules.
+//!
+//!     let status = run(&runtime, &mut errors);
+//!     let is_faultless = list(alloc, Style::new(80, false), false, b"END\n", &mut out)?;
+//!
+//! Promised, of `list`: a deck that it calls faultless has trees and each of its statements runs; any other is refused by
+//! exactly its faults. Lines, carets, sentences, words and statuses are tested.
+#![tactic(auto)]
+
+mod cards;
+mod code;
+mod cut;
+mod decks;
+mod errors;
+mod explained;
+mod files;
+mod lines;
+mod notes;
+mod places;
+mod terminal;
+mod walk;
+mod words;
+
+pub use decks::{Trouble, list};
+pub use files::run;
+pub use lines::Style;

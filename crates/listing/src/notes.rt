@@ -1,0 +1,101 @@
+//! The faults of a deck's statements, and where on its cards they are told.
+
+use crate::places::place;
+use crate::walk::{Joined, Spot, Walk, columns, joining, next_line};
+use model::{Cause, Deck, StmtFault};
+use std::alloc::{AllocError, Global};
+
+/// A faulty statement: the card under which it is told, and the column of the token, from 0, where that is known.
+#[derive(Clone, Copy, Debug)]
+pub(crate) struct Note {
+    pub(crate) number: u32,
+    pub(crate) cause: Cause,
+    pub(crate) card: u32,
+    pub(crate) column: Option<usize>,
+    place: Option<usize>,
+}
+
+// The note of a fault, told under the card where the statement begins.
+fn note_of(alloc: Global, deck: &Deck, fault: StmtFault) -> Result<Note, AllocError> {
+    let index = fault.number.saturating_sub(1) as usize;
+    let (card, place) = match deck.statements.as_slice().get(index) {
+        Some(statement) => (
+            statement.card,
+            place(alloc, fault.cause, statement.text.as_slice())?,
+        ),
+        None => (0, None),
+    };
+    Ok(Note {
+        number: fault.number,
+        cause: fault.cause,
+        card,
+        column: None,
+        place,
+    })
+}
+
+// Looks whether a byte is where the next note's token begins; the index of the note that is looked for then.
+fn see(notes: &mut [Note], next: usize, spot: Spot, card: u32, column: usize) -> usize {
+    let next = match notes.get(next) {
+        Some(note) if note.number < spot.number => next.saturating_add(1),
+        _ => next,
+    };
+    if let Some(note) = notes.get_mut(next) {
+        if note.number == spot.number && note.place == Some(spot.place) {
+            note.card = card;
+            note.column = Some(column);
+        }
+    }
+    next
+}
+
+// Goes over a card.
+fn see_card(walk: &mut Walk, notes: &mut [Note], next: usize, card: u32, line: &[u8]) -> usize {
+    let read = columns(line);
+    let skipped = match joining(read) {
+        Joined::Nothing => return next,
+        Joined::Text => {
+            walk.next_text();
+            0
+        }
+        Joined::Continuation => 1,
+    };
+    let mut next = next;
+    for (column, byte) in read.iter().copied().enumerate().skip(skipped) {
+        if let Some(spot) = walk.step(byte) {
+            next = see(notes, next, spot, card, column);
+        }
+    }
+    next
+}
+
+// Finds the columns of the notes.
+fn locate(bytes: &[u8], notes: &mut [Note]) {
+    let mut walk = Walk::new();
+    let mut rest = bytes;
+    let mut next = 0;
+    let mut card: u32 = 1;
+    for _ in 0..bytes.len() {
+        let Some((line, more)) = next_line(rest) else {
+            break;
+        };
+        next = see_card(&mut walk, notes, next, card, line);
+        card = card.saturating_add(1);
+        rest = more;
+    }
+}
+
+/// The notes of a deck's faults, in order.
+pub(crate) fn notes(
+    alloc: Global,
+    bytes: &[u8],
+    deck: &Deck,
+    faults: &[StmtFault],
+) -> Result<Vec<Note>, AllocError> {
+    let mut notes = Vec::new(alloc);
+    for fault in faults.iter().copied() {
+        notes.push(note_of(alloc, deck, fault)?)?;
+    }
+    locate(bytes, notes.as_mut_slice());
+    Ok(notes)
+}

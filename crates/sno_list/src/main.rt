@@ -1,0 +1,9 @@
+//! The program `sno_list`: lists decks, and explains their faults and the errors of runs.
+#![tactic(auto)]
+
+use listing::run;
+use std::process::ExitCode;
+
+fn main(rt: HostRuntime) -> ExitCode {
+    run(&rt, &mut rt.stderr())
+}

@@ -1,0 +1,48 @@
+use Rattle.std.proofs.Common.{ap, refl, sym, subst, ◌∙◌, Some, None, Err}
+use Rattle.unit_io.proofs.Serving.{served_on}
+use Rattle.world.specs.Functions.{IfNamed}
+use Rattle.world.specs.declared.functions.Function.TheVariants as function
+use Rattle.statement_machine.specs.Runs.{Leaves}
+use Rattle.statement_machine.proofs.Calling.{defined_as, found_as}
+use Rattle.statement_machine.proofs.Matching.{left_leaves}
+use Rattle.statement_machine.proofs.Stopping.{served_alone}
+use Rattle.statement_machine.proofs.run.Run.call_function.Goals as goal
+
+pub returns-in-Some-Defined-clause-served : goal.returns-in-Some-Defined-clause-served
+returns-in-Some-Defined-clause-served g c =
+    let im = c.args.program.now in
+    let r = c.args.self.now in
+    let f = c.in-Some-Defined in
+    let is = f.is ∙ ap (λ x. Some x) f.field-0-is in
+    served_on c.enter.ensures.served
+    (λ io io' l. subst (λ st. Leaves im c.enter.result c.enter.new.self io' st)
+    (sym (found_as im r.frames.top c.args.name.now c.args.want_name c.args.next r.state io _ _ (c.in_ok-entry.ensures.function io) is
+    ∙ defined_as im r.frames.top c.args.name.now f.entry f.prototype c.args.want_name c.args.next r.state io (subst (IfNamed c.args.name.now) is c.in_ok-entry.ensures.named))) l)
+
+pub returns-in-Some-Constructor-clause-served : goal.returns-in-Some-Constructor-clause-served
+returns-in-Some-Constructor-clause-served g c =
+    let im = c.args.program.now in
+    let r = c.args.self.now in
+    let f = c.in-Some-Constructor in
+    served_on c.construct.ensures.served
+    (λ io io' l. subst (λ st. Leaves im c.construct.result (record r { state = c.construct.new.self }) io' st)
+    (sym (found_as im r.frames.top c.args.name.now c.args.want_name c.args.next r.state io _ (Some (function.Constructor f.fields)) (c.in_ok-entry.ensures.function io) (f.is ∙ ap (λ x. Some x) f.field-0-is)))
+    (left_leaves im c.construct.result r c.construct.new.self io' _ c.requires.code (l im r.frames.top)))
+
+pub returns-in-Some-Field-clause-served : goal.returns-in-Some-Field-clause-served
+returns-in-Some-Field-clause-served g c =
+    let im = c.args.program.now in
+    let r = c.args.self.now in
+    let f = c.in-Some-Field in
+    served_on c.select.ensures.served
+    (λ io io' l. subst (λ st. Leaves im c.select.result (record r { state = c.select.new.self }) io' st)
+    (sym (found_as im r.frames.top c.args.name.now c.args.want_name c.args.next r.state io _ (Some function.Field) (c.in_ok-entry.ensures.function io) (f.is ∙ ap (λ x. Some x) f.field-0-is)))
+    (left_leaves im c.select.result r c.select.new.self io' _ c.requires.code (l im r.frames.top)))
+
+pub returns-in-None-clause-served : goal.returns-in-None-clause-served
+returns-in-None-clause-served g c =
+    let im = c.args.program.now in
+    let r = c.args.self.now in
+    served_alone g.U.Units c.args.units.now (Err c.halted.result) (rw c.halted.ensures tt)
+    (λ io. subst (λ st. Leaves im (Err c.halted.result) r io st)
+    (sym (found_as im r.frames.top c.args.name.now c.args.want_name c.args.next r.state io _ None (c.in_ok-entry.ensures.function io) c.in-None.is)) (rw c.halted.ensures refl))

@@ -1,0 +1,124 @@
+use Rattle.std.proofs.Common.{ap, ◌∙◌}
+use Rattle.std.proofs.lemmas.Option.{slice_get_within}
+use Rattle.model.specs.Module.Flow.{Shape}
+use Rattle.model.specs.Machine.Steps.{At}
+use Rattle.model.specs.declared.instr.Instr.TheVariants as op
+use Rattle.model.proofs.Machine.Standing as laws
+use Rattle.frames.specs.View.{operands_of}
+use Rattle.loader.specs.Places.{offset_at}
+use Rattle.statement_machine.specs.Held.{handlers_in, waiting}
+use Rattle.statement_machine.proofs.Flowing.{above, asks, label_needs}
+use Rattle.statement_machine.proofs.Matching.{code_now, fits, goto_now}
+use Rattle.unit_io.proofs.Serving.{served_on}
+use Rattle.statement_machine.proofs.run.Run.execute_call.Goals as goal
+
+pub go_to_value-requires-clause-operands : goal.go_to_value-requires-clause-operands
+go_to_value-requires-clause-operands g c =
+    let im = c.args.program.now in
+    let r = c.args.self.now in
+    (label_needs im c.requires.runnable r.state c.args.next (fits im r c.requires.code c.requires.stands) (c.requires.there.0 ∙ ap (λ i. At i (offset_at im.code c.args.next)) c.in-GotoV.is)).0
+
+pub go_to_value-requires-clause-handlers : goal.go_to_value-requires-clause-handlers
+go_to_value-requires-clause-handlers g c =
+    let im = c.args.program.now in
+    let r = c.args.self.now in
+    (label_needs im c.requires.runnable r.state c.args.next (fits im r c.requires.code c.requires.stands) (c.requires.there.0 ∙ ap (λ i. At i (offset_at im.code c.args.next)) c.in-GotoV.is)).1
+
+pub returns-in-GotoV-clause-sound : goal.returns-in-GotoV-clause-sound
+returns-in-GotoV-clause-sound g c =
+    let im = c.args.program.now in
+    let r = c.args.self.now in
+    let a = asks im c.requires.runnable r.state c.args.next (fits im r c.requires.code c.requires.stands) op.GotoV (c.requires.there.0 ∙ ap (λ i. At i (offset_at im.code c.args.next)) c.in-GotoV.is) in
+    c.go_to_value.ensures.sound (goto_now im r c.requires.code c.requires.stands (ap (λ (x : Shape). x.mode) a))
+
+pub call-requires-clause-string : goal.call-requires-clause-string
+call-requires-clause-string g c =
+    let im = c.args.program.now in
+    let r = c.args.self.now in
+    let there = (c.requires.there.0 ∙ ap (λ i. At i (offset_at im.code c.args.next)) c.in-CallV.is) in
+    let part = c.requires.runnable.complete.parts (offset_at im.code r.state.place) (offset_at im.code c.args.next) (op.CallV c.in-CallV.number c.in-CallV.count) there in
+    slice_get_within im.strings c.in-CallV.number part.0 part.1
+
+pub call-requires-clause-operands : goal.call-requires-clause-operands
+call-requires-clause-operands g c =
+    let im = c.args.program.now in
+    let r = c.args.self.now in
+    above im c.requires.runnable r.state c.args.next (fits im r c.requires.code c.requires.stands) (op.CallV c.in-CallV.number c.in-CallV.count) (c.requires.there.0 ∙ ap (λ i. At i (offset_at im.code c.args.next)) c.in-CallV.is) (λ a. a)
+
+pub returns-in-CallV-clause-served : goal.returns-in-CallV-clause-served
+returns-in-CallV-clause-served g c = served_on c.call.ensures.served (λ io io' l. rw c.in-CallV.is l)
+
+pub returns-in-CallV-clause-sound : goal.returns-in-CallV-clause-sound
+returns-in-CallV-clause-sound g c =
+    let im = c.args.program.now in
+    let r = c.args.self.now in
+    let s = r.state in
+    let st = code_now im r c.requires.code c.requires.stands in
+    let there = (c.requires.there.0 ∙ ap (λ i. At i (offset_at im.code c.args.next)) c.in-CallV.is) in
+    c.call.ensures.sound
+    (λ rest e. laws.value_caller im c.requires.runnable.complete (offset_at im.code s.place) (offset_at im.code c.args.next) (operands_of s.operands.top) (handlers_in im s) (waiting im r.frames.top s) st.0 st.1 c.in-CallV.number c.in-CallV.count there rest e, st.1)
+
+pub call-requires-in-CallN-clause-string : goal.call-requires-in-CallN-clause-string
+call-requires-in-CallN-clause-string g c =
+    let im = c.args.program.now in
+    let r = c.args.self.now in
+    let there = (c.requires.there.0 ∙ ap (λ i. At i (offset_at im.code c.args.next)) c.in-CallN.is) in
+    let part = c.requires.runnable.complete.parts (offset_at im.code r.state.place) (offset_at im.code c.args.next) (op.CallN c.in-CallN.number c.in-CallN.count) there in
+    slice_get_within im.strings c.in-CallN.number part.0 part.1
+
+pub call-requires-in-CallN-clause-operands : goal.call-requires-in-CallN-clause-operands
+call-requires-in-CallN-clause-operands g c =
+    let im = c.args.program.now in
+    let r = c.args.self.now in
+    above im c.requires.runnable r.state c.args.next (fits im r c.requires.code c.requires.stands) (op.CallN c.in-CallN.number c.in-CallN.count) (c.requires.there.0 ∙ ap (λ i. At i (offset_at im.code c.args.next)) c.in-CallN.is) (λ a. a)
+
+pub returns-in-CallN-clause-served : goal.returns-in-CallN-clause-served
+returns-in-CallN-clause-served g c = served_on c.call-in-CallN.ensures.served (λ io io' l. rw c.in-CallN.is l)
+
+pub returns-in-CallN-clause-sound : goal.returns-in-CallN-clause-sound
+returns-in-CallN-clause-sound g c =
+    let im = c.args.program.now in
+    let r = c.args.self.now in
+    let s = r.state in
+    let st = code_now im r c.requires.code c.requires.stands in
+    let there = (c.requires.there.0 ∙ ap (λ i. At i (offset_at im.code c.args.next)) c.in-CallN.is) in
+    c.call-in-CallN.ensures.sound
+    (λ rest e. laws.name_caller im c.requires.runnable.complete (offset_at im.code s.place) (offset_at im.code c.args.next) (operands_of s.operands.top) (handlers_in im s) (waiting im r.frames.top s) st.0 st.1 c.in-CallN.number c.in-CallN.count there rest e, st.1)
+
+pub primitive-requires-clause-operands : goal.primitive-requires-clause-operands
+primitive-requires-clause-operands g c =
+    let im = c.args.program.now in
+    let r = c.args.self.now in
+    above im c.requires.runnable r.state c.args.next (fits im r c.requires.code c.requires.stands) (op.PrimV c.in-PrimV.id c.in-PrimV.count) (c.requires.there.0 ∙ ap (λ i. At i (offset_at im.code c.args.next)) c.in-PrimV.is) (λ a. a)
+
+pub returns-in-PrimV-clause-served : goal.returns-in-PrimV-clause-served
+returns-in-PrimV-clause-served g c = served_on c.primitive.ensures.served (λ io io' l. rw c.in-PrimV.is l)
+
+pub returns-in-PrimV-clause-sound : goal.returns-in-PrimV-clause-sound
+returns-in-PrimV-clause-sound g c =
+    let im = c.args.program.now in
+    let r = c.args.self.now in
+    let s = r.state in
+    let st = code_now im r c.requires.code c.requires.stands in
+    let there = (c.requires.there.0 ∙ ap (λ i. At i (offset_at im.code c.args.next)) c.in-PrimV.is) in
+    c.primitive.ensures.sound
+    (λ rest e. laws.value_primitive im c.requires.runnable.complete (offset_at im.code s.place) (offset_at im.code c.args.next) (operands_of s.operands.top) (handlers_in im s) (waiting im r.frames.top s) st.0 st.1 c.in-PrimV.id c.in-PrimV.count there rest e, st.1)
+
+pub primitive-requires-in-PrimN-clause-operands : goal.primitive-requires-in-PrimN-clause-operands
+primitive-requires-in-PrimN-clause-operands g c =
+    let im = c.args.program.now in
+    let r = c.args.self.now in
+    above im c.requires.runnable r.state c.args.next (fits im r c.requires.code c.requires.stands) (op.PrimN c.in-PrimN.id c.in-PrimN.count) (c.requires.there.0 ∙ ap (λ i. At i (offset_at im.code c.args.next)) c.in-PrimN.is) (λ a. a)
+
+pub returns-in-PrimN-clause-served : goal.returns-in-PrimN-clause-served
+returns-in-PrimN-clause-served g c = served_on c.primitive-in-PrimN.ensures.served (λ io io' l. rw c.in-PrimN.is l)
+
+pub returns-in-PrimN-clause-sound : goal.returns-in-PrimN-clause-sound
+returns-in-PrimN-clause-sound g c =
+    let im = c.args.program.now in
+    let r = c.args.self.now in
+    let s = r.state in
+    let st = code_now im r c.requires.code c.requires.stands in
+    let there = (c.requires.there.0 ∙ ap (λ i. At i (offset_at im.code c.args.next)) c.in-PrimN.is) in
+    c.primitive-in-PrimN.ensures.sound
+    (λ rest e. laws.name_primitive im c.requires.runnable.complete (offset_at im.code s.place) (offset_at im.code c.args.next) (operands_of s.operands.top) (handlers_in im s) (waiting im r.frames.top s) st.0 st.1 c.in-PrimN.id c.in-PrimN.count there rest e, st.1)

@@ -1,0 +1,134 @@
+//! Runs a deck on units of which one call fails: `tests_failing K DECK`, where K is the number of that call, counted
+//! from 1, or 0, and DECK a file. Units 5 and 6 are standard input and output, and 7, 8 and 9 the files `7`, `8` and
+//! `9`. It tells what `sno` tells, without cards. Its status is 9 if a machine that came to its end or was stopped
+//! answers something else when it is to run on.
+#![tactic(auto)]
+
+use driver::{Ran, Told, compile_deck, report};
+use loader::{Module, load};
+use model::Status;
+use statement_machine::Machine;
+use std::env::{self, Env};
+use std::fs::{self, Files};
+use std::io::{self, ErrorKind, Input, Print};
+use std::process::ExitCode;
+use unit_io::{FailAt, FileUnits};
+
+/// How many steps the deck may take.
+const STEPS: u64 = 100_000;
+
+/// What is told where a machine answers in another way when it is asked again.
+const ANOTHER_ANSWER: u8 = 9;
+
+/// How a machine answered, and then answered again.
+#[derive(Clone, Copy)]
+struct Answers {
+    first: Status,
+    again: Status,
+}
+
+/// The number of the call that fails, and the file of the deck.
+#[derive(Drop)]
+struct Words {
+    k: u64,
+    deck: String,
+}
+
+fn read_words<R: Env + AllocGlobal>(rt: &R) -> Result<Words, Told<'static>> {
+    let Ok(mut words) = env::args(rt) else {
+        return Err(Told::NoMemory);
+    };
+    let (Some(number), Some(deck)) = (words.nth(1), words.next()) else {
+        return Err(Told::BadCommandLine);
+    };
+    match number.parse::<u64>() {
+        Ok(k) => Ok(Words { k, deck }),
+        Err(_) => Err(Told::BadCommandLine),
+    }
+}
+
+/// Standard input and output, and the files 7, 8 and 9.
+fn units_of<R: Files + Input + Print + AllocGlobal>(
+    rt: &R,
+) -> Result<FileUnits<'_, R>, Told<'static>> {
+    let Ok(mut units) = FileUnits::new(rt.alloc(), rt) else {
+        return Err(Told::NoMemory);
+    };
+    for (unit, file) in [(7, "7"), (8, "8"), (9, "9")] {
+        if units.give(unit, file).is_err() {
+            return Err(Told::NoMemory);
+        }
+    }
+    Ok(units)
+}
+
+/// Why the deck was not read.
+fn not_read(error: &io::Error) -> Told<'static> {
+    match error.kind() {
+        ErrorKind::OutOfMemory => Told::NoMemory,
+        _ => Told::CannotRead("the deck"),
+    }
+}
+
+/// The module of a deck.
+fn compiled<R: Files + AllocGlobal>(rt: &R, deck: &str) -> Result<Module, Told<'static>> {
+    let deck = match fs::read(rt, deck) {
+        Ok(deck) => deck,
+        Err(error) => return Err(not_read(&error)),
+    };
+    let bytes = match compile_deck(rt.alloc(), &deck) {
+        Ok(bytes) => bytes,
+        Err(refusal) => return Err(Told::Refused(refusal)),
+    };
+    match load(rt.alloc(), &bytes) {
+        Ok(module) => Ok(module),
+        Err(fault) => Err(Told::BadModule(fault)),
+    }
+}
+
+/// Runs a module on units of which this call fails, and lets the machine run on.
+fn run_twice<R: Files + Input + Print + AllocGlobal>(
+    rt: &R,
+    module: &Module,
+    k: u64,
+) -> Result<Answers, Told<'static>> {
+    let mut units = FailAt::new(units_of(rt)?, k);
+    let Ok(mut machine) = Machine::new(rt.alloc(), module) else {
+        return Err(Told::NoMemory);
+    };
+    let first = machine.run(&mut units, STEPS);
+    let again = machine.run(&mut units, 1);
+    if units.into_inner().flush().is_err() {
+        return Err(Told::CannotWrite("a unit"));
+    }
+    Ok(Answers { first, again })
+}
+
+fn run<R: Env + Files + Input + Print + AllocGlobal>(rt: &R) -> Result<Answers, Told<'static>> {
+    let words = read_words(rt)?;
+    let module = compiled(rt, &words.deck)?;
+    run_twice(rt, &module, words.k)
+}
+
+/// What is told of the answers, if they are the same.
+fn told_of(done: Result<Answers, Told<'static>>) -> Option<Told<'static>> {
+    let answers = match done {
+        Ok(answers) => answers,
+        Err(told) => return Some(told),
+    };
+    if answers.first != answers.again {
+        return None;
+    }
+    Some(Told::Ran(Ran {
+        status: answers.first,
+        card: 0,
+    }))
+}
+
+fn main(rt: HostRuntime) -> ExitCode {
+    let status = match told_of(run(&rt)) {
+        Some(told) => report(&told, &mut rt.stderr()).unwrap_or(ANOTHER_ANSWER),
+        None => ANOTHER_ANSWER,
+    };
+    ExitCode::from(status)
+}

@@ -1,0 +1,87 @@
+-- The end of a call.
+use Rattle.std.proofs.Common.{◌≡◌, ℕ, ℤ, List, [], Option, Some, None, Result, Ok, Err, sym, ap, subst, ◌∙◌}
+use Rattle.std.specs.Prelude.{option_map}
+use Rattle.model.specs.declared.instr.ReturnKind.{ReturnKind}
+use Rattle.model.specs.declared.instr.ReturnKind.TheVariants as kind
+use Rattle.model.specs.declared.run.ErrorCode.{ErrorCode}
+use Rattle.model.specs.declared.run.ErrorCode.TheVariants as error
+use Rattle.model.specs.Language.Io.{Io}
+use Rattle.model.specs.Language.Told.{IfTold}
+use Rattle.model.specs.Deck.Trees.{Bytes}
+use Rattle.model.specs.Language.Values.{Str, set_var}
+use Rattle.model.specs.Language.Operators.{fetch_op}
+use Rattle.model.specs.Language.Prototypes.{FunctionPrototype}
+use Rattle.model.specs.Deck.Target.{Name}
+use Rattle.model.specs.Language.Conversions.{Conv, Got, Bad, Op, Gives, Refuses, Faults, conv, to_name}
+use Rattle.model.specs.Language.Calls.{AValue, AName, as_value, back_to_caller, bind_arguments, enter_call, leave_op, or_no_name}
+use Rattle.model.specs.Language.Calls as calls
+use Rattle.model.specs.Machine.Steps.{PCode, MVal, MW, MBack}
+use Rattle.pattern_compiler.specs.View.{name_of}
+use Rattle.pattern_compiler.specs.declared.instr.Name as p
+use Rattle.world.proofs.Telling.{told_same, told_on}
+use Rattle.prototypes.specs.Views.{names_of}
+use Rattle.world.specs.Counts.{deeper, with_caller}
+use Rattle.world.specs.Held.{WorldView, world_of}
+use Rattle.world.specs.Values.{value_of}
+use Rattle.world.specs.declared.calls.Given.TheVariants as given
+use Rattle.world.specs.declared.value.Value.{Value}
+use Rattle.world.specs.Answers.{AnswersOrFails}
+use Rattle.world.specs.Calling.{LeavesTo, given_of, kept_with, saved_as, saved_by}
+use Rattle.world.specs.declared.calls.Kept.{Kept}
+use Rattle.world.specs.declared.calls.Given.{Given}
+use Rattle.world.specs.declared.fault.Fault.{Fault}
+use Rattle.world.specs.declared.fault.Fault.TheVariants as fault
+
+pub gives_value : (name : Bytes) (v : MVal) (w : MW) (c : calls.Kept PCode ℕ) → v ≡ w.vars name → c.name ≡ name → leave_op kind.Return c w ≡ Gives (AValue v) (back_to_caller kind.Return c w)
+gives_value name v w c is same = ap (λ x. Gives (AValue (w.vars x)) (back_to_caller kind.Return c w)) same ∙ ap (λ z. Gives (AValue z) (back_to_caller kind.Return c w)) (sym is)
+
+-- what the name comes to that a call should give
+abbrev pub given_name : Conv Name → calls.Kept PCode ℕ → MW → Op MW MBack
+given_name r c w = conv (or_no_name r) w (λ n. Gives (AName n) (back_to_caller kind.NReturn c w))
+
+by_name : (name : Bytes) (v : MVal) (w : MW) (c : calls.Kept PCode ℕ) → v ≡ w.vars name → c.name ≡ name → leave_op kind.NReturn c w ≡ given_name (to_name v) c w
+by_name name v w c is same = ap (λ x. given_name (to_name (w.vars x)) c w) same ∙ ap (λ z. given_name (to_name z) c w) (sym is)
+
+pub gives_name : (name : Bytes) (v : MVal) (n : Name) (w : MW) (c : calls.Kept PCode ℕ) → v ≡ w.vars name → c.name ≡ name → to_name v ≡ Got n → leave_op kind.NReturn c w ≡ Gives (AName n) (back_to_caller kind.NReturn c w)
+gives_name name v n w c is same h = by_name name v w c is same ∙ ap (λ r. given_name r c w) h
+
+pub gives_none : (name : Bytes) (v : MVal) (e : ErrorCode) (w : MW) (c : calls.Kept PCode ℕ) → v ≡ w.vars name → c.name ≡ name → to_name v ≡ Bad e → leave_op kind.NReturn c w ≡ Faults error.NotAName w
+gives_none name v e w c is same h = by_name name v w c is same ∙ ap (λ r. given_name r c w) h
+
+-- a call that didn't end by a fault
+pub left_to : (g : Option Given) (here there w : MW) (o : Op MW MBack) → w ≡ there → LeavesTo (Ok g) here there o → AnswersOrFails (Ok (option_map given_of g)) w o
+left_to None here there w o same h = h ∙ ap (λ z. Refuses z) (sym same)
+left_to (Some g) here there w o same h = h ∙ ap (λ z. Gives (given_of g) z) (sym same)
+
+pub left_by_fault : (e : Fault) (here there : MW) (o : Op MW MBack) → LeavesTo (Err e) here there o → AnswersOrFails {A = MBack} (Err e) here o
+left_by_fault (fault.Error e) here there o h = h
+left_by_fault (fault.Stop s) here there o h = tt
+
+-- the keywords of the caller after its variables
+pub gone_back : (r : ReturnKind) (k : Kept) (xs : List Bytes) (saved : List Value) (statement level : ℤ) (w w1 w2 : MW) → xs ≡ names_of k.prototype → statement ≡ k.statement → level ≡ k.level
+    → w1 ≡ calls.restore (saved_as xs (saved_by xs saved)) w → w2 ≡ with_caller r statement level w1 → w2 ≡ back_to_caller r (kept_with k saved) w
+gone_back r k xs saved statement level w w1 w2 names here depth restored last =
+    last
+    ∙ (λ i. with_caller r (here i) (depth i) w1)
+    ∙ ap (with_caller r k.statement k.level) (restored ∙ ap (λ ys. calls.restore (saved_as ys (saved_by ys saved)) w) names)
+
+-- ---- entering
+
+pub entered : (f : FunctionPrototype) (vs : List MVal) (name : Bytes) (xs ys : List Bytes) (null : MVal) (w w1 w2 w3 w4 : MW) → name ≡ f.name → xs ≡ f.arguments → ys ≡ f.locals → null ≡ Str []
+    → w1 ≡ set_var name null w → w2 ≡ bind_arguments xs vs w1 → w3 ≡ bind_arguments ys [] w2 → w4 ≡ deeper w3 → w4 ≡ enter_call f.name f.arguments f.locals vs w
+entered f vs name xs ys null w w1 w2 w3 w4 same arguments locals none first second third last =
+    last
+    ∙ ap deeper (third
+    ∙ (λ i. bind_arguments (locals i) [] (second i))
+    ∙ (λ i. bind_arguments f.locals [] (bind_arguments (arguments i) vs (first i)))
+    ∙ (λ i. bind_arguments f.locals [] (bind_arguments f.arguments vs (set_var (same i) (none i) w))))
+
+-- ---- what a call gave, where it is wanted
+
+pub value_given : (g : Given) (v : Value) (h : WorldView) (o : Option Io) → g ≡ given.Value v → IfTold o o (λ io io'. as_value (given_of g) (world_of h io) ≡ Gives (value_of v) (world_of h io'))
+value_given g v h o is = told_same o _ (λ io. ap (λ z. as_value (given_of z) (world_of h io)) is)
+
+pub name_given : (g : Given) (n : p.Name) (h new : WorldView) (r : Result (Option MVal) Fault) (o m : Option Io) → g ≡ given.Name n
+    → IfTold o m (λ io io'. AnswersOrFails r (world_of new io') (fetch_op (name_of n) (world_of h io)))
+    → IfTold o m (λ io io'. AnswersOrFails r (world_of new io') (as_value (given_of g) (world_of h io)))
+name_given g n h new r o m is f = told_on o m _ _ (λ io io' a. subst (λ z. AnswersOrFails r (world_of new io') (as_value (given_of z) (world_of h io))) (sym is) a) f

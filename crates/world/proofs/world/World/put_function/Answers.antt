@@ -1,0 +1,15 @@
+use Rattle.std.proofs.Common.{ap, ◌∙◌}
+use Rattle.std.proofs.lemmas.Result.{on_ok_weaker}
+use Rattle.model.specs.Language.Primitives.{set_function}
+use Rattle.world.specs.Functions.{function_of}
+use Rattle.world.specs.Held.{world_of}
+use Rattle.world.proofs.Tables.{function_put}
+use Rattle.world.proofs.world.World.put_function.Goals as goal
+
+pub returns-clause-ok : goal.returns-clause-ok
+returns-clause-ok c =
+    let inside = c.self.inside in
+    on_ok_weaker c.put.result
+    (λ puts io. function_put (record { variables = inside.variables.entries; objects = inside.heap; functions = inside.functions; keys = inside.keywords; level = inside.level }) c.put.new.self c.args.name c.args.function puts io
+    ∙ ap (λ z. set_function c.args.name (function_of c.args.function) (world_of z io)) c.self.view_is)
+    c.put.ensures.ok

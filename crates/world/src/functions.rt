@@ -1,0 +1,160 @@
+//! Functions that aren't primitive.
+
+ghost use Rattle.std.specs.Prelude.{◌≡◌, [], cond, bytes_eq, option_map, Some, IfOk, IfSome, OnOk, OnErr};
+ghost use Rattle.std.specs.Option.{option_copied, option_or};
+ghost use Rattle.indexmap.specs.IndexMap.{IsUnique};
+ghost use Rattle.model.specs.Language.Io.{Io};
+ghost use Rattle.model.specs.Deck.Trees.{Bytes};
+ghost use Rattle.model.specs.Language.Values.{Str};
+ghost use Rattle.model.specs.Language.Conversions.{Gives};
+ghost use Rattle.model.specs.Language.Primitives.{define_op, entry_or, set_function};
+ghost use Rattle.world.specs.Functions.{function_of, function_at, IsNamed, IfNamed};
+ghost use Rattle.world.specs.Held.{world_of};
+
+use crate::world::World;
+use aggregates::Names;
+use indexmap::IndexMap;
+use prototypes::FunctionPrototype;
+use std::alloc::{AllocError, Global};
+use std::marker::Model;
+use strings::Text;
+
+/// A function that isn't primitive. Its clones share its names.
+#[derive(Drop)]
+pub enum Function {
+    /// Made by DEFINE: the label where it begins, and its prototype.
+    Defined(Text, FunctionPrototype),
+    /// Made by DATA: gives a record of the type that has its name, with these fields.
+    Constructor(Names),
+    /// Made by DATA: the field that has its name.
+    Field,
+}
+
+impl Clone for Function {
+    ghost use Rattle.std.specs.Prelude.{◌≡◌};
+
+    ghost is_clone = { λ function copy. copy ≡ function };
+
+    fn clone(&self) -> Result<Function, AllocError> {
+        Ok(match self {
+            Function::Defined(entry, prototype) => {
+                Function::Defined(entry.clone()?, prototype.clone()?)
+            }
+            Function::Constructor(fields) => Function::Constructor(fields.clone()?),
+            Function::Field => Function::Field,
+        })
+    }
+}
+
+/// Functions by their names.
+pub(crate) struct FunctionTable {
+    functions: IndexMap<Text, Function>,
+}
+
+impl Drop for FunctionTable {
+    fn drop(self) {
+        let FunctionTable { functions: _ } = self;
+    }
+}
+
+impl Model for FunctionTable {
+    ghost use Rattle.model.specs.Deck.Trees.{Bytes};
+    ghost use Rattle.world.specs.Functions.{Functions, IfNamed, function_at};
+
+    ghost Value = { Functions };
+
+    ghost view = { λ t. t.functions.entries };
+
+    ghost invariant = { λ t. (x : Bytes) → IfNamed x (function_at x t.functions.entries) };
+}
+
+impl FunctionTable {
+    /// Without functions. Takes no memory.
+    pub(crate) fn new(alloc: Global) -> FunctionTable
+        ensures { result ≡ [] }
+    {
+        FunctionTable {
+            functions: IndexMap::new(alloc),
+        }
+    }
+
+    // The function of a name.
+    fn get(&self, name: &Text) -> Option<&Function>
+        ensures function { option_copied result ≡ function_at name.now self.now }
+        ensures named { IfSome result (λ f. IsNamed name.now f.now) }
+    {
+        self.functions.get(name)
+    }
+
+    // Puts a function in the place of the one that has its name.
+    fn put(&mut self, name: Text, function: Function) -> Result<(), AllocError>
+        requires { IsNamed name function }
+        ensures ok { OnOk result ((x : Bytes)
+            → function_at x self.new ≡ cond (bytes_eq name x) (Some function) (function_at x self.old)) }
+        ensures err { OnErr result (self.new ≡ self.old) }
+    {
+        let _old = self.functions.insert(name, function)?;
+        Ok(())
+    }
+
+    /// Puts functions in the places of those that have their names.
+    pub(crate) fn append(&mut self, functions: IndexMap<Text, Function>) -> Result<(), AllocError>
+        requires unique { IsUnique bytes_eq functions }
+        requires named { (x : Bytes) → IfNamed x (function_at x functions.entries) }
+        ensures ok { OnOk result ((x : Bytes) → function_at x self.new
+            ≡ option_or (function_at x functions.entries) (function_at x self.old)) }
+        ensures err { OnErr result (self.new ≡ self.old) }
+    {
+        let mut functions = functions;
+        self.functions.append(&mut functions)
+    }
+}
+
+// The label, or else the name.
+fn label_or(entry: Option<Text>, name: &Text) -> Result<Text, AllocError>
+    ensures { IfOk result (λ label. label ≡ entry_or name.now entry) }
+{
+    match entry {
+        Some(label) => Ok(label),
+        None => Ok(name.clone()?),
+    }
+}
+
+impl World {
+    /// The function of a name, if it has one that isn't primitive.
+    pub fn function(&self, name: &Text) -> Result<Option<Function>, AllocError>
+        ensures function { IfOk result (λ found. (io : Io)
+            → option_map function_of found ≡ (world_of self.now io).plain.functions name.now) }
+        ensures named { IfOk result (λ found. IfNamed name.now found) }
+    {
+        match self.functions.get(name) {
+            Some(function) => Ok(Some(function.clone()?)),
+            None => Ok(None),
+        }
+    }
+
+    /// Gives a name another function.
+    pub(crate) fn put_function(&mut self, name: Text, function: Function) -> Result<(), AllocError>
+        requires { IsNamed name function }
+        ensures ok { OnOk result ((io : Io)
+            → world_of self.new io ≡ set_function name (function_of function) (world_of self.old io)) }
+        ensures err { OnErr result (self.new ≡ self.old) }
+    {
+        self.functions.put(name, function)
+    }
+
+    /// Makes a function, which begins at a label, or else at the label of its own name.
+    pub fn define(
+        &mut self,
+        entry: Option<Text>,
+        prototype: FunctionPrototype,
+    ) -> Result<(), AllocError>
+        ensures ok { OnOk result ((io : Io)
+            → define_op entry (Some prototype) (world_of self.old io) ≡ Gives (Str []) (world_of self.new io)) }
+        ensures err { OnErr result (self.new ≡ self.old) }
+    {
+        let name = prototype.name().clone()?;
+        let label = label_or(entry, &name)?;
+        self.put_function(name, Function::Defined(label, prototype))
+    }
+}

@@ -1,0 +1,1 @@
+autocmd BufRead,BufNewFile *.sno setfiletype snobol4

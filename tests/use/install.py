@@ -1,0 +1,87 @@
+"""`make install` and `make uninstall`: files, manual pages, completion."""
+
+import pathlib
+import shutil
+import tempfile
+
+from .command import ROOT, is_there, run
+
+PLACE = "Makefile: install"
+FILES = {
+    "sno": ["bin/sno", "share/man/man1/sno.1", "share/bash-completion/completions/sno"],
+    "sno_list": ["bin/sno_list", "share/man/man1/sno_list.1", "share/bash-completion/completions/sno_list"],
+}
+# What is typed, and what is offered, in a folder with the files a.sno and a.module.
+COMPLETED = [
+    ("sno", ["sno", "co"], ["compile"]),
+    ("sno", ["sno", ""], ["compile", "upgrade", "check", "show", "run"]),
+    ("sno", ["sno", "compile", "a.s"], ["a.sno"]),
+    ("sno", ["sno", "run", "a.module", "--"], ["--steps"]),
+    ("sno", ["sno", "run", "a.module", "5", "=", "a.s"], ["a.sno"]),
+    ("sno_list", ["sno_list", "--error", "E16"], ["E16"]),
+    ("sno_list", ["sno_list", "--c"], ["--code"]),
+]
+
+
+def files_below(folder):
+    """The files below a folder, by their paths there."""
+    return sorted(str(it.relative_to(folder)) for it in folder.rglob("*") if it.is_file())
+
+
+def made(target, prefix, programs):
+    """What `make` does for a target, with programs that are there already."""
+    sno, other = (program if program.exists() else "" for program in programs)
+    return run(["make", "-s", target, f"PREFIX={prefix}", f"SNO={sno}", f"LIST={other}"], folder=ROOT)
+
+
+def page_checks(prefix):
+    """The manual pages, as mandoc sees them."""
+    pages = sorted((prefix / "share/man").glob("*/*"))
+    for page in pages:
+        text = page.read_text(encoding="ascii")
+        yield PLACE, f"a title and a name in {page.name}", text.startswith(".TH ") and "\n.SH NAME\n" in text
+    if is_there("mandoc", "a look at the manual pages"):
+        out, told, status = run(["mandoc", "-Tlint", *pages])
+        yield PLACE, f"manual pages without a warning: {(out + told).decode()}", status == 0 and not out + told
+
+
+def offered(file, function, words, folder):
+    """What the completion offers behind words."""
+    listed = " ".join(f"'{word}'" for word in words)
+    script = f"source '{file}'; COMP_WORDS=({listed}); COMP_CWORD={len(words) - 1}; {function}; "
+    script += "printf '%s\\n' \"${COMPREPLY[@]}\""
+    return run(["bash", "--norc", "-c", script], folder=folder)[0].decode().split()
+
+
+def completion_checks(file, folder):
+    """The completion, in a folder with a deck and a module."""
+    for name in ("a.sno", "a.module"):
+        (folder / name).write_bytes(b"")
+    for program, words, wanted in COMPLETED:
+        got = offered(file, f"_{program}", words, folder)
+        yield PLACE, f"completion of {' '.join(words)}: {got}", got == wanted
+
+
+def checks(sno, other):
+    """Installs into a new folder, looks at what is there, and takes it away again."""
+    with tempfile.TemporaryDirectory(prefix="sno-install-") as name:
+        folder = pathlib.Path(name)
+        programs = [folder / "built" / "sno", folder / "built" / "sno_list"]
+        programs[0].parent.mkdir()
+        for program, given in zip(programs, (sno, other)):
+            if given:
+                shutil.copy(given, program)
+        prefix = folder / "prefix"
+        ran = made("install", prefix, programs)
+        yield PLACE, f"an installation: {ran[1].decode()}", ran[2] == 0
+        wanted = [file for program in programs if program.exists() for file in FILES[program.name]]
+        wanted = sorted([*wanted, "share/man/man7/snobol4.7"])
+        yield PLACE, f"what is installed: {files_below(prefix)}", files_below(prefix) == wanted
+        out, _, status = run([prefix / "bin/sno"], b" OUTPUT = 'HI'\nEND\n")
+        yield PLACE, "an installed program that runs a deck", (out, status) == (b"HI\n", 0)
+        yield from page_checks(prefix)
+        completion = prefix / "share/bash-completion/completions/sno"
+        (folder / "decks").mkdir()
+        yield from completion_checks(completion, folder / "decks")
+        ran = made("uninstall", prefix, programs)
+        yield PLACE, "nothing left after `make uninstall`", ran[2] == 0 and not files_below(prefix)
