@@ -73,7 +73,7 @@ list: deck build/sno_list ## DECK=file: list a deck with what is wrong in it, on
 
 build/sno_list: $(LISTER_SOURCES) | program
 	@echo "list: proving and building the program sno_list (all lines go to build/log)" >&2
-	@(cd $(LISTER) && ../../tools/progress "$(RT) run" < /dev/null) >&2 || [ -x $(LISTER)/out/sno_list ] || exit 1
+	@(cd $(LISTER) && echo END | ../../tools/progress "$(RT) run") >&2 || { echo "list: not proved, or not built" >&2; exit 1; }
 	@cp $(LISTER)/out/sno_list build/sno_list.new && mv build/sno_list.new build/sno_list
 
 install: $(SNO) $(LIST) ## [PREFIX=folder]: put the proved programs, manual pages and completion there (/usr/local if none is told)
