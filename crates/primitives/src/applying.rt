@@ -20,12 +20,7 @@ pub(crate) enum Applied {
 }
 
 // What APPLY calls by a name at a level with other arguments, of which a primitive takes no more than it may.
-fn applied_to(
-    alloc: Global,
-    level: Level,
-    name: &Value,
-    others: &[Value],
-) -> Result<Applied, Fault>
+fn applied_to(alloc: Global, level: Level, name: &Value, others: &[Value]) -> Result<Applied, Fault>
     ensures applied { (w : MW) → w.plain.level ≡ level
         → IsApplied result (value_of name.now ∷ map value_of others.now) w }
     ensures stop { IfStopped result (λ stop. stop ≡ NoMemory) }

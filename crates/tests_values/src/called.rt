@@ -131,10 +131,22 @@ fn called(alloc: Global, call: Call, left: &Value, right: &Value) -> Result<Opti
         Call::Cond => Ok(Some(cond(alloc, left, right.to_name(alloc)?)?)),
         Call::Imm => Ok(Some(imm(alloc, left, right.to_name(alloc)?)?)),
         Call::Cat | Call::Begin | Call::Prim(_) => {
-            in_world(alloc, &mut World::new(alloc, Level::Two)?, call, left, right)
+            in_world(
+                alloc,
+                &mut World::new(alloc, Level::Two)?,
+                call,
+                left,
+                right,
+            )
         }
         Call::Older(_) => {
-            in_world(alloc, &mut World::new(alloc, Level::One)?, call, left, right)
+            in_world(
+                alloc,
+                &mut World::new(alloc, Level::One)?,
+                call,
+                left,
+                right,
+            )
         }
         _ => Ok(Some(converted(alloc, call, left)?)),
     }
