@@ -2,7 +2,7 @@
 
 Modules are run with a stack of 256 KiB, on which nothing of a run recurses. Decks are compiled with 1 MiB, as brackets
 and marks within their limits lie on the stack of the compiler. Each case is a deck, how its run must end, and how much
-memory its compilation and run may take at most. A deck with a statement that doesn't run yet is left out, and told.
+memory its compilation and run may take at most.
 Large decks are compiled in three sizes, to see that the time grows no faster than the deck. The last line is
 `N passed, M failed`.
 """
@@ -117,8 +117,8 @@ END
 """
 
 
-def waiting():
-    """What needs calls or evaluations."""
+def calling():
+    """Calls and evaluations."""
     endless = " P = *P 'A'\n 'A' P\nEND\n"
     yield Case("a pattern that enters itself", endless, told="steps used up\n", status=5, words=("--steps", "100000"))
     yield Case("100,000 calls", CALLS.format(100_000), "DONE\n")
@@ -205,8 +205,8 @@ def trees():
     yield Case("500,000 faulty statements", faults, told=told, status=3)
 
 
-CASES = (waiting, values, patterns, trees)
-LONG = (waiting, values)
+CASES = (calling, values, patterns, trees)
+LONG = (calling, values)
 
 
 def fault(case, wanted, seen):
@@ -220,11 +220,9 @@ def fault(case, wanted, seen):
 
 
 def of_case(program, case, folder):
-    """What comes of a case: how it ran, and what is wrong; the first is None if it is left out."""
+    """What comes of a case: how it ran, and what is wrong."""
     (folder / "deck.sno").write_bytes(case.deck.encode())
     compiled = ran(program, ["compile", "deck.sno", "deck.module"], folder)
-    if compiled.told.endswith(b" P0\n"):
-        return None, None
     wanted = (case.out.encode(), case.told.encode(), case.status)
     if compiled.status or case.status == 3:
         return compiled, fault(case, wanted, compiled)
@@ -270,21 +268,17 @@ def arguments():
 def main():
     """Runs what the command line asks for."""
     given = arguments()
-    program, passed, failed, left = pathlib.Path(given.program).resolve(), 0, 0, []
+    program, passed, failed = pathlib.Path(given.program).resolve(), 0, 0
     with tempfile.TemporaryDirectory(prefix="sno-deep-") as name:
         folder = pathlib.Path(name)
         kinds = [it for it in CASES if not given.part or it not in LONG]
         for case in (case for some in kinds for case in some() if given.only in case.name):
             seen, why = of_case(program, case, folder)
-            if seen is None:
-                left.append(case.name)
-                continue
             print(f"{case.name}: {seen.seconds:.1f} seconds, {seen.megabytes:.0f} megabytes", flush=True)
             print(f"FAILED {why}\n" if why else "", end="", flush=True)
             passed, failed = passed + (not why), failed + bool(why)
         for told, why in large(program, folder) if not given.only and not given.part else ():
             print(f"FAILED {told}" if why else told, flush=True)
             passed, failed = passed + (not why), failed + why
-    print(f"left out, as they don't run yet: {', '.join(left) or 'none'}")
     print(f"{passed} passed, {failed} failed")
     return 1 if failed else 0

@@ -193,7 +193,7 @@ def main():
     print(*map(told, failed), sep="\n", end="\n" if failed else "")
     most = max(done, key=Result.ratio)
     print(f"constructs beside those that each program runs: {', '.join(later) or 'none'}")
-    print(f"{len(results) - len(done)} left out, as they use too many rules or don't run yet")
+    print(f"{len(results) - len(done)} left out, as they use too many rules")
     print(f"largest ratio {most.ratio():.3f}: {most.steps} steps for {most.rules} rules, {most.case.name}")
     print(f"{len(done) - len(failed)} passed, {len(failed)} failed")
     return 1 if failed else 0

@@ -7,7 +7,7 @@ STRINGS = ["V", "W", "X", "Y"]
 PATTERNS = ["P", "Q", "R"]
 LABELS = ["L1", "L2", "L3", "L4", "L5"]
 COLUMNS = 72
-# What a program may not run yet, with a statement that shows it.
+# Constructs that a program may lack, with a statement that shows each.
 LATER = {
     "fence": " X = FENCE('A')",
     "imm": " 'A' 'A' $ X",

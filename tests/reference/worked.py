@@ -1,4 +1,4 @@
-"""Worked decks that `sno` doesn't run yet, so that tests/decks can't have them, and worked counts of rules.
+"""Worked decks beside those of tests/decks, and worked counts of rules.
 
 The decks are those of the language's page; the counts are computed by the definitions.
 """

@@ -10,8 +10,6 @@ from .command import ROOT, run
 # A block of a page between lines of three backquotes, with one of these words behind the first.
 BLOCK = re.compile(r"^```(deck|input|prints|told)\n(.*?)^```$", re.MULTILINE | re.DOTALL)
 PAGES = ("docs/tutorial.md", "docs/porting.md")
-# All that is told of a deck with statements that the program doesn't run yet.
-WAITING = re.compile(rb"(statement [0-9]+ P0\n)+")
 
 
 class Shown(typing.NamedTuple):
@@ -37,26 +35,21 @@ def shown(page):
 
 
 def outcome(sno, deck, given):
-    """What a deck prints and tells with this input, and which program said so: the reference, where `sno` can't yet."""
+    """What a deck prints and tells with this input."""
     with tempfile.TemporaryDirectory(prefix="sno-page-") as name:
         folder = pathlib.Path(name)
         (folder / "deck").write_bytes(deck)
         (folder / "input").write_bytes(given)
         told = run([sno, "compile", "deck", "module"], folder=folder)[1]
-        if WAITING.fullmatch(told):
-            words = [ROOT / "tests" / "reference" / "run", "deck", "input"]
-            return (*run(words, folder=folder)[:2], "the reference")
-        if told:
-            return b"", told, "sno"
-        return (*run([sno, "run", "module"], given, folder)[:2], "sno")
+        return (b"", told) if told else run([sno, "run", "module"], given, folder)[:2]
 
 
 def page_checks(sno, page):
     """Each deck of a page prints and tells what is shown under it."""
     for it in shown(page):
-        out, told, by_whom = outcome(sno, it.deck.encode(), it.input.encode())
+        out, told = outcome(sno, it.deck.encode(), it.input.encode())
         same = (out.decode("latin-1"), told.decode("latin-1")) == (it.prints, it.told)
-        what = f"what {by_whom} answers to the deck there: {out!r} {told!r}"
+        what = f"what sno answers to the deck there: {out!r} {told!r}"
         yield f"{page.relative_to(ROOT)}:{it.line}", what, same
         narrow = all(len(line) <= 72 for line in it.deck.splitlines())
         yield f"{page.relative_to(ROOT)}:{it.line}", "cards of at most 72 columns", narrow
@@ -65,9 +58,9 @@ def page_checks(sno, page):
 def checks(sno):
     """The decks of examples/ and of the pages."""
     for file in sorted((ROOT / "examples").glob("*.sno")):
-        out, told, by_whom = outcome(sno, file.read_bytes(), b"")
+        out, told = outcome(sno, file.read_bytes(), b"")
         same = (out, told) == (file.with_suffix(".out").read_bytes(), b"")
-        yield f"examples/{file.name}", f"what {by_whom} prints: {told.decode()}", same
+        yield f"examples/{file.name}", f"what sno prints: {told.decode()}", same
     for name in PAGES:
         if (ROOT / name).exists():
             yield from page_checks(sno, ROOT / name)
