@@ -4,7 +4,8 @@ ghost use Rattle.std.specs.Prelude.{◌≡◌, ◌≢◌, List, IfOk, true, fals
 ghost use Rattle.model.specs.Deck.Trees as tree;
 ghost use Rattle.driver.specs.declared.refusal.Refusal as reasons;
 ghost use Rattle.driver.specs.declared.refusal.Refusal.TheVariants.{Memory};
-ghost use Rattle.driver.specs.Compiled.{IsAccepted, IsRefusalOf};
+ghost use Rattle.driver.specs.Compiled.{IsRefusalOf};
+ghost use Rattle.model.specs.Deck.Faults.{verdict, Accepted};
 
 use crate::cards::{Known, cards};
 use crate::lines::Style;
@@ -123,8 +124,8 @@ pub fn list<W: Write>(
     bytes: &[u8],
     out: &mut W,
 ) -> Result<bool, Trouble>
-    // A deck of which that is said has trees, and each of its statements runs.
-    ensures faultless { IfOk result (λ f. f ≡ true → (ss : List tree.Stmt) × IsAccepted bytes.now ss) }
+    // A deck of which that is said has trees.
+    ensures faultless { IfOk result (λ f. f ≡ true → (ss : List tree.Stmt) × (verdict bytes.now ≡ Accepted ss)) }
     // Any other is refused, by exactly its faults.
     ensures faulty { IfOk result (λ f. f ≡ false → (why : reasons.Refusal)
         × IsRefusalOf bytes.now why × (why ≢ Memory)) }

@@ -52,8 +52,6 @@ fn of_tokens(cause: Cause) -> &'static str {
 /// What a faulty statement's cause means.
 pub(crate) fn of_cause(cause: Cause) -> &'static str {
     match cause {
-        Cause::NotYet =>
-            "The program doesn't run statements of this form yet; write it without this construct.",
         Cause::NoTree => {
             "The statement has no form that is permitted; look for binary operators without blanks on both sides, for a \
              blank behind a function's name, for brackets that don't match, and for a label that doesn't begin in column 1."

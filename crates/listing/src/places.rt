@@ -153,6 +153,6 @@ pub(crate) fn place(alloc: Global, cause: Cause, text: &[u8]) -> Result<Option<u
         Cause::TooManyArguments => full_call(pieces, text),
         Cause::UnknownKeyword => unknown_keyword(pieces, text),
         Cause::EntryMissing => entry(pieces),
-        Cause::NotYet | Cause::NoTree | Cause::NotATarget | Cause::Memory => None,
+        Cause::NoTree | Cause::NotATarget | Cause::Memory => None,
     })
 }
