@@ -225,5 +225,4 @@ module _ {P E : Type 0} where
   prim_op m p.Detach vs w = returned (detach_op (arg_at vs 0) w)
   prim_op m p.Fence vs w = returned (conv (to_pattern m (arg_at vs 0)) w (λ q. Gives (Pat (m.fence_of q)) w))
   prim_op m p.Apply [] w = Faults error.NotAName w
-  prim_op m p.Apply (v ∷ vs) w =
-      conv (to_variable v) w (λ f. applied f vs w (λ q. prim_op m q vs w) (prim_at w.plain.level f))
+  prim_op m p.Apply (v ∷ vs) w = conv (to_variable v) w (λ f. applied f vs w (λ q. prim_op m q vs w) (prim_at w.plain.level f))

@@ -65,9 +65,7 @@ pub record FunctionPrototype : Type 0 where
   pub locals : List Bytes
 
 abbrev pub is_function : Level → FunctionPrototype → Bool
-is_function l f =
-    let names : List Bytes = f.name ∷ (f.arguments ++ f.locals) in
-    list_all is_name names && are_distinct names && not (is_primitive l f.name)
+is_function l f = let names : List Bytes = f.name ∷ (f.arguments ++ f.locals) in list_all is_name names && are_distinct names && not (is_primitive l f.name)
 
 abbrev pub passing : {A : Type 0} → (A → Bool) → Option A → Option A
 passing test None = None
