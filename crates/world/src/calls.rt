@@ -13,7 +13,7 @@ ghost use Rattle.world.specs.Calling.{AreSaved, Ends, IsKept, LeavesTo, given_of
 ghost use Rattle.world.specs.Held.{value_in, variable_at, world_of};
 ghost use Rattle.world.specs.Values.{value_of};
 ghost use Rattle.world.specs.declared.value.Value.{Value as Item};
-ghost use Rattle.unit_io.specs.Service.{Served};
+ghost use Rattle.unit_io.specs.Service.{PrintsNothing, Served};
 
 use crate::arguments::argument;
 use crate::fault::Fault;
@@ -211,6 +211,7 @@ impl World {
         ensures served { Served U.Units (stopped_by result) units.old units.new (λ io io'.
             AnswersOrFails (answer_map (option_map value_of) result) (world_of self.new io')
             (as_value (given_of given) (world_of self.old io))) }
+        ensures quiet { IfStopped result (λ stop. PrintsNothing (U.told units.old) (U.told units.new)) }
         ensures err { OnErr result (self.new ≡ self.old) }
     {
         match given {
