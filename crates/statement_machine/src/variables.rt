@@ -14,8 +14,8 @@ ghost use Rattle.world.specs.Answers.{AnswersAs, AnswersOrFails, answer_map, don
 ghost use Rattle.world.specs.Held.{world_of};
 ghost use Rattle.world.specs.Values.{value_of};
 ghost use Rattle.statement_machine.specs.Held.{IsSound, Left, Meets, after, handlers_in, waiting};
-ghost use Rattle.statement_machine.specs.Stopped.{halted_by};
-ghost use Rattle.unit_io.specs.Service.{KeepsCounts, Served};
+ghost use Rattle.statement_machine.specs.Stopped.{IfHalted, halted_by};
+ghost use Rattle.unit_io.specs.Service.{KeepsCounts, PrintsNothing, Served};
 
 use crate::state::State;
 use crate::status::Exit;
@@ -72,6 +72,7 @@ impl State {
         ensures served { Served U.Units (halted_by result) units.old units.new (λ io io'.
             (im : Image) (fs : List Frame)
             → Left im fs result self.new io' (after im Instr.Assign next fs self.old io)) }
+        ensures quiet { IfHalted result (λ stop. PrintsNothing (U.told units.old) (U.told units.new)) }
         ensures sound { (im : Image) (fs : List Frame) → Meets im Instr.Assign next fs self.old
             → OnOk result (IsSound im fs self.new) }
     {
@@ -87,6 +88,7 @@ impl State {
         ensures served { Served U.Units (halted_by result) units.old units.new (λ io io'.
             (im : Image) (fs : List Frame)
             → Left im fs result self.new io' (after im Instr.Fetch next fs self.old io)) }
+        ensures quiet { IfHalted result (λ stop. PrintsNothing (U.told units.old) (U.told units.new)) }
         ensures sound { (im : Image) (fs : List Frame) → Meets im Instr.Fetch next fs self.old
             → OnOk result (IsSound im fs self.new) }
     {
@@ -101,6 +103,7 @@ impl State {
         ensures served { Served U.Units (halted_by result) units.old units.new (λ io io'.
             (im : Image) (fs : List Frame)
             → Left im fs result self.new io' (after im Instr.FetchK next fs self.old io)) }
+        ensures quiet { IfHalted result (λ stop. PrintsNothing (U.told units.old) (U.told units.new)) }
         ensures sound { (im : Image) (fs : List Frame) → Meets im Instr.FetchK next fs self.old
             → OnOk result (IsSound im fs self.new) }
     {
@@ -114,6 +117,7 @@ impl State {
         ensures served { Served U.Units (halted_by result) units.old units.new (λ io io'.
             (im : Image) (fs : List Frame)
             → Left im fs result self.new io' (after im Instr.Splice next fs self.old io)) }
+        ensures quiet { IfHalted result (λ stop. PrintsNothing (U.told units.old) (U.told units.new)) }
         ensures sound { (im : Image) (fs : List Frame) → Meets im Instr.Splice next fs self.old
             → OnOk result (IsSound im fs self.new) }
     {
