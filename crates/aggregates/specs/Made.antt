@@ -13,7 +13,7 @@ module _ {V : Type 0} where
   abbrev pub object_of : held.Object V → Object V
   object_of (o.Array a) = ArrayOf a.0 a.1
   object_of (o.Table t) = TableOf t
-  object_of (o.Record r) = RecordOf r.type_name r.fields.items r.values.items
+  object_of (o.Record r) = RecordOf r.type_name r.fields r.values.items
 
   abbrev pub objects_of : List (held.Object V) → List (Object V)
   objects_of xs = map object_of xs

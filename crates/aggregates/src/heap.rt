@@ -12,6 +12,7 @@ ghost use Rattle.aggregates.specs.Made.{kind_of, filled, copied, rows_in, rows_a
 use crate::array::Array;
 use crate::bounds::{Bounds, are_bounds};
 use crate::element::Element;
+use crate::names::Names;
 use crate::object::{Kind, Object, Record, place_among};
 use crate::place::Place;
 use crate::table::Table;
@@ -97,7 +98,7 @@ impl<V: Element> Heap<V> {
         ensures { result ≡ field_in name.now (slice_get self.now object) }
     {
         match self.object(object) {
-            Some(Object::Record(record)) => place_among(name, &record.fields),
+            Some(Object::Record(record)) => place_among(name, record.fields.as_slice()),
             _ => None,
         }
     }
@@ -160,12 +161,12 @@ impl<V: Element> Heap<V> {
     pub fn new_record(
         &mut self,
         type_name: Text,
-        fields: Vec<Text>,
+        fields: Names,
         values: Vec<V>,
     ) -> Result<usize, AllocError>
         ensures number { IfOk result (λ made. made ≡ length self.old) }
         ensures made { OnOk result
-            (self.new ≡ self.old ++ RecordOf type_name fields.items values.items ∷ []) }
+            (self.new ≡ self.old ++ RecordOf type_name fields values.items ∷ []) }
         ensures refused { OnErr result (self.new ≡ self.old) }
     {
         self.add(Object::Record(Record {

@@ -9,6 +9,7 @@ ghost use Rattle.aggregates.specs.Made.{object_of, kind_of};
 use crate::array::Array;
 use crate::element::Element;
 use crate::items::put;
+use crate::names::Names;
 use crate::place::Place;
 use crate::table::Table;
 use std::alloc::AllocError;
@@ -26,7 +27,7 @@ pub enum Kind {
 #[derive(Drop)]
 pub(crate) struct Record<V> {
     pub(crate) type_name: Text,
-    pub(crate) fields: Vec<Text>,
+    pub(crate) fields: Names,
     pub(crate) values: Vec<V>,
 }
 

@@ -5,9 +5,9 @@ ghost use Rattle.model.specs.Language.Io.{Io};
 ghost use Rattle.model.specs.Machine.Steps.{codes_of};
 ghost use Rattle.model.specs.Language.Values.{Str, Int, Pat, TableOf};
 ghost use Rattle.model.specs.Language.Conversions.{Gives, conv, to_text, to_integer, to_pattern};
-ghost use Rattle.model.specs.Language.Prototypes.{array_prototype};
+ghost use Rattle.model.specs.Language.Prototypes.{array_prototype, type_prototype};
 ghost use Rattle.model.specs.Language.Aggregates.{new_object, array_op, copy_op, as_array};
-ghost use Rattle.model.specs.Language.Primitives.{returned, item_op, converted, or_fail};
+ghost use Rattle.model.specs.Language.Primitives.{returned, data_op, item_op, converted, or_fail};
 ghost use Rattle.model.specs.declared.run.Stop.TheVariants.{NoMemory};
 ghost use Rattle.world.specs.Values.{value_of};
 ghost use Rattle.world.specs.Held.{world_of};
@@ -17,7 +17,7 @@ ghost use Rattle.primitives.specs.Answers.{AnswersAs, ComesTo};
 use crate::functions::type_name;
 use crate::outcome::Outcome;
 use model::ErrorCode;
-use prototypes::dimensions;
+use prototypes::{dimensions, type_prototype};
 use std::alloc::Global;
 use world::{Fault, Value, World};
 
@@ -78,6 +78,27 @@ pub(crate) fn item(arguments: &[Value], world: &World) -> Result<Outcome, Fault>
         Some(name) => Ok(Outcome::Name(name)),
         None => Ok(Outcome::Failure),
     }
+}
+
+/// DATA.
+pub(crate) fn data(
+    alloc: Global,
+    prototype: &Value,
+    world: &mut World,
+) -> Result<Outcome, Fault>
+    ensures answer { (io : Io)
+        → ComesTo result (world_of world.new io)
+        (returned (conv (to_text (value_of prototype.now)) (world_of world.old io) (λ s.
+        data_op (type_prototype s) (world_of world.old io)))) }
+    ensures stop { IfStopped result (λ stop. stop ≡ NoMemory) }
+    ensures unchanged { OnErr result (world.new ≡ world.old) }
+{
+    let text = prototype.to_text(alloc)?;
+    let Some(prototype) = type_prototype(alloc, text.as_slice())? else {
+        return Err(Fault::Error(ErrorCode::BadPrototype));
+    };
+    world.data(alloc, &prototype)?;
+    Ok(Outcome::Value(Value::null()))
 }
 
 /// CONVERT.

@@ -2,3 +2,4 @@ pub mod Cuts
 pub mod Distinct
 pub mod Functions
 pub mod Bounds
+pub mod TypeParts

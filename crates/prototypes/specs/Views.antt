@@ -2,7 +2,7 @@
 use Rattle.std.specs.Prelude.{◌≡◌, ℕ, ◌+◌, ◌<◌, List, [], ◌∷◌, ◌++◌, length, take, drop, get_or, Option, Some, None}
 use Rattle.std.specs.Borrow.{Bor}
 use Rattle.model.specs.Deck.Trees.{Bytes}
-use Rattle.model.specs.Language.Prototypes.{Cut, cut_at, FunctionPrototype}
+use Rattle.model.specs.Language.Prototypes.{Cut, cut_at, FunctionPrototype, TypePrototype}
 
 -- the text is cut so at the first such byte, which is gone
 abbrev pub IsCut : ℕ → Bytes → Option (Bor Bytes × Bor Bytes) → Type 0
@@ -15,3 +15,7 @@ function_of names arity = record { name = get_or names 0 []; arguments = take ar
 
 abbrev pub names_of : FunctionPrototype → List Bytes
 names_of f = f.name ∷ (f.arguments ++ f.locals)
+
+-- a type's name and its fields
+abbrev pub type_of : List Bytes → TypePrototype
+type_of names = record { name = get_or names 0 []; fields = drop 1 names; rest = [] }

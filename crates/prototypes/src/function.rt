@@ -4,9 +4,9 @@ ghost use Rattle.std.specs.Prelude.{◌≡◌, IfOk};
 ghost use Rattle.model.specs.Language.Prototypes.{cut_at, function_cut, function_prototype, is_function, listed};
 ghost use Rattle.prototypes.specs.Views.{names_of};
 
-use crate::listed::Names;
 use crate::names::{are_distinct_names, is_primitive};
 use crate::parts::{cut, push_listed, push_name};
+use aggregates::Names;
 use std::alloc::{AllocError, Global};
 use std::marker::Model;
 use strings::Text;

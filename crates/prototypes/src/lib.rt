@@ -1,7 +1,7 @@
 //! Prototypes: the texts by which DEFINE, DATA and ARRAY are told what to make.
 //!
-//! `function_prototype(alloc, text)` reads `NAME(ARGUMENT,..)LOCAL,..`, `dimensions` what ARRAY takes, as `0:9,20`.
-//! `Names` is a list of names that clones share.
+//! `function_prototype(alloc, text)` reads `NAME(ARGUMENT,..)LOCAL,..`, `type_prototype` what DATA takes, as
+//! `TYPE(FIELD,..)`, `dimensions` what ARRAY takes, as `0:9,20`.
 //!
 //!     let bounds = dimensions(alloc, &text)?;
 //!
@@ -11,10 +11,10 @@
 
 mod array;
 mod function;
-mod listed;
 mod names;
 mod parts;
+mod types;
 
 pub use array::dimensions;
 pub use function::{FunctionPrototype, function_prototype};
-pub use listed::Names;
+pub use types::{TypePrototype, type_prototype};

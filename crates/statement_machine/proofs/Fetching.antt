@@ -1,6 +1,5 @@
 -- Instructions that fetch names and assign to them.
-use Rattle.std.proofs.Common.{◌≡◌, ℕ, List, [], ◌∷◌, Option, Result}
-use Rattle.std.specs.Prelude.{OnOk}
+use Rattle.std.proofs.Common.{◌≡◌, ℕ, List, ◌∷◌, Option, Result}
 use Rattle.model.specs.declared.image.Image.{Image}
 use Rattle.model.specs.declared.instr.Instr.TheVariants as op
 use Rattle.model.specs.Language.Io.{Io}
@@ -23,7 +22,7 @@ use Rattle.world.specs.Values.{value_of}
 use Rattle.world.specs.declared.value.Value.{Value}
 use Rattle.world.specs.declared.world_operators.Span.{Span}
 use Rattle.world.specs.declared.fault.Fault.{Fault}
-use Rattle.statement_machine.specs.Held.{IsSound, Left, Meets, after, handlers_in, waiting}
+use Rattle.statement_machine.specs.Held.{Left, Meets, StaysSound, after, handlers_in, waiting}
 use Rattle.statement_machine.specs.declared.state.State.{State}
 use Rattle.statement_machine.specs.declared.status.Exit.{Exit}
 use Rattle.model.specs.Machine.Standing.{StateStands}
@@ -61,7 +60,7 @@ module _ (im : Image) (frames : List Frame) (q : ℕ) (s new : State) (mid : Wor
       → (io io' : Io) → AnswersOrFails answer (world_of mid io') (fetch_op (name_of n) (world_of s.world io)) → Left im frames r new io' (after im op.Fetch q frames s io)
   fetched answer e g io io' x = rw e (g io' (fetch_op (name_of n) (world_of s.world io)) x)
 
-  pub fetch_sound : (answer : Result (Option MVal) Fault) → Meets im op.Fetch q frames s → s.operands ≡ record rest { top = operand.Name n ∷ rest.top } → GoesWith im frames q answer mid (operands_of rest.top) hs fs r new → OnOk r (IsSound im frames new)
+  pub fetch_sound : (answer : Result (Option MVal) Fault) → Meets im op.Fetch q frames s → s.operands ≡ record rest { top = operand.Name n ∷ rest.top } → GoesWith im frames q answer mid (operands_of rest.top) hs fs r new → StaysSound im frames r new
   fetch_sound answer h e g =
       let o = some_answer_or_failure answer (world_of mid no_records) in
       let stands : StateStands im (pop_name (operands_of s.operands.top) w0 (λ n rest. after_op o.0 hs rest (waiting im frames s) (λ v w. Run to (OV v ∷ rest) hs (waiting im frames s) w))) = fetch_stands im h.0 frames s q h.1 (λ n. o.0) w0 h.2 in
@@ -74,7 +73,7 @@ module _ (im : Image) (frames : List Frame) (q : ℕ) (s new : State) (mid : Wor
       let h : Left im frames r new io' (after_op (fetch_op (name_of n) (world_of s.world io)) hs (operands_of s.operands.top) fs (λ v w. Run to (OV v ∷ operands_of s.operands.top) hs fs w)) = g io' (fetch_op (name_of n) (world_of s.world io)) x in
       rw e (rw e at h)
 
-  pub fetch_above_sound : (answer : Result (Option MVal) Fault) → Meets im op.FetchK q frames s → s.operands ≡ record rest { top = operand.Name n ∷ rest.top } → GoesWith im frames q answer mid (operands_of s.operands.top) hs fs r new → OnOk r (IsSound im frames new)
+  pub fetch_above_sound : (answer : Result (Option MVal) Fault) → Meets im op.FetchK q frames s → s.operands ≡ record rest { top = operand.Name n ∷ rest.top } → GoesWith im frames q answer mid (operands_of s.operands.top) hs fs r new → StaysSound im frames r new
   fetch_above_sound answer h e g =
       let o = some_answer_or_failure answer (world_of mid no_records) in
       let stands : StateStands im (pop_name (operands_of s.operands.top) w0 (λ n rest. after_op o.0 hs (operands_of s.operands.top) (waiting im frames s) (λ v w. Run to (OV v ∷ operands_of s.operands.top) hs (waiting im frames s) w))) = fetch_above_stands im h.0 frames s q h.1 (λ n. o.0) w0 h.2 in
@@ -88,7 +87,7 @@ module _ (im : Image) (frames : List Frame) (q : ℕ) (s new : State) (mid : Wor
       → (io io' : Io) → AnswersAs answer (world_of mid io') (assign_op (name_of n) (value_of v) (world_of s.world io)) → Left im frames r new io' (after im op.Assign q frames s io)
   assigned v answer e g io io' x = rw e (g io' (assign_op (name_of n) (value_of v) (world_of s.world io)) x)
 
-  pub assign_sound : (v : Value) (answer : Result (record {}) Fault) → Meets im op.Assign q frames s → s.operands ≡ record rest { top = operand.Value v ∷ operand.Name n ∷ rest.top } → Goes im frames q answer mid (operands_of rest.top) hs fs r new → OnOk r (IsSound im frames new)
+  pub assign_sound : (v : Value) (answer : Result (record {}) Fault) → Meets im op.Assign q frames s → s.operands ≡ record rest { top = operand.Value v ∷ operand.Name n ∷ rest.top } → Goes im frames q answer mid (operands_of rest.top) hs fs r new → StaysSound im frames r new
   assign_sound v answer h e g =
       let o = some_answer answer (world_of mid no_records) in
       let stands : StateStands im (pop (operands_of s.operands.top) w0 (λ v r1. pop_name r1 w0 (λ n rest. after_op o.0 hs rest (waiting im frames s) (λ u w. Run to rest hs (waiting im frames s) w)))) = assign_stands im h.0 frames s q h.1 (λ n v. o.0) w0 h.2 in
@@ -99,7 +98,7 @@ module _ (im : Image) (frames : List Frame) (q : ℕ) (s new : State) (mid : Wor
       → (io io' : Io) → AnswersAs answer (world_of mid io') (splice_op (name_of n) d.subject d.start d.end (value_of v) (world_of s.world io)) → Left im frames r new io' (after im op.Splice q frames s io)
   spliced v d answer e g io io' x = rw e (g io' (splice_op (name_of n) d.subject d.start d.end (value_of v) (world_of s.world io)) x)
 
-  pub splice_sound : (v : Value) (d : Span) (answer : Result (record {}) Fault) → Meets im op.Splice q frames s → s.operands ≡ record rest { top = operand.Value v ∷ operand.Span d ∷ operand.Name n ∷ rest.top } → Goes im frames q answer mid (operands_of rest.top) hs fs r new → OnOk r (IsSound im frames new)
+  pub splice_sound : (v : Value) (d : Span) (answer : Result (record {}) Fault) → Meets im op.Splice q frames s → s.operands ≡ record rest { top = operand.Value v ∷ operand.Span d ∷ operand.Name n ∷ rest.top } → Goes im frames q answer mid (operands_of rest.top) hs fs r new → StaysSound im frames r new
   splice_sound v d answer h e g =
       let o = some_answer answer (world_of mid no_records) in
       let stands : StateStands im (pop (operands_of s.operands.top) w0 (λ v r1. pop_span r1 w0 (λ t b d r2. pop_name r2 w0 (λ n rest. after_op o.0 hs rest (waiting im frames s) (λ u w. Run to rest hs (waiting im frames s) w))))) = splice_stands im h.0 frames s q h.1 (λ n t b d v. o.0) w0 h.2 in

@@ -13,7 +13,7 @@ ghost use Rattle.model.specs.declared.image.Image.{Image};
 ghost use Rattle.model.specs.declared.run.Stop.TheVariants.{NoMemory};
 ghost use Rattle.statement_machine.specs.Held.{Left, waiting};
 ghost use Rattle.statement_machine.specs.Runs.{found_kinds, matching_in};
-ghost use Rattle.statement_machine.specs.Stopped.{halted_by};
+ghost use Rattle.statement_machine.specs.Stopped.{GoesOrHalts, halted_by};
 ghost use Rattle.unit_io.specs.Service.{Served};
 ghost use Rattle.world.specs.Answers.{AnswersAs, done, stopped_by};
 ghost use Rattle.world.specs.Held.{world_of};
@@ -77,6 +77,7 @@ impl State {
             ((self.new.place ≡ matching.place) × (self.new.handlers ≡ self.old.handlers)
             × (self.new.operands.under ≡ self.old.operands.under)
             × (kinds_of self.new.operands.top ≡ found_kinds matching.keep (kinds_of self.old.operands.top))) }
+        ensures halts { GoesOrHalts result }
     {
         if let Err(fault) = assign_all(self.alloc, &mut self.world, units, pending.as_slice()) {
             return Err(self.halted(fault));

@@ -11,7 +11,7 @@ use crate::state::State;
 use crate::status::Exit;
 use frames::{pop_name, pop_value};
 use model::{ArithOp, Instr, KeyId, SignOp};
-use world::{Fault, Value, alt, arith, cond, indir, sign};
+use world::{Fault, Value, alt, arith, cond, cursor, imm, indir, sign};
 
 impl State {
     /// Unary `+` or `-`.
@@ -81,6 +81,31 @@ impl State {
             Ok(pattern) => self.put(pattern, next),
             Err(fault) => Err(self.halted(fault)),
         }
+    }
+
+    /// Binary `$`.
+    pub(crate) fn imm(&mut self, next: usize) -> Result<(), Exit>
+        requires { AreOnTop (N ∷ V ∷ []) self.old.operands.top }
+        ensures left { Does Instr.Imm next result self.old self.new }
+        ensures stop { IfHalted result (λ stop. stop ≡ NoMemory) }
+    {
+        let name = pop_name(&mut self.operands);
+        let value = pop_value(&mut self.operands);
+        match imm(self.alloc, &value, name) {
+            Ok(pattern) => self.put(pattern, next),
+            Err(fault) => Err(self.halted(fault)),
+        }
+    }
+
+    /// Unary `@`.
+    pub(crate) fn cursor(&mut self, next: usize) -> Result<(), Exit>
+        requires { AreOnTop (N ∷ []) self.old.operands.top }
+        ensures left { Does Instr.Cursor next result self.old self.new }
+        ensures stop { IfHalted result (λ stop. stop ≡ NoMemory) }
+    {
+        let name = pop_name(&mut self.operands);
+        let pattern = cursor(self.alloc, name)?;
+        self.put(pattern, next)
     }
 
     /// Unary `$`.

@@ -1,6 +1,6 @@
 //! Instructions that may read from a unit or write to one, by a variable that has it.
 
-ghost use Rattle.std.specs.Prelude.{ℕ, ◌∷◌, List, [], OnOk, option_map};
+ghost use Rattle.std.specs.Prelude.{ℕ, ◌∷◌, List, [], option_map};
 ghost use Rattle.model.specs.Language.Conversions.{Op};
 ghost use Rattle.model.specs.Module.Flow.{V, N, R};
 ghost use Rattle.model.specs.Language.Io.{Io};
@@ -13,7 +13,7 @@ ghost use Rattle.frames.specs.declared.frame.Frame.{Frame};
 ghost use Rattle.world.specs.Answers.{AnswersAs, AnswersOrFails, answer_map, done, stopped_by};
 ghost use Rattle.world.specs.Held.{world_of};
 ghost use Rattle.world.specs.Values.{value_of};
-ghost use Rattle.statement_machine.specs.Held.{IsSound, Left, Meets, after, handlers_in, waiting};
+ghost use Rattle.statement_machine.specs.Held.{Left, Meets, StaysSound, after, handlers_in, waiting};
 ghost use Rattle.statement_machine.specs.Stopped.{IfHalted, halted_by};
 ghost use Rattle.unit_io.specs.Service.{KeepsCounts, PrintsNothing, Served};
 
@@ -74,7 +74,7 @@ impl State {
             → Left im fs result self.new io' (after im Instr.Assign next fs self.old io)) }
         ensures quiet { IfHalted result (λ stop. PrintsNothing (U.told units.old) (U.told units.new)) }
         ensures sound { (im : Image) (fs : List Frame) → Meets im Instr.Assign next fs self.old
-            → OnOk result (IsSound im fs self.new) }
+            → StaysSound im fs result self.new }
     {
         let value = pop_value(&mut self.operands);
         let name = pop_name(&mut self.operands);
@@ -90,7 +90,7 @@ impl State {
             → Left im fs result self.new io' (after im Instr.Fetch next fs self.old io)) }
         ensures quiet { IfHalted result (λ stop. PrintsNothing (U.told units.old) (U.told units.new)) }
         ensures sound { (im : Image) (fs : List Frame) → Meets im Instr.Fetch next fs self.old
-            → OnOk result (IsSound im fs self.new) }
+            → StaysSound im fs result self.new }
     {
         let name = pop_name(&mut self.operands);
         let answer = self.world.fetch(units, &name);
@@ -105,7 +105,7 @@ impl State {
             → Left im fs result self.new io' (after im Instr.FetchK next fs self.old io)) }
         ensures quiet { IfHalted result (λ stop. PrintsNothing (U.told units.old) (U.told units.new)) }
         ensures sound { (im : Image) (fs : List Frame) → Meets im Instr.FetchK next fs self.old
-            → OnOk result (IsSound im fs self.new) }
+            → StaysSound im fs result self.new }
     {
         let answer = self.world.fetch(units, top_name(&self.operands));
         self.gave(answer, next)
@@ -119,7 +119,7 @@ impl State {
             → Left im fs result self.new io' (after im Instr.Splice next fs self.old io)) }
         ensures quiet { IfHalted result (λ stop. PrintsNothing (U.told units.old) (U.told units.new)) }
         ensures sound { (im : Image) (fs : List Frame) → Meets im Instr.Splice next fs self.old
-            → OnOk result (IsSound im fs self.new) }
+            → StaysSound im fs result self.new }
     {
         let value = pop_value(&mut self.operands);
         let span = pop_span(&mut self.operands);

@@ -94,11 +94,11 @@ fn new_array(
     Ok(number(heap.new_array(alloc, bounds, &Item::Integer(7))?))
 }
 
-fn fields(alloc: Global) -> Result<Vec<Text>, StrFault> {
+fn fields(alloc: Global) -> Result<Names, StrFault> {
     let mut all = Vec::new(alloc);
     all.push(Text::from_slice(alloc, b"LEFT")?)?;
     all.push(Text::from_slice(alloc, b"RIGHT")?)?;
-    Ok(all)
+    Ok(Names::new(alloc, all)?)
 }
 
 fn new_pair(alloc: Global, heap: &mut Heap<Item>) -> Result<Seen, StrFault> {

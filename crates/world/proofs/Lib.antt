@@ -12,3 +12,5 @@ pub mod Saving
 pub mod Leaving
 pub mod Made
 pub mod Named
+pub mod TypeFunctions
+pub mod Recorded

@@ -1,5 +1,6 @@
 -- Functions that aren't primitive, as they are held.
-use Rattle.std.specs.Prelude.{◌≡◌, List, Option, Some, None, option_map, bytes_eq}
+use Rattle.std.specs.Prelude.{◌≡◌, List, Option, Some, None, option_map, bytes_eq, if◌then◌else◌}
+use Rattle.std.specs.List.{list_any}
 use Rattle.std.specs.Map.{lookup}
 use Rattle.model.specs.Deck.Trees.{Bytes}
 use Rattle.model.specs.Language.Values as values
@@ -29,3 +30,7 @@ IsNamed x _ = Unit {0}
 abbrev pub IfNamed : Bytes → Option Function → Type 0
 IfNamed x None = Unit {0}
 IfNamed x (Some f) = IsNamed x f
+
+-- the function that a type gives a name: some of its fields have one, and its own name makes records with all of them
+abbrev pub function_of_type : (name : Bytes) → (fields some : List Bytes) → Bytes → Option Function
+function_of_type name fields some x = if list_any (λ f. bytes_eq f x) some then Some function.Field else if bytes_eq name x then Some (function.Constructor fields) else None

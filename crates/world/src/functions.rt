@@ -1,7 +1,8 @@
 //! Functions that aren't primitive.
 
 ghost use Rattle.std.specs.Prelude.{◌≡◌, [], cond, bytes_eq, option_map, Some, IfOk, IfSome, OnOk, OnErr};
-ghost use Rattle.std.specs.Option.{option_copied};
+ghost use Rattle.std.specs.Option.{option_copied, option_or};
+ghost use Rattle.indexmap.specs.IndexMap.{IsUnique};
 ghost use Rattle.model.specs.Language.Io.{Io};
 ghost use Rattle.model.specs.Deck.Trees.{Bytes};
 ghost use Rattle.model.specs.Language.Values.{Str};
@@ -11,8 +12,9 @@ ghost use Rattle.world.specs.Functions.{function_of, function_at, IsNamed, IfNam
 ghost use Rattle.world.specs.Held.{world_of};
 
 use crate::world::World;
+use aggregates::Names;
 use indexmap::IndexMap;
-use prototypes::{FunctionPrototype, Names};
+use prototypes::FunctionPrototype;
 use std::alloc::{AllocError, Global};
 use std::marker::Model;
 use strings::Text;
@@ -100,6 +102,21 @@ impl FunctionTable {
     {
         let _old = self.functions.insert(name, function)?;
         Ok(())
+    }
+
+    /// Puts functions in the places of those that have their names.
+    pub(crate) fn append(
+        &mut self,
+        functions: IndexMap<Text, Function>,
+    ) -> Result<(), AllocError>
+        requires unique { IsUnique bytes_eq functions }
+        requires named { (x : Bytes) → IfNamed x (function_at x functions.entries) }
+        ensures ok { OnOk result ((x : Bytes) → function_at x self.new
+            ≡ option_or (function_at x functions.entries) (function_at x self.old)) }
+        ensures err { OnErr result (self.new ≡ self.old) }
+    {
+        let mut functions = functions;
+        self.functions.append(&mut functions)
     }
 }
 

@@ -24,6 +24,8 @@ mod functions;
 mod items;
 mod making;
 mod operators;
+mod records;
+mod types;
 mod unit_calls;
 mod value;
 mod world;

@@ -11,7 +11,7 @@ invariant_of-result c =
     let e = c.in_ok-new.ensures.code in
     let p = c.in_ok-new.ensures.place in
     let at = statement_begins im (runnable im c.start-place.ensures.loaded) im.entry c.start-place.result c.start-place.ensures.place in
-    (runnable im c.start-place.ensures.loaded, (e.1, rw (e.0, e.1, p.0, p.1, p.2) (statement_stands im im.entry _ at)))
+    (runnable im c.start-place.ensures.loaded, (rw e.1 tt, rw (e.0, e.1, p.0, p.1, p.2) (statement_stands im im.entry _ at)))
 
 pub returns-clause-begun : goal.returns-clause-begun
 returns-clause-begun c = λ io.

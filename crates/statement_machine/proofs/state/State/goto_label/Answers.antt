@@ -1,5 +1,5 @@
 use Rattle.std.proofs.Common.{◌∙◌, List, [], Err, ap, subst, sym}
-use Rattle.model.specs.Machine.Steps.{Run, go_to_known, go_to_return, to_stmt}
+use Rattle.model.specs.Machine.Steps.{Run, go_to_known, to_stmt}
 use Rattle.model.specs.Module.Images.{module_of}
 use Rattle.frames.specs.View.{operands_of, handlers_of}
 use Rattle.frames.specs.declared.handler.Handler.{Handler}

@@ -2,6 +2,7 @@
 
 ghost use Rattle.std.specs.Prelude.{◌≡◌, IfOk};
 
+use crate::items::copied;
 use std::alloc::{AllocError, Global};
 use std::marker::Model;
 use std::rc::Rc;
@@ -34,6 +35,13 @@ impl Names {
     {
         let names = Rc::new(alloc, names)?;
         Ok(Names { names })
+    }
+
+    /// The names of a slice.
+    pub fn from_slice(alloc: Global, names: &[Text]) -> Result<Names, AllocError>
+        ensures { IfOk result (λ list. list ≡ names.now) }
+    {
+        Names::new(alloc, copied(alloc, names)?)
     }
 
     /// The names in order.

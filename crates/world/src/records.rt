@@ -1,0 +1,93 @@
+//! Records: calls of the functions that DATA makes.
+
+ghost use Rattle.std.specs.Prelude.{◌≡◌, map, IfOk, OnErr};
+ghost use Rattle.model.specs.Language.Io.{Io};
+ghost use Rattle.model.specs.Language.Calls.{construct_op, select_op};
+ghost use Rattle.model.specs.Language.Aggregates.{field_values, field_op};
+ghost use Rattle.model.specs.declared.run.Stop.TheVariants.{NoMemory};
+ghost use Rattle.pattern_compiler.specs.View.{name_of};
+ghost use Rattle.world.specs.Answers.{answer_map, op_of, AnswersAs, IfStopped};
+ghost use Rattle.world.specs.Calling.{given_of};
+ghost use Rattle.world.specs.Held.{world_of};
+ghost use Rattle.world.specs.Values.{value_of};
+
+use crate::arguments::argument;
+use crate::calls::Given;
+use crate::fault::Fault;
+use crate::value::Value;
+use crate::world::World;
+use aggregates::Names;
+use model::ErrorCode;
+use pattern_compiler::Name;
+use std::alloc::{AllocError, Global};
+use strings::Text;
+
+// The values of fields, which an absent argument leaves null.
+fn field_values(
+    alloc: Global,
+    fields: &[Text],
+    arguments: &[Value],
+) -> Result<Vec<Value>, AllocError>
+    ensures { IfOk result (λ values.
+        map value_of values.items ≡ field_values fields.now (map value_of arguments.now)) }
+{
+    let null = Value::null();
+    let mut values = Vec::with_capacity(alloc, fields.len())?;
+    for (number, _field) in fields.iter().enumerate() {
+        values.push(argument(arguments, number, &null).clone()?)?;
+    }
+    Ok(values)
+}
+
+impl World {
+    /// A call of a constructor: a new record of the type of this name. An absent argument leaves its field null.
+    pub fn construct(
+        &mut self,
+        alloc: Global,
+        type_name: &Text,
+        fields: &Names,
+        arguments: &[Value],
+    ) -> Result<Given, Fault>
+        ensures made { (io : Io)
+            → AnswersAs (answer_map given_of result) (world_of self.new io)
+            (construct_op type_name.now fields.now (map value_of arguments.now)
+            (world_of self.old io)) }
+        ensures stop { IfStopped result (λ stop. stop ≡ NoMemory) }
+        ensures err { OnErr result (self.new ≡ self.old) }
+    {
+        let values = field_values(alloc, fields.as_slice(), arguments)?;
+        let number = self
+            .heap
+            .new_record(type_name.clone()?, fields.clone()?, values)?;
+        Ok(Given::Value(Value::Object(number)))
+    }
+
+    // The name of a record's field. Takes no memory.
+    fn field(&self, field: &Text, value: &Value) -> Result<Name, ErrorCode>
+        ensures { (io : Io)
+            → op_of (answer_map name_of result) (world_of self.now io)
+            ≡ field_op field.now (value_of value.now) (world_of self.now io) }
+    {
+        let Value::Object(object) = value else {
+            return Err(ErrorCode::WrongType);
+        };
+        match self.heap.field(*object, field) {
+            Some(index) => Ok(Name::Element {
+                object: *object,
+                index,
+            }),
+            None => Err(ErrorCode::WrongType),
+        }
+    }
+
+    /// A call of a field's function: the name of that field in the record that is the first argument. Takes no memory.
+    pub fn select(&self, field: &Text, arguments: &[Value]) -> Result<Given, ErrorCode>
+        ensures { (io : Io)
+            → op_of (answer_map given_of result) (world_of self.now io)
+            ≡ select_op field.now (map value_of arguments.now) (world_of self.now io) }
+    {
+        let null = Value::null();
+        let name = self.field(field, argument(arguments, 0, &null))?;
+        Ok(Given::Name(name))
+    }
+}
