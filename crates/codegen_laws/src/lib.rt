@@ -8,7 +8,7 @@
 //!
 //!     accepted_images();
 //!
-//! Promised: the laws hold for the whole language, whatever runs yet.
+//! Promised: the laws hold for the whole language.
 #![tactic(auto)]
 
 mod laws;

@@ -7,18 +7,14 @@ use Rattle.model.specs.declared.causes.DeckFault.{DeckFault}
 use Rattle.model.specs.declared.causes.DeckFault.TheVariants as fault
 use Rattle.model.specs.declared.causes.StmtFault.{StmtFault}
 use Rattle.model.specs.declared.image.Image.{Image}
-use Rattle.model.specs.declared.trees.Stmt as code
 use Rattle.model.specs.Deck.Cards as cards
 use Rattle.model.specs.Deck.Faults.{verdict, verdict_of_cards, verdict_of_faults, CardRefused, Refused, Accepted, faults, deck_trees}
 use Rattle.model.specs.Module.Spelling.{spelling}
 use Rattle.model.specs.Deck.Trees.{Stmt}
-use Rattle.model.specs.Deck.TreeViews.{stmt_of}
 use Rattle.parser.specs.Refusals.{IsRefusal}
 use Rattle.codegen.specs.Countable.{Fits}
 use Rattle.codegen.specs.Layout.{generated_image}
 use Rattle.codegen_laws.proofs.Images.{are_fit, are_countable, spelt as is_spelt, sound as is_sound, agrees as does_as_meant, in_time as ends_in_time}
-use Rattle.fragment.specs.Fragment.{not_yet}
-use Rattle.fragment.proofs.RunYet.{run_yet, evaluated}
 use Rattle.driver.specs.declared.refusal.Refusal.{Refusal}
 use Rattle.driver.specs.declared.refusal.Refusal.TheVariants as refusal
 use Rattle.driver.specs.Compiled.{IsModuleOf, IsRefusalOf, OfCards, OfStatements}
@@ -55,7 +51,7 @@ of_cards deck f (refusal.Statements fs) e o = absurd o
 of_cards deck f refusal.Memory e o = tt
 
 pub of_statements : (deck : List ℕ) (statements : List Statement) (f : DeckFault) (r : Refusal) → cards.deck deck ≡ Ok statements → IsRefusal (faults statements) f → OfStatements f r → IsRefusalOf deck r
-of_statements deck statements (fault.Faulty fs) r e i o = subst (IsRefusalOf deck) (sym o) (inl (refused_is deck statements fs e i.0 i.1))
+of_statements deck statements (fault.Faulty fs) r e i o = subst (IsRefusalOf deck) (sym o) (refused_is deck statements fs e i.0 i.1)
 of_statements deck statements fault.Memory r e i o = subst (IsRefusalOf deck) (sym o) tt
 
 -- ---- modules
@@ -63,8 +59,8 @@ of_statements deck statements fault.Memory r e i o = subst (IsRefusalOf deck) (s
 pub fits : (deck : List ℕ) (ss : List Stmt) → verdict deck ≡ Accepted ss → Fits ss
 fits deck ss a = let f = are_fit deck ss a in record { countable = are_countable deck ss a; together = f.together; count = f.count }
 
-pub is_module : (deck bytes : List ℕ) (ss : List Stmt) (image : Image) → verdict deck ≡ Accepted ss → not_yet 1 ss ≡ [] → image ≡ generated_image (cards.first_cards deck) ss → bytes ≡ spelling image → IsModuleOf deck bytes
-is_module deck bytes ss image a none i s = record {
+pub is_module : (deck bytes : List ℕ) (ss : List Stmt) (image : Image) → verdict deck ≡ Accepted ss → image ≡ generated_image (cards.first_cards deck) ss → bytes ≡ spelling image → IsModuleOf deck bytes
+is_module deck bytes ss image a i s = record {
   statements = ss;
   trees = a;
   image = generated_image (cards.first_cards deck) ss;
@@ -74,17 +70,4 @@ is_module deck bytes ss image a none i s = record {
   sound = is_sound deck (cards.first_cards deck) ss a;
   agrees = does_as_meant deck (cards.first_cards deck) ss a;
   in_time = ends_in_time deck (cards.first_cards deck) ss a;
-  loads = record { spelt = is_spelt deck ss a; formed = is_sound deck (cards.first_cards deck) ss a; run_yet = run_yet (cards.first_cards deck) ss none; evaluated = evaluated (cards.first_cards deck) ss none };
 }
-
--- ---- by lists, as the code has them
-
-length_map : {A B : Type 0} (f : A → B) (xs : List A) → length (map f xs) ≡ length xs
-length_map f [] = refl
-length_map f (x ∷ xs) = ap suc (length_map f xs)
-
-pub few_given : (deck : List ℕ) (ss given : List code.Stmt) → given ≡ ss → verdict deck ≡ Accepted (map stmt_of ss) → length given ≤ 16777216
-few_given deck ss given g a = let h = (are_fit deck (map stmt_of ss) a).count in let e = length_map stmt_of ss in let f = ap length g in omega (arith, h, e, f)
-
-pub none_told : (ss given : List code.Stmt) (fs : List StmtFault) → given ≡ ss → fs ≡ not_yet 1 (map stmt_of given) → fs ≡ [] → not_yet 1 (map stmt_of ss) ≡ []
-none_told ss given fs g e none = ap (λ xs. not_yet 1 (map stmt_of xs)) (sym g) ∙ sym e ∙ none

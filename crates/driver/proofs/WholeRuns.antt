@@ -13,7 +13,7 @@ use Rattle.model.specs.Language.Told.{IfTold}
 use Rattle.model.specs.Deck.Trees.{Stmt}
 use Rattle.model.proofs.Module.SpeltImages.{spelt_is_read}
 use Rattle.loader.specs.Answers.{IsAnswer, no_memory}
-use Rattle.loader.proofs.Judging.{accepted}
+use Rattle.loader.proofs.Judging.{sound_is_taken}
 use Rattle.statement_machine.specs.Runs.{IsRun}
 use Rattle.statement_machine.specs.Stopped.{IfRan, ending_of}
 use Rattle.driver.specs.Compiled.{IsModuleOf}
@@ -62,9 +62,6 @@ is_in_time deck bound status before after r = of_run deck bound status before af
 
 -- ---- the loader takes what was compiled, unless it lacks memory
 
-told : (im : Image) (fault : LoadFault) (result : Result Image LoadFault) → result ≡ Err fault → (result ≡ Ok im) ⊎ (result ≡ Err no_memory) → fault ≡ no_memory
-told im fault result e (inl h) = absurd (cc)
-told im fault result e (inr h) = cc
-
 pub only_memory : (deck given bytes : List ℕ) (fault : LoadFault) → given ≡ bytes → IsModuleOf deck bytes → IsAnswer given (Err fault) → fault ≡ no_memory
-only_memory deck given bytes fault same m answer = told m.image fault (Err fault) refl (accepted given m.image (Err fault) answer (ap reading.read_image same ∙ read deck bytes m) m.loads)
+only_memory deck given bytes fault same m (inl memory) = cc
+only_memory deck given bytes fault same m (inr h) = absurd (sound_is_taken versions.Two given m.image fault (ap reading.read_image same ∙ read deck bytes m) m.sound h)

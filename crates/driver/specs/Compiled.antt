@@ -1,10 +1,9 @@
 -- What compiling a deck gives.
-use Rattle.std.specs.Prelude.{◌≡◌, ◌≢◌, ◌⊎◌, ⊤, ℕ, List, []}
+use Rattle.std.specs.Prelude.{◌≡◌, ◌≢◌, ⊤, ℕ, List}
 use Rattle.model.specs.declared.cards.CardFault.{CardFault}
 use Rattle.model.specs.declared.cards.CardRule.TheVariants as rule
 use Rattle.model.specs.declared.causes.DeckFault.{DeckFault}
 use Rattle.model.specs.declared.causes.DeckFault.TheVariants as fault
-use Rattle.model.specs.declared.causes.StmtFault.{StmtFault}
 use Rattle.model.specs.declared.image.Image.{Image}
 use Rattle.model.specs.Laws.Agreement.{Agrees}
 use Rattle.model.specs.Deck.Cards.{first_cards}
@@ -14,21 +13,13 @@ use Rattle.model.specs.Laws.StepBound.{EndsInTime}
 use Rattle.model.specs.Deck.Trees.{Stmt}
 use Rattle.model.specs.Module.WellFormed.{IsWellFormed}
 use Rattle.codegen.specs.Layout.{generated_image}
-use Rattle.loader.specs.Loaded.{IsLoaded}
-use Rattle.fragment.specs.Fragment.{not_yet}
 use Rattle.driver.specs.declared.refusal.Refusal.{Refusal}
 use Rattle.driver.specs.declared.refusal.Refusal.TheVariants as refusal
 
 -- ---- decks that are accepted
 
--- the deck has no fault, these are its trees, and each of them runs today
-pub record IsAccepted (deck : List ℕ) (ss : List Stmt) : Type 0 where
-  pub faultless : verdict deck ≡ Accepted ss
-  pub runs : not_yet 1 ss ≡ []
-
 -- the bytes are the module of the deck: they spell its image, of level 2 and with the card where each statement begins.
--- It is well-formed, does what the deck's statements mean in as many steps as the step bound says, and has no instruction
--- that the machine doesn't run yet
+-- It is well-formed, and does what the deck's statements mean in as many steps as the step bound says
 pub record IsModuleOf (deck bytes : List ℕ) : Type 0 where
   pub statements : List Stmt
   pub trees : verdict deck ≡ Accepted statements
@@ -39,18 +30,13 @@ pub record IsModuleOf (deck bytes : List ℕ) : Type 0 where
   pub sound : IsWellFormed image
   pub agrees : Agrees statements image
   pub in_time : EndsInTime statements image
-  pub loads : IsLoaded image
 
 -- ---- decks that are refused
 
--- the deck has no fault, and these of its statements don't run today
-abbrev pub AreNotYet : List ℕ → List StmtFault → Type 0
-AreNotYet deck fs = (ss : List Stmt) × (verdict deck ≡ Accepted ss) × (fs ≡ not_yet 1 ss) × (fs ≢ [])
-
--- the card fault alone; else all faulty statements in order; else all that don't run today
+-- the card fault alone; else all faulty statements in order
 abbrev pub IsRefusalOf : List ℕ → Refusal → Type 0
 IsRefusalOf deck (refusal.Card f) = verdict deck ≡ CardRefused f
-IsRefusalOf deck (refusal.Statements fs) = (verdict deck ≡ Refused fs) ⊎ AreNotYet deck fs
+IsRefusalOf deck (refusal.Statements fs) = verdict deck ≡ Refused fs
 IsRefusalOf deck refusal.Memory = ⊤
 
 -- ---- how faults of the layers are told

@@ -1,4 +1,3 @@
-pub mod Running
 pub mod Places
 pub mod Decoding
 pub mod Parts

@@ -1,12 +1,8 @@
 -- Images that the machine runs.
-use Rattle.std.specs.Prelude.{◌≡◌, []}
 use Rattle.model.specs.declared.image.Image.{Image}
 use Rattle.model.specs.Module.Spelling.{IsImage}
 use Rattle.model.specs.Module.WellFormed.{IsWellFormed}
-use Rattle.loader.specs.Running.{AreRunYet}
 
 pub record IsLoaded (im : Image) : Type 0 where
   pub spelt : IsImage im
   pub formed : IsWellFormed im
-  pub run_yet : AreRunYet im.code
-  pub evaluated : im.expressions ≡ []

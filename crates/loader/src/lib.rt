@@ -7,9 +7,8 @@
 //!     let module = load(alloc, &bytes)?;
 //!     let first = module.entry();
 //!
-//! Promised: bytes are accepted exactly if they spell a well-formed image of instructions that run yet (`runs_yet`),
-//! want of memory aside; else the one defined fault is told. So a `Module` is well-formed by its type. CALLING.md has
-//! the clauses.
+//! Promised: bytes are accepted exactly if they spell a well-formed image, want of memory aside; else the one defined
+//! fault is told. So a `Module` is well-formed by its type. CALLING.md has the clauses.
 #![tactic(auto)]
 
 mod code;
@@ -24,7 +23,6 @@ mod patterns;
 mod places;
 mod tables;
 
-pub use code::{has_primitive, runs_yet};
 pub use decoding::Decoded;
 pub use loading::{load, load_v1};
 pub use module::Module;

@@ -3,18 +3,16 @@
 ghost use Rattle.std.specs.Prelude.{◌≡◌, ◌⊎◌, Err, Ok, IfOk};
 ghost use Rattle.model.specs.declared.format.Version.TheVariants as versions;
 ghost use Rattle.model.specs.declared.image.Image.{Image};
-ghost use Rattle.model.specs.Module.Loading.{Loads, LoadsIn};
+ghost use Rattle.model.specs.Module.Loading.{LoadsIn};
 ghost use Rattle.model.specs.Module.Reading.{image_in, read_image};
 ghost use Rattle.model.specs.Module.Spelling.{IsImage, IsImageIn};
 ghost use Rattle.model.specs.Module.WellFormed.{IsWellFormed};
-ghost use Rattle.loader.specs.Answers.{IsAnswer, IsChecked, IsJudged, IsKnown, IsOlderAnswer, no_memory};
+ghost use Rattle.loader.specs.Answers.{IsAnswer, IsAnswerIn, IsChecked, no_memory};
 ghost use Rattle.loader.specs.Loaded.{IsLoaded};
-ghost use Rattle.loader.specs.Running.{not_yet};
 
-use crate::code::{PlacedCode, not_yet};
+use crate::code::PlacedCode;
 use crate::joining::fault_of;
 use crate::module::Module;
-use crate::places::code_offset;
 use model::{FormatFault, FormatRule, Image, LoadFault, Version};
 use module_format::{read_image, read_image_v1};
 use std::alloc::{AllocError, Global};
@@ -22,14 +20,8 @@ use std::alloc::{AllocError, Global};
 // The module of an image, or why it is refused.
 fn judge(alloc: Global, image: Image) -> Result<Result<Module, LoadFault>, AllocError>
     requires { IsImage image }
-    ensures { IfOk result (λ answer. IsJudged image (not_yet image) answer) }
+    ensures { IfOk result (λ answer. IsChecked versions.Two image answer) }
 {
-    if let Some(at) = not_yet(&image) {
-        return Ok(Err(LoadFault::Format(FormatFault {
-            offset: code_offset(Version::Two, &image, at),
-            rule: FormatRule::UnknownInstruction,
-        })));
-    }
     let placed = PlacedCode::of(alloc, &image)?;
     match fault_of(alloc, Version::Two, &image, &placed)? {
         Some(fault) => Ok(Err(LoadFault::Module(fault))),
@@ -38,7 +30,7 @@ fn judge(alloc: Global, image: Image) -> Result<Result<Module, LoadFault>, Alloc
 }
 
 fn answer(alloc: Global, bytes: &[u8]) -> Result<Module, LoadFault>
-    ensures { IsAnswer bytes.now result }
+    ensures { IsAnswerIn versions.Two bytes.now result }
 {
     let image = match read_image(alloc, bytes) {
         Ok(image) => image,
@@ -53,13 +45,11 @@ fn answer(alloc: Global, bytes: &[u8]) -> Result<Module, LoadFault>
     }
 }
 
-/// The module that bytes spell, or why it is refused: the first format fault; else the first instruction that doesn't
-/// run yet, or else unevaluated expressions, which don't; else the least fault of the conditions. Where a growth was
-/// refused that is told in place of any other answer.
+/// The module that bytes spell, or why it is refused: the first format fault, or else the least fault of the
+/// conditions. Where a growth was refused that is told in place of any other answer.
 pub fn load(alloc: Global, bytes: &[u8]) -> Result<Module, LoadFault>
     ensures exact { IsAnswer bytes.now result }
     ensures loaded { IfOk result (λ m. (read_image bytes.now ≡ Ok m) × IsLoaded m) }
-    ensures defined { IsKnown bytes.now → (result ≡ Err no_memory) ⊎ Loads bytes.now result }
     ensures accepted { (m : Image) → read_image bytes.now ≡ Ok m → IsLoaded m
         → (result ≡ Ok m) ⊎ (result ≡ Err no_memory) }
 {
@@ -79,7 +69,7 @@ fn check(alloc: Global, image: Image) -> Result<Result<Image, LoadFault>, AllocE
 }
 
 fn older_answer(alloc: Global, bytes: &[u8]) -> Result<Image, LoadFault>
-    ensures { IsOlderAnswer bytes.now result }
+    ensures { IsAnswerIn versions.One bytes.now result }
 {
     let image = match read_image_v1(alloc, bytes) {
         Ok(image) => image,
@@ -95,8 +85,8 @@ fn older_answer(alloc: Global, bytes: &[u8]) -> Result<Image, LoadFault>
 }
 
 /// The image of level 1 that bytes of version 1 spell, or why they are refused: the first format fault, or else the
-/// least fault of the conditions, at its offset there. An instruction that doesn't run yet is none. Where a growth was
-/// refused that is told in place of any other answer.
+/// least fault of the conditions, at its offset there. Where a growth was refused that is told in place of any other
+/// answer.
 pub fn load_v1(alloc: Global, bytes: &[u8]) -> Result<Image, LoadFault>
     ensures exact { (result ≡ Err no_memory) ⊎ LoadsIn versions.One bytes.now result }
     ensures loaded { IfOk result (λ m.

@@ -21,9 +21,6 @@ pub enum Cause {
     /// Too many marks of unary operators in a row.
     #[error("L5")]
     TooManyMarks,
-    /// A statement that can't be run yet.
-    #[error("P0")]
-    NotYet,
     /// No tree has these tokens.
     #[error("P1")]
     NoTree,

@@ -11,24 +11,24 @@ use Rattle.driver.proofs.running.run_with_card.Goals as goal
 pub returns-clause-served : goal.returns-clause-served
 returns-clause-served g c = λ m e.
     let same : c.in_ok-program.program ≡ m = ok_is c.in_ok-program.program m (sym c.in_ok-program.ensures.loaded.0 ∙ e) in
-    let status = c.run_from_entry.result in
-    subst (λ (im : Image). Served g.U.Units (stop_of_run status) c.args.units.now c.run_from_entry.new.units (λ io io'. IfRan status (IsRun im c.args.bound (ending_of status) io io'))) same c.run_from_entry.ensures.served
+    let status = c.run_from_entry-status.result in
+    subst (λ (im : Image). Served g.U.Units (stop_of_run status) c.args.units.now c.run_from_entry-status.new.units (λ io io'. IfRan status (IsRun im c.args.bound (ending_of status) io io'))) same c.run_from_entry-status.ensures.served
 
 pub returns-clause-meant : goal.returns-clause-meant
 returns-clause-meant g c deck m =
     let before = g.U.Units.told c.args.units.now in
-    let after = g.U.Units.told c.run_from_entry.new.units in
+    let after = g.U.Units.told c.run_from_entry-status.new.units in
     let bytes = c.args.bytes.now in
-    is_meant deck c.args.bound c.run_from_entry.result before after (is_run deck bytes bytes c.args.bound c.run_from_entry.result before after refl m (λ im e. (returns-clause-served g c im e).told))
+    is_meant deck c.args.bound c.run_from_entry-status.result before after (is_run deck bytes bytes c.args.bound c.run_from_entry-status.result before after refl m (λ im e. (returns-clause-served g c im e).told))
 
 pub returns-clause-in_time : goal.returns-clause-in_time
 returns-clause-in_time g c deck m =
     let before = g.U.Units.told c.args.units.now in
-    let after = g.U.Units.told c.run_from_entry.new.units in
+    let after = g.U.Units.told c.run_from_entry-status.new.units in
     let bytes = c.args.bytes.now in
-    is_in_time deck c.args.bound c.run_from_entry.result before after (is_run deck bytes bytes c.args.bound c.run_from_entry.result before after refl m (λ im e. (returns-clause-served g c im e).told))
+    is_in_time deck c.args.bound c.run_from_entry-status.result before after (is_run deck bytes bytes c.args.bound c.run_from_entry-status.result before after refl m (λ im e. (returns-clause-served g c im e).told))
 
 pub returns-clause-card : goal.returns-clause-card
 returns-clause-card g c = λ m e.
     let same : c.in_ok-program.program ≡ m = ok_is c.in_ok-program.program m (sym c.in_ok-program.ensures.loaded.0 ∙ e) in
-    c.card_told.ensures ∙ ap (λ (im : Image). card_told im c.run_from_entry.result) same
+    c.card_told-card.ensures ∙ ap (λ (im : Image). card_told im c.run_from_entry-status.result) same
