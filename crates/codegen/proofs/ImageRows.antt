@@ -1,12 +1,10 @@
 -- Worked cases: the images of some programs.
-use Rattle.std.proofs.Common.{◌≡◌, ℕ, zero, suc, List, [], ◌∷◌, Option, Some, None, codes, refl}
-use Rattle.model.specs.declared.image.Image.{Image}
+use Rattle.std.proofs.Common.{◌≡◌, [], ◌∷◌, Some, None, codes, refl}
 use Rattle.model.specs.declared.image.Level.TheVariants as levels
 use Rattle.model.specs.declared.instr.Instr.TheVariants as op
 use Rattle.model.specs.declared.trees.Unary.TheVariants as u
 use Rattle.model.specs.declared.trees.Binary.TheVariants as b
-use Rattle.model.specs.Deck.Trees.{Bytes, Expr, Name, Literal, Apply, Combine, Label, Goto, Next, OnSuccess, OnFailure, Body, Assign, Replace, Stmt, Plain, End}
-use Rattle.model.specs.Language.Names.{named, key_named, prim_named}
+use Rattle.model.specs.Deck.Trees.{Expr, Name, Literal, Apply, Combine, Label, Goto, Next, OnSuccess, OnFailure, Body, Assign, Replace, Plain, End}
 use Rattle.expr_codegen.specs.Code.{nothing, one, with_string, unevaluated, ◌>>◌, handled}
 use Rattle.codegen.specs.Layout.{generated_image}
 

@@ -1,28 +1,26 @@
 -- The image of a program, from what was put.
-use Rattle.std.proofs.Common.{◌≡◌, ℕ, zero, suc, ◌+◌, ◌*◌, ◌<◌, ◌≤◌, List, [], ◌∷◌, ◌++◌, length, map, refl, sym, ap, ◌∙◌, subst, append_assoc, append-nil, arith, drop, get_or, Option, Some, None}
+use Rattle.std.proofs.Common.{◌≡◌, ℕ, suc, ◌+◌, ◌<◌, ◌≤◌, List, [], ◌∷◌, ◌++◌, length, map, refl, sym, ap, ◌∙◌, subst, append_assoc, append-nil, arith, drop, get_or, Option, Some, None}
 use Rattle.std.specs.List.{AllByRecursion}
 use Rattle.model.specs.declared.image.Level.TheVariants as levels
-use Rattle.model.specs.declared.image.Image.{Image}
 use Rattle.model.specs.declared.image.Label as image
 use Rattle.model.specs.declared.trees.Stmt.{Stmt as Statement}
 use Rattle.model.specs.Module.Images.{code_size}
 use Rattle.model.specs.Language.Programs.{labelled_from, entry_label, entry_in}
-use Rattle.model.specs.Deck.Trees.{Bytes, Expr, Stmt, Plain, End}
+use Rattle.model.specs.Deck.Trees.{Bytes, Stmt, Plain, End}
 use Rattle.model.specs.Deck.TreeViews.{stmt_of}
 use Rattle.model.specs.Deck.Weights as weights
-use Rattle.expr_codegen.specs.Texts.{number_of_text, with_text, with_texts}
-use Rattle.expr_codegen.specs.Code.{Part}
+use Rattle.expr_codegen.specs.Texts.{number_of_text, with_texts}
 use Rattle.expr_codegen.specs.Emitting.{Gen, Emits, Longer, Countable, Extends, Numbered, size}
 use Rattle.expr_codegen.proofs.Extensions.{extends_same, extends_trans}
 use Rattle.expr_codegen.proofs.Joins.{both, longer_trans, longer_texts}
 use Rattle.expr_codegen.proofs.TextPlaces.{place_stays}
-use Rattle.codegen.specs.Countable.{CountableStmt, Fits}
+use Rattle.codegen.specs.Countable.{Fits}
 use Rattle.codegen.specs.Labels.{own_label, entry_by}
 use Rattle.codegen.specs.Laying.{Laid, left, retaken}
 use Rattle.codegen.specs.Layout as layout
 use Rattle.codegen.specs.Layout.{joined_parts, program_parts, expressions_of, code_of, texts_of, generated_image, label_texts}
 use Rattle.codegen.proofs.Laying.{still_put, next}
-use Rattle.codegen.proofs.Unevaluated.{Later, statements_later}
+use Rattle.codegen.proofs.Unevaluated.{statements_later}
 
 abbrev pub empty : Gen
 empty = record { code = []; texts = []; waiting = []; taken = 0 }

@@ -1,8 +1,7 @@
 -- An image is within the limits of the format.
-use Rattle.std.proofs.Common.{◌≡◌, ℕ, zero, suc, ◌+◌, ◌-◌, ◌*◌, ◌^◌, ◌<◌, ◌≤◌, ◌==◌, List, [], ◌∷◌, ◌++◌, length, refl, ap, ◌∙◌, arith, true, false, not, Bool, ◌&&◌, ◌||◌, Some, None, if◌then◌else◌, slice_get, bytes_eq, length-append}
+use Rattle.std.proofs.Common.{◌≡◌, ℕ, zero, suc, ◌+◌, ◌*◌, ◌^◌, ◌<◌, ◌≤◌, ◌==◌, List, [], ◌∷◌, ◌++◌, length, refl, ap, ◌∙◌, arith, true, false, not, ◌||◌, Some, None, if◌then◌else◌, slice_get, bytes_eq}
 use Rattle.std.specs.Prelude.{nat_lt, option_map}
 use Rattle.std.specs.Cmp.Lexicographic.{pointwise}
-use Rattle.std.specs.Int.{w64, cast_unsigned}
 use Rattle.std.specs.List.{AllByRecursion, list_any}
 use Rattle.std.proofs.lemmas.Bool.Decides.{nat_tests}
 use Rattle.std.proofs.lemmas.Bool.{and_parts}
@@ -17,7 +16,7 @@ use Rattle.model.specs.Module.Flow.{Shape, bare}
 use Rattle.model.specs.Module.Images.{instr_size, code_size}
 use Rattle.model.specs.Language.Names.{most_args}
 use Rattle.model.specs.Language.Programs.{labelled_from, entry_in, entry_label}
-use Rattle.model.specs.Module.Spelling.{u16, u32, u64, instr, code_bytes, InstrFits, most, most_code, Follow, is_new, newest, rises, statement_of, StringFits, LabelFits, StatementFits, AreCards, IsOf, OffsetFits, IsImage}
+use Rattle.model.specs.Module.Spelling.{code_bytes, InstrFits, most, most_code, Follow, is_new, newest, rises, statement_of, StringFits, LabelFits, StatementFits, AreCards, IsOf, OffsetFits, IsImage}
 use Rattle.model.specs.Deck.Trees.{Bytes, Expr, Stmt, Plain, End}
 use Rattle.model.specs.Module.WellFormed.{is_nonnull, is_statement, is_nonnull_string}
 use Rattle.model.specs.Deck.Weights as weights

@@ -1,5 +1,5 @@
 -- The card of a statement whose number is greater than any that a module has.
-use Rattle.std.proofs.Common.{◌≡◌, ◌≤◌, ◌^◌, ℕ, zero, suc, List, length, arith, get_or}
+use Rattle.std.proofs.Common.{◌≡◌, ◌≤◌, ◌^◌, ℕ, zero, suc, arith}
 use Rattle.std.proofs.lemmas.List.{get_or_past}
 use Rattle.model.specs.declared.image.Image.{Image}
 use Rattle.model.specs.Module.Images.{card_of}

@@ -1,16 +1,13 @@
 -- What is written of an image of version 1 is its upgrade.
-use Rattle.std.proofs.Common.{◌≡◌, ◌⊎◌, ◌∙◌, refl, sym, ap, List, ℕ, Result, Ok, Err, inl, inr}
-use Rattle.model.specs.declared.format.LoadFault.{LoadFault}
+use Rattle.std.proofs.Common.{◌≡◌, ◌∙◌, sym, ap, List, ℕ, Ok}
 use Rattle.model.specs.declared.format.Version.TheVariants as versions
 use Rattle.model.specs.declared.image.Image.{Image}
 use Rattle.model.specs.Laws.Agreement.{machine_at}
-use Rattle.model.specs.Module.Loading.{LoadsIn}
 use Rattle.model.specs.Module.Reading.{image_in, read_image}
 use Rattle.model.specs.Module.Spelling.{IsImageIn, spelling}
 use Rattle.model.specs.Module.WellFormed.{IsWellFormed}
 use Rattle.model.proofs.Module.SpeltImages.{spelt_is_read}
 use Rattle.model.proofs.Module.SpeltNumbers.{ok_is}
-use Rattle.loader.specs.Answers.{no_memory}
 use Rattle.driver.specs.Upgraded.{IsUpgradeOf}
 
 pub is_upgrade : (older newer : List ℕ) (m : Image) → image_in versions.One older ≡ Ok m → IsImageIn versions.One m → IsWellFormed m → newer ≡ spelling m → IsUpgradeOf older newer

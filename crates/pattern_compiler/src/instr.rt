@@ -108,7 +108,11 @@ impl Drop for Name {
     fn drop(self) {
         match self {
             Name::Variable(_) | Name::StringKey { object: _, key: _ } => {}
-            Name::Element { object: _, index: _ } | Name::IntegerKey { object: _, key: _ } => {}
+            Name::Element {
+                object: _,
+                index: _,
+            }
+            | Name::IntegerKey { object: _, key: _ } => {}
         }
     }
 }

@@ -2,3 +2,4 @@ compile . a.module
 check .
 show .
 run .
+upgrade . a.module

@@ -3,3 +3,5 @@ compile deck.sno
 check
 show
 run
+upgrade
+upgrade hello.module

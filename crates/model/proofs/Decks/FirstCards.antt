@@ -1,13 +1,13 @@
 -- The cards where statements begin never fall.
-use Rattle.std.proofs.Common.{Bool, ◌≡◌, refl, sym, ap, subst, ℕ, suc, ◌+◌, ◌-◌, ◌≤◌, ◌<◌, ◌^◌, ◌==◌, ◌||◌, inl, inr, true, false, not, List, [], ◌∷◌, ◌++◌, length, length-append, ◌∙◌, arith, slice_get}
-use Rattle.std.specs.Prelude.{Option, Some, None, map, nat_lt, if◌then◌else◌}
+use Rattle.std.proofs.Common.{◌≡◌, refl, sym, ap, subst, ℕ, suc, ◌+◌, ◌-◌, ◌≤◌, ◌<◌, ◌^◌, ◌==◌, ◌||◌, inl, inr, false, not, List, [], ◌∷◌, ◌++◌, length, length-append, ◌∙◌, arith, slice_get}
+use Rattle.std.specs.Prelude.{Option, Some, None, map, nat_lt}
 use Rattle.std.specs.List.{AllByRecursion}
 use Rattle.std.proofs.lemmas.Bool.{cases_Bool}
 use Rattle.std.proofs.lemmas.Bool.Decides.{nat_tests}
 use Rattle.std.proofs.lemmas.List.{length-map}
 use Rattle.model.specs.declared.cards.Statement.{Statement}
 use Rattle.model.specs.declared.image.Level.TheVariants as levels
-use Rattle.model.specs.Deck.Cards.{Card, to_first, lines, numbered_from, cards, is_blank_text, CardKind, Comment, Control, UnknownControl, Continuation, Start, kind_of, Column, placed, column_bytes, before_continued, continued, before_texts, texts, into_first, split, pieces_of_texts, pieces_of, is_end, beginnings, first_ended, ended, before_kept, kept, first_card, statements_from, cards_of}
+use Rattle.model.specs.Deck.Cards.{Card, to_first, lines, numbered_from, cards, is_blank_text, CardKind, Comment, Control, UnknownControl, Continuation, Start, kind_of, Column, placed, column_bytes, before_continued, continued, before_texts, texts, into_first, split, pieces_of_texts, pieces_of, is_end, beginnings, first_ended, ended, kept, first_card, statements_from, cards_of}
 use Rattle.model.specs.Laws.Decks.{FirstCardsFit}
 use Rattle.model.specs.Module.Spelling.{CardFits, Follow, falls, newest}
 use Rattle.model.proofs.Decks.Sizes.{trees_less, decks_fit, end_some, kept_some}
@@ -200,8 +200,7 @@ first_cards_follow : (n k m : ℕ) (ps : List (List Column)) (front : List ℕ) 
 first_cards_follow n k m [] front small above h = tt
 first_cards_follow n k m (p ∷ ps) front small above (a, h) =
     let x : ℕ = first_card p in
-    let le = firsts_le x m ps h in
-    (
+    let le = firsts_le x m ps h in (
       (omega (arith, le, small), ap not (above x a)),
       first_cards_follow (n + 1) x m ps (front ++ x ∷ []) small (λ y l. ap (λ (o : Option ℕ). falls o y) (newest_snoc front x) ∙ (let b : nat_lt y x ≡ false = grind (arith, nat_tests, l) in b)) h,
     )

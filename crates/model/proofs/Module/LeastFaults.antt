@@ -12,7 +12,6 @@ use Rattle.model.specs.declared.image.Image.{Image}
 use Rattle.model.specs.declared.image.PatInstr.{PatInstr}
 use Rattle.model.specs.declared.image.PatInstr.TheVariants as pats
 use Rattle.model.specs.declared.instr.Instr.{Instr}
-use Rattle.model.specs.declared.instr.Instr.TheVariants as op
 use Rattle.model.specs.Module.Images.{instr_size, code_size}
 use Rattle.model.specs.Module.Flow.{BreaksFlow, IsLeast}
 use Rattle.model.specs.Module.WellFormed.{or_else, unless, fault_if, fault_among, entry_offset, labels_offset, statements_offset, expressions_offset, patterns_offset, code_offset, entry_rule, label_rule, statement_rule, expression_rule, pat_rule, pat_bytes, pattern_bytes, pattern_fault, instr_fault, part_fault, indices_fit, place_fits, is_last_instr, is_end_instr, begins_last, number_of, comes_first, lesser_fault, flow_fault}
@@ -368,8 +367,8 @@ fine_in_each v w im e =
     (none_both _ _ (rule_elsewhere (expression_rule im) 4 (expressions_offset v im) (expressions_offset w im) im.expressions d.0)
     (none_both _ _
     (scan_elsewhere (pattern_fault im) pattern_bytes
-        (λ front at place is. scan_elsewhere (λ before place i. fault_if place (pat_rule im (length is) before i)) pat_bytes (λ before at place i. told_elsewhere at place (pat_rule im (length is) before i)) [] (at + 4) (place + 4) is)
-        [] (patterns_offset v im) (patterns_offset w im) im.patterns f.0)
+    (λ front at place is. scan_elsewhere (λ before place i. fault_if place (pat_rule im (length is) before i)) pat_bytes (λ before at place i. told_elsewhere at place (pat_rule im (length is) before i)) [] (at + 4) (place + 4) is)
+    [] (patterns_offset v im) (patterns_offset w im) im.patterns f.0)
     (scan_elsewhere (instr_fault im) instr_size (λ front at place i. told_elsewhere at place _) [] (code_offset v im) (code_offset w im) im.code f.1)))))
 
 pub well_formed_has_none : WellFormedHasNone

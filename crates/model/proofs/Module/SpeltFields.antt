@@ -17,7 +17,7 @@ use Rattle.model.specs.declared.image.Level.{Level}
 use Rattle.model.specs.declared.image.Level.TheVariants as levels
 use Rattle.model.specs.declared.instr.Instr.{Instr}
 use Rattle.model.specs.Module.Spelling.{u16, u32, level_number, since_two, Follow, CardFits, AreCards, is_card, is_of, IsOf, HasLevel, most_code, string, label, pattern, instr, pat_instr, pat_operand, code_bytes, is_new, newest, rises, statement_of, InstrFits, StringFits, LabelFits, StatementFits, OffsetFits, PatInstrFits, PatternFits}
-use Rattle.model.specs.Module.Reading.{◌>>=◌, number, number_at, level_of, level_at, card_at, cards_at, known_of, entries_from, bytes_at, checked, required, byte, either, instr_of, pat_readers, operand_at, count_at, text_at, string_at, label_at, labelled, statement_at, offset_at, pat_instr_at, pattern_at, code_from, code_at}
+use Rattle.model.specs.Module.Reading.{◌>>=◌, number_at, level_of, level_at, card_at, cards_at, known_of, entries_from, bytes_at, checked, required, byte, either, instr_of, pat_readers, operand_at, count_at, text_at, string_at, label_at, labelled, statement_at, offset_at, pat_instr_at, pattern_at, code_from, code_at}
 use Rattle.model.specs.Laws.OneSpelling.{IsBytes}
 use Rattle.model.proofs.Module.SpeltNumbers.{some_bind, ok_bind, ok_is, wide16, number_takes, number_again, checked_ok, required_ok, guard_ok, Takes, Takes-then, IsBytes-drop, IsBytes-take, u32_takes, u32_again, byte_takes}
 use Rattle.model.proofs.Module.SpeltInstrs.{instr_takes, instr_again, operand_takes, operand_again}

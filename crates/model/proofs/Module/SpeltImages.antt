@@ -11,7 +11,6 @@ use Rattle.model.specs.declared.format.FormatRule.TheVariants.{BadMagic, BadVers
 use Rattle.model.specs.declared.format.Version.{Version}
 use Rattle.model.specs.declared.format.Version.TheVariants as versions
 use Rattle.model.specs.declared.image.Image.{Image}
-use Rattle.model.specs.declared.image.Level.{Level}
 use Rattle.model.specs.Module.Spelling.{u16, u32, magic, version_number, level_number, since_two, counted, string, label, pattern, code_bytes, spelling_in, IsImage, IsImageIn, HasLevel, IsTable, StringFits, LabelFits, StatementFits, Follow, CardFits, OffsetFits, PatternFits, InstrFits, IsOf, most_code}
 use Rattle.model.specs.Module.Reading.{◌>>=◌, number_at, checked, fixed_at, level_at, table_at, string_at, label_at, statement_at, cards_at, offset_at, pattern_at, code_at, image_at, image_in}
 use Rattle.model.specs.Laws.OneSpelling.{IsBytes, ReadIsSpelt, SpeltIsRead}
@@ -53,11 +52,11 @@ image_takes v bytes x fits e =
     field (table_at label_at s.1) _ x (λ y. Takes s.1 (counted label y.0) y.1 × IsTable LabelFits y.0) (IsRead v bytes x) e5 (λ y h. table_takes label_at label LabelFits label_entry s.1 y ts.0.rest_fits h) (λ l tl e6.
     field (table_at statement_at l.1) _ x (λ y. Takes l.1 (counted u32 y.0) y.1 × IsTable StatementFits y.0) (IsRead v bytes x) e6 (λ y h. table_takes statement_at u32 StatementFits statement_entry l.1 y tl.0.rest_fits h) (λ st tst e7.
     field (cards_at v le.0 (length st.0) st.1) _ x (λ y. Takes st.1 (since_two v (flat_map u32 y.0)) y.1 × (length y.0 ≡ length st.0) × Follow (CardFits le.0) [] y.0) (IsRead v bytes x) e7
-        (λ y h. cards_take v le.0 (length st.0) st.1 y tle.1 tst.0.rest_fits h) (λ ca tca e8.
+    (λ y h. cards_take v le.0 (length st.0) st.1 y tle.1 tst.0.rest_fits h) (λ ca tca e8.
     field (table_at offset_at ca.1) _ x (λ y. Takes ca.1 (counted u32 y.0) y.1 × IsTable OffsetFits y.0) (IsRead v bytes x) e8 (λ y h. table_takes offset_at u32 OffsetFits offset_entry ca.1 y tca.0.rest_fits h) (λ ex tex e9.
     field (table_at pattern_at ex.1) _ x (λ y. Takes ex.1 (counted pattern y.0) y.1 × IsTable PatternFits y.0) (IsRead v bytes x) e9 (λ y h. table_takes pattern_at pattern PatternFits pattern_entry ex.1 y tex.0.rest_fits h) (λ p tp e10.
     field (code_at le.0 p.1) _ x (λ y. Takes p.1 (string (code_bytes y.0)) y.1 × AllByRecursion InstrFits y.0 × AllByRecursion (IsOf le.0) y.0 × (length (code_bytes y.0) ≤ most_code)) (IsRead v bytes x) e10
-        (λ y h. code_at_takes le.0 p.1 y tp.0.rest_fits h) (λ c tc e11.
+    (λ y h. code_at_takes le.0 p.1 y tp.0.rest_fits h) (λ c tc e11.
     let m : Image = record { level = le.0; entry = n.0; strings = s.0; labels = l.0; statements = st.0; cards = ca.0; expressions = ex.0; patterns = p.0; code = c.0 } in
     let image : IsImage m = record { entry = tn.1; strings = ts.1; labels = tl.1; statements = tst.1; cards = record { count = tca.1; entries = tca.2 }; expressions = tex.1; patterns = tp.1; code = tc.1; code_length = tc.3; level = tc.2 } in
     let fine : IsImageIn v m = record { image = image; level = tle.1 } in

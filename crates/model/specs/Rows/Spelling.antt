@@ -75,6 +75,7 @@ two_cards levels.Two = 1 ∷ 1 ∷ []
 
 abbrev pub fenced : Level → Image
 fenced l = record hello { level = l; cards = two_cards l; code = instrs.Begin 17 ∷ instrs.Var 0 ∷ instrs.PrimV prims.Fence 0 ∷ instrs.Assign ∷ instrs.Body ∷ instrs.NoLabel ∷ instrs.NoLabel ∷ instrs.End ∷ [] }
+
 pub record SpellingRows : Type 0 where
   pub long : length hello_bytes ≡ 86
   pub spelt : spelling hello ≡ hello_bytes

@@ -1,4 +1,4 @@
-use Rattle.std.proofs.Common.{◌≡◌, ◌∙◌, ◌≤◌, ◌<◌, sym, ap, subst, arith, length, map}
+use Rattle.std.proofs.Common.{◌∙◌, ◌≤◌, sym, ap, subst, arith, length, map}
 use Rattle.std.proofs.lemmas.List.{length-map}
 use Rattle.model.specs.declared.image.Level.TheVariants as levels
 use Rattle.model.specs.Deck.TreeViews.{stmt_of}

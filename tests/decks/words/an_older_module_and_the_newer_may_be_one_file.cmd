@@ -1,0 +1,2 @@
+upgrade a_deck_of_failures.module a_deck_of_failures.module
+check a_deck_of_failures.module

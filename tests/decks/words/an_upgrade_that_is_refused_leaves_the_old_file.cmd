@@ -1,0 +1,3 @@
+upgrade hello.module a_deck_of_failures.module
+upgrade a_deck_of_failures.module a.module
+check a.module

@@ -1,0 +1,1 @@
+upgrade hello.module not_there/a.module

@@ -1,0 +1,3 @@
+upgrade a_deck_that_ends_by_an_error.module a.module
+check a.module
+run a.module
