@@ -7,9 +7,8 @@ import re
 import shlex
 
 from . import generate, worked
-from .command import seen_of, told_of
+from .command import seen_of
 from .replay import Replay
-from .today import not_yet
 from .units import Units
 
 DECKS = pathlib.Path(__file__).resolve().parents[1] / "decks"
@@ -39,11 +38,8 @@ def units_of(deck):
 
 
 def is_left_out(deck):
-    """Whether nothing is compared of a case: of its words, or as the program can't run it yet."""
-    if any(LEFT_OUT.fullmatch(word) for word in words_of(deck)):
-        return True
-    told = bytes_of(deck, ".told") or b""
-    return told.endswith(b" P0\n") and bool(not_yet(told_of(deck.read_bytes())[0] or []))
+    """Whether nothing is compared of a case, for its words."""
+    return any(LEFT_OUT.fullmatch(word) for word in words_of(deck))
 
 
 def differences(deck):

@@ -28,7 +28,7 @@ def grown(change, match, times=500, first="ARB"):
 
 
 def of_growing():
-    """Families of patterns that are built in a loop, that run today."""
+    """Families of patterns that are built in a loop."""
     short, long = ("'" + "A" * length + "'" for length in (16, 60))
     return {
         "alternatives_around_arb": grown("P | 'Z'", f"{short} P 'B'", 2000),
@@ -47,7 +47,7 @@ def of_growing():
 
 
 def of_patterns():
-    """Families of patterns that run today."""
+    """Families of patterns."""
     subject = "'" + "A" * 16 + "'"
     parts = {
         "arbno_of_null": "'A' ARBNO('') 'A'",
@@ -69,7 +69,7 @@ def of_patterns():
 
 
 def of_statements():
-    """Families of statements that run today."""
+    """Families of statements."""
     parts = {
         "negation": ["Y = ~~~~X"],
         "negation_of_failure": ["Y = ~EQ(1,2)", "Y = ~~~EQ(1,2)"],
