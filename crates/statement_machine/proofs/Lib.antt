@@ -6,6 +6,7 @@ pub mod Flowing
 pub mod Going
 pub mod Keys
 pub mod Operations
+pub mod Parts
 pub mod Matching
 pub mod Running
 pub mod Seeing

@@ -19,6 +19,7 @@ mod instructions;
 mod machine;
 mod matches;
 mod operators;
+mod patterns;
 mod run;
 mod state;
 mod status;

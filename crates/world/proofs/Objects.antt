@@ -1,25 +1,24 @@
 -- Objects whose values are seen as others.
-use Rattle.std.proofs.Common.{◌≡◌, ℕ, zero, suc, List, [], ◌∷◌, ◌++◌, length, map, Option, Some, None, Bool, true, false, codes, refl, sym, ap, ◌∙◌}
+use Rattle.std.proofs.Common.{◌≡◌, ℕ, zero, suc, List, [], ◌∷◌, map, Option, Some, None, Bool, true, false, codes, refl, sym, ap, ◌∙◌}
 use Rattle.std.specs.Prelude.{slice_get, option_map, option_copied, unwrap_or, if◌then◌else◌}
 use Rattle.std.specs.Borrow.{Bor}
 use Rattle.std.proofs.lemmas.Option.{slice_get-map}
-use Rattle.std.proofs.lemmas.List.{length-map, map-append}
 use Rattle.model.specs.declared.run.ErrorCode.TheVariants as error
 use Rattle.model.specs.Deck.Trees.{Bytes}
 use Rattle.model.specs.Language.Io.{Io}
 use Rattle.model.specs.Language.Keywords.{Keys}
 use Rattle.model.specs.Deck.Target.{Element}
-use Rattle.model.specs.Language.Values.{Str, Obj, Key, Entry, Object, ArrayOf, TableOf, RecordOf, set_objects}
-use Rattle.model.specs.Language.Conversions.{Op, Gives, Faults}
+use Rattle.model.specs.Language.Values.{Str, Obj, Key, Entry, Object, ArrayOf, TableOf, RecordOf}
+use Rattle.model.specs.Language.Conversions.{Gives, Faults}
 use Rattle.model.specs.Language.Operators.{same_key, element_of, value_for, entry_of, onto, with_item, with_entry, with_elements, there, fetch_op, put_objects, put_object}
 use Rattle.aggregates.specs.Keys.{key_of, value_at}
 use Rattle.aggregates.specs.Objects.{if_stored, value_in, stored_at, put_at, record_type}
-use Rattle.aggregates.specs.Made.{kind_of, copied, number, with_object}
+use Rattle.aggregates.specs.Made.{kind_of}
 use Rattle.aggregates.specs.declared.object.Kind.{Kind}
 use Rattle.aggregates.specs.declared.object.Kind.TheVariants as kind
 use Rattle.aggregates.specs.declared.place.Place.{Place}
 use Rattle.aggregates.specs.declared.place.Place.TheVariants as place
-use Rattle.model.specs.Language.Aggregates.{new_object, copy_of, copy_op, object_type, type_of}
+use Rattle.model.specs.Language.Aggregates.{object_type, type_of}
 use Rattle.model.specs.Machine.Steps.{MVal, MW}
 use Rattle.world.specs.Values.{value_of}
 use Rattle.world.specs.Functions.{Functions}

@@ -14,7 +14,6 @@ use Rattle.model.specs.Language.Values.{Str, set_var, keys_of}
 use Rattle.model.specs.Language.Conversions.{Op, Gives, Refuses, Faults, to_text}
 use Rattle.model.specs.Language.Operators.{as_read, take_record, fetch_var, fetch_op, assign_op, write_var, print_text}
 use Rattle.model.specs.Machine.Steps.{MVal, MW}
-use Rattle.model.specs.Pattern.Patterns as p
 use Rattle.model.specs.Deck.Target as target
 use Rattle.pattern_compiler.specs.View.{name_of}
 use Rattle.pattern_compiler.specs.declared.instr.Name.{Name}
