@@ -5,10 +5,11 @@ use Rattle.model.specs.declared.primitives.PrimId.TheVariants as p
 use Rattle.model.specs.Machine.Steps.{MVal, MW, codes_of}
 use Rattle.model.specs.Language.Primitives.{prim_op}
 use Rattle.model.specs.Language.Calls.{arg_at}
-use Rattle.primitives.specs.Answers.{is_there}
+use Rattle.primitives.specs.Answers.{is_by_number}
+use Rattle.primitives.specs.Calling.{IsOther}
 
--- a primitive that is there takes its arguments by their numbers, and three at most
-pub first_three : (id : PrimId) (vs : List MVal) (w : MW) → IsTrue (is_there id) → prim_op codes_of id (arg_at vs 0 ∷ arg_at vs 1 ∷ arg_at vs 2 ∷ []) w ≡ prim_op codes_of id vs w
+-- these primitives take three arguments at most
+pub first_three : (id : PrimId) (vs : List MVal) (w : MW) → IsTrue (is_by_number id) → prim_op codes_of id (arg_at vs 0 ∷ arg_at vs 1 ∷ arg_at vs 2 ∷ []) w ≡ prim_op codes_of id vs w
 first_three p.Len vs w h = refl
 first_three p.Pos vs w h = refl
 first_three p.RPos vs w h = refl
@@ -41,9 +42,14 @@ first_three p.Table vs w h = refl
 first_three p.Item vs w h = absurd (true≢false (sym h))
 first_three p.Copy vs w h = refl
 first_three p.Convert vs w h = refl
-first_three p.Data vs w h = absurd (true≢false (sym h))
-first_three p.Define vs w h = absurd (true≢false (sym h))
+first_three p.Data vs w h = refl
+first_three p.Define vs w h = refl
 first_three p.Apply vs w h = absurd (true≢false (sym h))
 first_three p.Input vs w h = refl
 first_three p.Output vs w h = refl
 first_three p.Detach vs w h = refl
+
+pub by_number : (id : PrimId) → IsOther id → (id ≡ p.Item → ⊥) → IsTrue (is_by_number id)
+by_number p.Item other isn = absurd (isn refl)
+by_number p.Apply other isn = absurd other
+by_number _ other isn = refl

@@ -1,5 +1,6 @@
 -- What APPLY calls.
-use Rattle.std.proofs.Common.{◌≡◌, ℕ, ◌<◌, ◌≤◌, List, ◌∷◌, length, Bool, true, false, nat_lt, Option, Some, None, Err, refl, sym, ap, ◌∙◌, arith}
+use Rattle.std.proofs.Common.{◌≡◌, ℕ, ◌<◌, ◌≤◌, List, ◌∷◌, length, Bool, true, false, nat_lt, map, Option, Some, None, Ok, Err, sym, ap, subst, ◌∙◌, arith}
+use Rattle.std.specs.Borrow.{Bor}
 use Rattle.std.specs.Prelude.{if◌then◌else◌}
 use Rattle.std.proofs.lemmas.Bool.Decides.{nat_tests}
 use Rattle.model.specs.declared.primitives.PrimId.{PrimId}
@@ -13,7 +14,12 @@ use Rattle.model.specs.Language.Primitives.{Outcome, Calls, applied, prim_op}
 use Rattle.world.specs.Answers.{Converts}
 use Rattle.world.specs.declared.fault.Fault.{Fault}
 use Rattle.world.specs.declared.fault.Fault.TheVariants as fault
-use Rattle.primitives.specs.Calling.{IsApplied}
+use Rattle.world.specs.Values.{value_of}
+use Rattle.world.specs.declared.value.Value.{Value}
+use Rattle.primitives.specs.Answers.{ComesTo}
+use Rattle.primitives.specs.Calling.{IsApplied, IsOtherApplied, IsReached}
+use Rattle.primitives.specs.declared.applying.Applied.{Applied}
+use Rattle.primitives.specs.declared.applying.Applied.TheVariants as applied_to
 
 module _ (v : MVal) (vs : List MVal) (f : Bytes) (w : MW) (is : to_variable v ≡ Got f) where
   by_name : prim_op codes_of p.Apply (v ∷ vs) w ≡ applied f vs w (λ q. prim_op codes_of q vs w) (prim_named f)
@@ -39,3 +45,25 @@ module _ (v : MVal) (vs : List MVal) (f : Bytes) (w : MW) (is : to_variable v �
 pub not_applied : (v : MVal) (vs : List MVal) (w : MW) (e : Fault) → Converts {A = Bytes} (Err e) (to_variable v) → IsApplied (Err e) (v ∷ vs) w
 not_applied v vs w (fault.Error e) h = ap (λ (c : Conv Bytes). conv c w (λ g. applied g vs w (λ q. prim_op codes_of q vs w) (prim_named g))) h
 not_applied v vs w (fault.Stop s) h = tt
+
+-- ---- what APPLY calls at last, after these arguments of its own
+
+pub no_more : (e : Fault) (all : List MVal) (v : MVal) (vs : List MVal) (w : MW) → prim_op codes_of p.Apply all w ≡ prim_op codes_of p.Apply (v ∷ vs) w → IsApplied (Err e) (v ∷ vs) w → IsReached (Err e) all w
+no_more (fault.Error e) all v vs w same h = same ∙ h
+no_more (fault.Stop s) all v vs w same h = tt
+
+pub reached : (a : Applied) (xs : Bor (List Value)) (all : List MVal) (v : MVal) (w : MW) → prim_op codes_of p.Apply all w ≡ prim_op codes_of p.Apply (v ∷ map value_of xs.now) w
+    → IsApplied (Ok a) (v ∷ map value_of xs.now) w → IsOtherApplied a → IsReached (Ok (a, xs)) all w
+reached (applied_to.Primitive q) xs all v w same h other = (other, same ∙ h)
+reached (applied_to.Function f) xs all v w same h other = same ∙ h
+
+pub turned : (a : Applied) (all : List MVal) (v : MVal) (vs : List MVal) (w : MW) → prim_op codes_of p.Apply all w ≡ prim_op codes_of p.Apply (v ∷ vs) w
+    → IsApplied (Ok a) (v ∷ vs) w → a ≡ applied_to.Primitive p.Apply → prim_op codes_of p.Apply all w ≡ prim_op codes_of p.Apply vs w
+turned a all v vs w same h is =
+    let goes : prim_op codes_of p.Apply (v ∷ vs) w ≡ prim_op codes_of p.Apply vs w = subst (λ x. IsApplied (Ok x) (v ∷ vs) w) is h in
+    same ∙ goes
+
+-- what APPLY can't call
+pub refused : (e : Fault) (vs : List MVal) (w : MW) → IsReached (Err e) vs w → ComesTo (Err e) w (prim_op codes_of p.Apply vs w)
+refused (fault.Error e) vs w h = h
+refused (fault.Stop s) vs w h = tt

@@ -1,6 +1,6 @@
 pub mod KindParts
 pub mod Order
 pub mod Arguments
-pub mod Values
 pub mod Called
 pub mod Associations
+pub mod Defined

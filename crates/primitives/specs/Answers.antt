@@ -16,13 +16,11 @@ use Rattle.primitives.specs.declared.outcome.Outcome.TheVariants as outcome
 use Rattle.primitives.specs.declared.predicates.Comparison.{Comparison}
 use Rattle.primitives.specs.declared.predicates.Comparison.TheVariants as comparison
 
--- the primitives that calls can run so far
-abbrev pub is_there : PrimId → Bool
-is_there p.Item = false
-is_there p.Data = false
-is_there p.Define = false
-is_there p.Apply = false
-is_there _ = true
+-- the primitives that take their arguments by their numbers, three at most
+abbrev pub is_by_number : PrimId → Bool
+is_by_number p.Item = false
+is_by_number p.Apply = false
+is_by_number _ = true
 
 -- what an outcome is of an operation that leaves this world
 abbrev pub op_of : Outcome → MW → Op MW (model.Outcome PCode ℕ)

@@ -1,20 +1,20 @@
 //! APPLY.
 
-ghost use Rattle.std.specs.Prelude.{◌≡◌, ◌∷◌, map};
+ghost use Rattle.std.specs.Prelude.{◌≡◌, ◌∷◌, map, IfOk};
 ghost use Rattle.model.specs.Machine.Steps.{MW};
 ghost use Rattle.model.specs.declared.run.Stop.TheVariants.{NoMemory};
 ghost use Rattle.world.specs.Answers.{IfStopped};
 ghost use Rattle.world.specs.Values.{value_of};
-ghost use Rattle.primitives.specs.Calling.{IsApplied};
+ghost use Rattle.primitives.specs.Calling.{IsApplied, IsApplyIf, IsReached};
 
 use model::{ErrorCode, PrimId};
-use std::alloc::Global;
+use std::alloc::{AllocError, Global};
 use strings::Text;
 use world::{Fault, Value};
 
 /// What APPLY calls with its other arguments.
 #[derive(Drop)]
-pub enum Applied {
+pub(crate) enum Applied {
     Primitive(PrimId),
     Function(Text),
 }
@@ -34,13 +34,38 @@ fn applied_to(alloc: Global, name: &Value, others: &[Value]) -> Result<Applied, 
     Ok(Applied::Primitive(id))
 }
 
-/// What APPLY calls, by its arguments. The first is the name, and the others go to what is called.
-pub fn applied(alloc: Global, arguments: &[Value]) -> Result<Applied, Fault>
-    ensures applied { (w : MW) → IsApplied result (map value_of arguments.now) w }
+impl Applied {
+    // Whether it is APPLY itself.
+    fn is_apply(&self) -> bool
+        ensures { IsApplyIf result self.now }
+    {
+        matches!(self, Applied::Primitive(PrimId::Apply))
+    }
+}
+
+/// What APPLY calls at last, by its arguments, and the arguments for that. It may call itself on the way.
+pub(crate) fn apply(alloc: Global, arguments: &[Value]) -> Result<(Applied, &[Value]), Fault>
+    ensures applied { (w : MW) → IsReached result (map value_of arguments.now) w }
     ensures stop { IfStopped result (λ stop. stop ≡ NoMemory) }
 {
-    match arguments {
-        [name, others @ ..] => applied_to(alloc, name, others),
-        [] => Err(Fault::Error(ErrorCode::NotAName)),
+    let mut rest = arguments;
+    while let Some((name, others)) = rest.split_first() {
+        let applied = applied_to(alloc, name, others)?;
+        if !applied.is_apply() {
+            return Ok((applied, others));
+        }
+        rest = others;
     }
+    Err(Fault::Error(ErrorCode::NotAName))
+}
+
+/// The same arguments again.
+pub(crate) fn copied(alloc: Global, arguments: &[Value]) -> Result<Vec<Value>, AllocError>
+    ensures { IfOk result (λ copy. copy.items ≡ arguments.now) }
+{
+    let mut copy = Vec::with_capacity(alloc, arguments.len())?;
+    for argument in arguments {
+        copy.push(argument.clone()?)?;
+    }
+    Ok(copy)
 }

@@ -8,10 +8,13 @@ ghost use Rattle.model.specs.declared.run.Stop.TheVariants.{NoMemory};
 ghost use Rattle.world.specs.Values.{value_of};
 ghost use Rattle.world.specs.Held.{world_of};
 ghost use Rattle.world.specs.Answers.{IfStopped};
-ghost use Rattle.primitives.specs.Answers.{ComesTo, is_there};
+ghost use Rattle.primitives.specs.Answers.{ComesTo, is_by_number};
+ghost use Rattle.primitives.specs.Calling.{IsOther};
 
+use crate::applying::{Applied, apply, copied};
+use crate::defining::define;
 use crate::functions::{data_type, dupl, remdr, replace, size, trim};
-use crate::objects::{array, convert, copy, table};
+use crate::objects::{array, convert, copy, data, item, table};
 use crate::outcome::Outcome;
 use crate::patterns::{arbno, fence_of, kind};
 use crate::predicates::{Comparison, compare, differ, ident, integer, lgt};
@@ -21,49 +24,6 @@ use pattern_compiler::Kind;
 use std::alloc::Global;
 use world::{Fault, Value, World, argument};
 
-/// Whether calls of a primitive can run.
-pub fn is_there(id: PrimId) -> bool
-    ensures { result ≡ is_there id }
-{
-    match id {
-        PrimId::Len
-        | PrimId::Pos
-        | PrimId::RPos
-        | PrimId::Tab
-        | PrimId::RTab
-        | PrimId::Any
-        | PrimId::NotAny
-        | PrimId::Span
-        | PrimId::Break
-        | PrimId::Arbno
-        | PrimId::Eq
-        | PrimId::Ne
-        | PrimId::Lt
-        | PrimId::Le
-        | PrimId::Gt
-        | PrimId::Ge
-        | PrimId::Lgt
-        | PrimId::Ident
-        | PrimId::Differ
-        | PrimId::Integer
-        | PrimId::Size
-        | PrimId::Trim
-        | PrimId::Dupl
-        | PrimId::Replace
-        | PrimId::Remdr
-        | PrimId::DataType
-        | PrimId::Array
-        | PrimId::Table
-        | PrimId::Copy
-        | PrimId::Convert
-        | PrimId::Input
-        | PrimId::Output
-        | PrimId::Detach
-        | PrimId::Fence => true,
-        PrimId::Item | PrimId::Data | PrimId::Define | PrimId::Apply => false,
-    }
-}
-
 /// Calls a primitive. An absent argument is null. A call that gives an error or stops changes nothing.
 pub fn call_prim(
     alloc: Global,
@@ -71,7 +31,61 @@ pub fn call_prim(
     arguments: &[Value],
     world: &mut World,
 ) -> Result<Outcome, Fault>
-    requires there { IsTrue (is_there id) }
+    ensures answer { (io : Io)
+        → ComesTo result (world_of world.new io)
+        (prim_op codes_of id (map value_of arguments.now) (world_of world.old io)) }
+    ensures stop { IfStopped result (λ stop. stop ≡ NoMemory) }
+    ensures unchanged { OnErr result (world.new ≡ world.old) }
+{
+    match id {
+        PrimId::Apply => call_applied(alloc, arguments, world),
+        _ => call_other(alloc, id, arguments, world),
+    }
+}
+
+// APPLY.
+fn call_applied(alloc: Global, arguments: &[Value], world: &mut World) -> Result<Outcome, Fault>
+    ensures answer { (io : Io)
+        → ComesTo result (world_of world.new io)
+        (prim_op codes_of PrimId.Apply (map value_of arguments.now) (world_of world.old io)) }
+    ensures stop { IfStopped result (λ stop. stop ≡ NoMemory) }
+    ensures unchanged { OnErr result (world.new ≡ world.old) }
+{
+    let (applied, others) = apply(alloc, arguments)?;
+    match applied {
+        Applied::Primitive(id) => call_other(alloc, id, others, world),
+        Applied::Function(name) => Ok(Outcome::Call(name, copied(alloc, others)?)),
+    }
+}
+
+// Calls a primitive other than APPLY.
+fn call_other(
+    alloc: Global,
+    id: PrimId,
+    arguments: &[Value],
+    world: &mut World,
+) -> Result<Outcome, Fault>
+    requires other { IsOther id }
+    ensures answer { (io : Io)
+        → ComesTo result (world_of world.new io)
+        (prim_op codes_of id (map value_of arguments.now) (world_of world.old io)) }
+    ensures stop { IfStopped result (λ stop. stop ≡ NoMemory) }
+    ensures unchanged { OnErr result (world.new ≡ world.old) }
+{
+    match id {
+        PrimId::Item => item(arguments, world),
+        _ => call_by_number(alloc, id, arguments, world),
+    }
+}
+
+// Calls a primitive that takes its arguments by their numbers.
+fn call_by_number(
+    alloc: Global,
+    id: PrimId,
+    arguments: &[Value],
+    world: &mut World,
+) -> Result<Outcome, Fault>
+    requires by_number { IsTrue (is_by_number id) }
     ensures answer { (io : Io)
         → ComesTo result (world_of world.new io)
         (prim_op codes_of id (map value_of arguments.now) (world_of world.old io)) }
@@ -85,7 +99,7 @@ pub fn call_prim(
     call_with(alloc, id, first, second, third, world)
 }
 
-// Calls a primitive that takes three arguments at most.
+// Calls it with its first three arguments.
 fn call_with(
     alloc: Global,
     id: PrimId,
@@ -94,7 +108,7 @@ fn call_with(
     third: &Value,
     world: &mut World,
 ) -> Result<Outcome, Fault>
-    requires there { IsTrue (is_there id) }
+    requires by_number { IsTrue (is_by_number id) }
     ensures answer { (io : Io)
         → ComesTo result (world_of world.new io)
         (prim_op codes_of id (value_of first.now ∷ value_of second.now ∷ value_of third.now ∷ [])
@@ -133,10 +147,12 @@ fn call_with(
         PrimId::Table => table(alloc, world),
         PrimId::Copy => copy(alloc, first, world),
         PrimId::Convert => convert(alloc, first, second, world),
+        PrimId::Data => data(alloc, first, world),
         PrimId::Input => input(alloc, first, second, world),
         PrimId::Output => output(alloc, first, second, world),
         PrimId::Detach => detach(alloc, first, world),
         PrimId::Fence => fence_of(alloc, first),
+        PrimId::Define => define(alloc, first, second, world),
         _ => unreachable!(),
     }
 }

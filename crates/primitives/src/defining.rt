@@ -28,8 +28,8 @@ fn entry_label(alloc: Global, value: &Value) -> Result<Option<Text>, Fault>
     Ok(Some(value.to_label(alloc)?))
 }
 
-/// DEFINE, with a prototype and a label. A call that gives an error or stops changes nothing.
-pub fn define(
+/// DEFINE, with a prototype and a label.
+pub(crate) fn define(
     alloc: Global,
     prototype: &Value,
     label: &Value,

@@ -1,7 +1,7 @@
 //! The primitive functions.
 //!
-//! `call_prim(alloc, id, &arguments, &mut world)` calls one that is there (`is_there`): all but ITEM, DATA, DEFINE and
-//! APPLY. It comes to an `Outcome`, that is a value, a name, failure or a function to call, or to a `Fault`.
+//! `call_prim(alloc, id, &arguments, &mut world)` calls one. It comes to an `Outcome`, that is a value, a name, failure or
+//! a function to call, or to a `Fault`.
 //!
 //!     let outcome = call_prim(alloc, PrimId::Size, &arguments, &mut world)?;
 //!
@@ -19,7 +19,5 @@ mod patterns;
 mod predicates;
 mod units;
 
-pub use applying::{Applied, applied};
-pub use call::{call_prim, is_there};
-pub use defining::define;
+pub use call::call_prim;
 pub use outcome::Outcome;

@@ -3,5 +3,6 @@ pub mod Held
 pub mod Runs
 pub mod Stopped
 pub mod Calling
+pub mod Resuming
 pub use Rattle.world.specs.Answers
 pub mod Elements

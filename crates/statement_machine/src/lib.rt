@@ -20,6 +20,7 @@ mod machine;
 mod matches;
 mod operators;
 mod patterns;
+mod resuming;
 mod run;
 mod state;
 mod status;

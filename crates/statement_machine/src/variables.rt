@@ -15,7 +15,7 @@ ghost use Rattle.world.specs.Held.{world_of};
 ghost use Rattle.world.specs.Values.{value_of};
 ghost use Rattle.statement_machine.specs.Held.{Left, Meets, StaysSound, after, handlers_in, waiting};
 ghost use Rattle.statement_machine.specs.Stopped.{IfHalted, halted_by};
-ghost use Rattle.unit_io.specs.Service.{KeepsCounts, PrintsNothing, Served};
+ghost use Rattle.unit_io.specs.Service.{KeepsCounts, IsQuiet, Served};
 
 use crate::state::State;
 use crate::status::Exit;
@@ -46,8 +46,8 @@ impl State {
         }
     }
 
-    // On with the value of an operation that may fail or be an error.
-    fn gave(&mut self, answer: Result<Option<Value>, Fault>, next: usize) -> Result<(), Exit>
+    /// On with the value of an operation that may fail or be an error.
+    pub(crate) fn gave(&mut self, answer: Result<Option<Value>, Fault>, next: usize) -> Result<(), Exit>
         ensures left { (im : Image) (fs : List Frame) (io : Io) (o : Op MW MVal)
             → AnswersOrFails (answer_map (option_map value_of) answer)
             (world_of self.old.world io) o →
@@ -72,7 +72,7 @@ impl State {
         ensures served { Served U.Units (halted_by result) units.old units.new (λ io io'.
             (im : Image) (fs : List Frame)
             → Left im fs result self.new io' (after im Instr.Assign next fs self.old io)) }
-        ensures quiet { IfHalted result (λ stop. PrintsNothing (U.told units.old) (U.told units.new)) }
+        ensures quiet { IsQuiet (halted_by result) (U.told units.old) (U.told units.new) }
         ensures sound { (im : Image) (fs : List Frame) → Meets im Instr.Assign next fs self.old
             → StaysSound im fs result self.new }
     {
@@ -88,7 +88,7 @@ impl State {
         ensures served { Served U.Units (halted_by result) units.old units.new (λ io io'.
             (im : Image) (fs : List Frame)
             → Left im fs result self.new io' (after im Instr.Fetch next fs self.old io)) }
-        ensures quiet { IfHalted result (λ stop. PrintsNothing (U.told units.old) (U.told units.new)) }
+        ensures quiet { IsQuiet (halted_by result) (U.told units.old) (U.told units.new) }
         ensures sound { (im : Image) (fs : List Frame) → Meets im Instr.Fetch next fs self.old
             → StaysSound im fs result self.new }
     {
@@ -103,7 +103,7 @@ impl State {
         ensures served { Served U.Units (halted_by result) units.old units.new (λ io io'.
             (im : Image) (fs : List Frame)
             → Left im fs result self.new io' (after im Instr.FetchK next fs self.old io)) }
-        ensures quiet { IfHalted result (λ stop. PrintsNothing (U.told units.old) (U.told units.new)) }
+        ensures quiet { IsQuiet (halted_by result) (U.told units.old) (U.told units.new) }
         ensures sound { (im : Image) (fs : List Frame) → Meets im Instr.FetchK next fs self.old
             → StaysSound im fs result self.new }
     {
@@ -117,7 +117,7 @@ impl State {
         ensures served { Served U.Units (halted_by result) units.old units.new (λ io io'.
             (im : Image) (fs : List Frame)
             → Left im fs result self.new io' (after im Instr.Splice next fs self.old io)) }
-        ensures quiet { IfHalted result (λ stop. PrintsNothing (U.told units.old) (U.told units.new)) }
+        ensures quiet { IsQuiet (halted_by result) (U.told units.old) (U.told units.new) }
         ensures sound { (im : Image) (fs : List Frame) → Meets im Instr.Splice next fs self.old
             → StaysSound im fs result self.new }
     {

@@ -2,7 +2,7 @@
 
 use model::{ErrorCode, PrimId};
 use pattern_compiler::{Instr, Name, PatCode};
-use primitives::{Outcome, call_prim, is_there};
+use primitives::{Outcome, call_prim};
 use std::alloc::Global;
 use strings::Text;
 use world::{Fault, Value, World, alt, cond, imm};
@@ -99,9 +99,6 @@ fn primitive(
     left: &Value,
     right: &Value,
 ) -> Result<Option<Value>, Fault> {
-    if !is_there(id) {
-        return Err(Fault::Error(ErrorCode::UndefinedFunction));
-    }
     let arguments = vec![in alloc; left.clone()?, right.clone()?]?;
     match call_prim(alloc, id, &arguments, world)? {
         Outcome::Value(value) => Ok(Some(value)),

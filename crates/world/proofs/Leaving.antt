@@ -1,5 +1,5 @@
 -- The end of a call.
-use Rattle.std.proofs.Common.{◌≡◌, ℕ, ℤ, List, [], length, Option, Some, None, Result, Ok, Err, refl, sym, ap, subst, ◌∙◌}
+use Rattle.std.proofs.Common.{◌≡◌, ℕ, ℤ, List, [], Option, Some, None, Result, Ok, Err, refl, sym, ap, subst, ◌∙◌}
 use Rattle.std.specs.Prelude.{option_map}
 use Rattle.model.specs.declared.instr.ReturnKind.{ReturnKind}
 use Rattle.model.specs.declared.instr.ReturnKind.TheVariants as kind
@@ -26,7 +26,7 @@ use Rattle.world.specs.Values.{value_of}
 use Rattle.world.specs.declared.calls.Given.TheVariants as given
 use Rattle.world.specs.declared.value.Value.{Value}
 use Rattle.world.specs.Answers.{AnswersOrFails, answer_map}
-use Rattle.world.specs.Calling.{Ends, LeavesTo, given_of, kept_as, saved_as}
+use Rattle.world.specs.Calling.{LeavesTo, given_of, kept_with, saved_as, saved_by}
 use Rattle.world.specs.declared.calls.Kept.{Kept}
 use Rattle.world.specs.declared.calls.Given.{Given}
 use Rattle.world.specs.declared.fault.Fault.{Fault}
@@ -58,13 +58,12 @@ left_by_fault (fault.Error e) here there o h = h
 left_by_fault (fault.Stop s) here there o h = tt
 
 -- the keywords of the caller after its variables
-pub gone_back : (r : ReturnKind) (k : Kept) (vs : List Value) (xs : List Bytes) (below saved : List Value) (statement level : ℤ) (w w1 w2 : MW) → xs ≡ names_of k.prototype → statement ≡ k.statement → level ≡ k.level
-    → Ends saved (names_of k.prototype) below vs → (Ends saved xs below vs → w1 ≡ calls.restore (saved_as xs vs) w) → w2 ≡ with_caller r statement level w1 → w2 ≡ back_to_caller r (kept_as k vs) w
-gone_back r k vs xs below saved statement level w w1 w2 names here depth e restored last =
-    let ends : Ends saved xs below vs = (e.0, e.1 ∙ ap length (sym names)) in
+pub gone_back : (r : ReturnKind) (k : Kept) (xs : List Bytes) (saved : List Value) (statement level : ℤ) (w w1 w2 : MW) → xs ≡ names_of k.prototype → statement ≡ k.statement → level ≡ k.level
+    → w1 ≡ calls.restore (saved_as xs (saved_by xs saved)) w → w2 ≡ with_caller r statement level w1 → w2 ≡ back_to_caller r (kept_with k saved) w
+gone_back r k xs saved statement level w w1 w2 names here depth restored last =
     last
     ∙ (λ i. with_caller r (here i) (depth i) w1)
-    ∙ ap (with_caller r k.statement k.level) (restored ends ∙ ap (λ ys. calls.restore (saved_as ys vs) w) names)
+    ∙ ap (with_caller r k.statement k.level) (restored ∙ ap (λ ys. calls.restore (saved_as ys (saved_by ys saved)) w) names)
 
 -- ---- entering
 

@@ -1,6 +1,6 @@
 -- What a call saves and gives back.
-use Rattle.std.proofs.Common.{◌≡◌, ℕ, suc, ◌+◌, ◌-◌, ◌<◌, ◌≤◌, List, [], ◌∷◌, ◌++◌, length, map, take, get_or, Option, Some, None, refl, sym, ap, ◌∙◌, arith, append_assoc, append-nil}
-use Rattle.std.proofs.lemmas.List.{take_more, length-map, map-append, length-append, length-take-le}
+use Rattle.std.proofs.Common.{◌≡◌, ℕ, suc, ◌+◌, ◌-◌, ◌<◌, ◌≤◌, List, [], ◌∷◌, ◌++◌, length, map, take, drop, get_or, min, Option, Some, None, refl, sym, ap, ◌∙◌, arith, append_assoc, append-nil}
+use Rattle.std.proofs.lemmas.List.{take_more, length-map, map-append, length-append, length-take-le, length-drop, take-append-drop}
 use Rattle.model.specs.Deck.Trees.{Bytes}
 use Rattle.model.specs.Language.Io.{Io}
 use Rattle.model.specs.Language.Values.{set_var}
@@ -10,7 +10,7 @@ use Rattle.world.specs.Values.{value_of}
 use Rattle.world.specs.Held.{WorldView, value_in, variable_at, world_of}
 use Rattle.model.specs.Language.Prototypes.{FunctionPrototype}
 use Rattle.prototypes.specs.Views.{names_of}
-use Rattle.world.specs.Calling.{AreSaved, Ends, IsKept, saved_as}
+use Rattle.world.specs.Calling.{AreSaved, IsKept, older, saved_as, saved_below, saved_by}
 use Rattle.world.specs.declared.calls.Kept.{Kept}
 use Rattle.world.specs.declared.value.Value.{Value}
 
@@ -75,20 +75,34 @@ same_end (a ∷ xs) (b ∷ ys) x y h =
     let later = same_end xs ys x y tails in
     ((λ i. head i ∷ later.0 i), later.1)
 
+-- names beyond the values take no part
+saved_short : (xs : List Bytes) (vs : List Value) → saved_as (take (length vs) xs) vs ≡ saved_as xs vs
+saved_short [] [] = refl
+saved_short [] (v ∷ vs) = refl
+saved_short (x ∷ xs) [] = refl
+saved_short (x ∷ xs) (v ∷ vs) = ap (λ ss. record { var = x; value = value_of v } ∷ ss) (saved_short xs vs)
+
 -- so many of the names are left to get their values
 abbrev pub IsLeft : (names : List Bytes) (count : ℕ) (all now : List Value) (old new : WorldView) → Type 0
 IsLeft names count all now old new =
-    (below vs : List Value) → Ends all names below vs
-    → (ws : List Value) × (now ≡ below ++ ws) × (length ws ≡ count) × ((io : Io) → restore (saved_as (take count names) ws) (world_of new io) ≡ restore (saved_as names vs) (world_of old io))
+    (ws : List Value) × (now ≡ saved_below names all ++ ws) × (length ws ≡ count)
+    × ((io : Io) → restore (saved_as (take count names) ws) (world_of new io) ≡ restore (saved_as names (saved_by names all)) (world_of old io))
 
-pub all_left : (names : List Bytes) (count : ℕ) (all : List Value) (h : WorldView) → count ≡ length names → take count names ≡ names → IsLeft names count all all h h
-all_left names count all h is whole below vs e = (vs, e.0, e.1 ∙ sym is, λ io. ap (λ xs. restore (saved_as xs vs) (world_of h io)) whole)
+pub all_left : (names : List Bytes) (count : ℕ) (all : List Value) (h : WorldView) → count ≡ min (length names) (length all) → IsLeft names count all all h h
+all_left names count all h is =
+    let vs = saved_by names all in
+    let size : length vs ≡ count = length-drop (older names all) all ∙ (omega (arith, is)) in (
+      vs,
+      sym (take-append-drop (older names all) all),
+      size,
+      λ io. ap (λ n. restore (saved_as (take n names) vs) (world_of h io)) (sym size) ∙ ap (λ ss. restore ss (world_of h io)) (saved_short names vs),
+    )
 
 -- a turn of the loop
 pub left_turn : (names : List Bytes) (count n : ℕ) (all now rest : List Value) (old mid new : WorldView) (x : Bytes) (v : Value) → count ≡ n + 1 → n < length names → x ≡ get_or names n x
     → now ≡ rest ++ v ∷ [] → ((io : Io) → world_of new io ≡ set_var x (value_of v) (world_of mid io)) → IsLeft names count all now old mid → IsLeft names n all rest old new
-left_turn names count n all now rest old mid new x v is within at popped set left below vs e =
-    let before = left below vs e in
+left_turn names count n all now rest old mid new x v is within at popped set before =
+    let below = saved_below names all in
     let size : length before.0 ≡ suc n = before.2 ∙ is ∙ (omega arith) in
     let parts = last_of n before.0 size in
     let same = same_end rest (below ++ parts.0) v parts.1 (sym popped ∙ before.1 ∙ ap (λ ws. below ++ ws) parts.2 ∙ sym (append_assoc below parts.0 (parts.1 ∷ []))) in
@@ -109,20 +123,19 @@ is_empty : {A : Type 0} (ws : List A) → length ws ≡ 0 → ws ≡ []
 is_empty [] h = refl
 is_empty (w ∷ ws) h = absurd (omega arith)
 
-pub none_left : (names : List Bytes) (count : ℕ) (all now : List Value) (old new : WorldView) → count ≡ 0 → IsLeft names count all now old new → (below vs : List Value) → Ends all names below vs
-    → (now ≡ below) × ((io : Io) → world_of new io ≡ restore (saved_as names vs) (world_of old io))
-none_left names count all now old new none left below vs e =
-    let end = left below vs e in (
+pub none_left : (names : List Bytes) (count : ℕ) (all now : List Value) (old new : WorldView) → count ≡ 0 → IsLeft names count all now old new
+    → (now ≡ saved_below names all) × ((io : Io) → world_of new io ≡ restore (saved_as names (saved_by names all)) (world_of old io))
+none_left names count all now old new none end =
+    let below = saved_below names all in (
       end.1 ∙ ap (λ ws. below ++ ws) (is_empty end.0 (end.2 ∙ none)) ∙ append-nil below,
       λ io. sym (ap (λ k. restore (saved_as (take k names) end.0) (world_of new io)) none) ∙ end.3 io,
     )
 
 -- while a name is left, so is a value
-pub some_left : (names : List Bytes) (count n : ℕ) (all now : List Value) (old new : WorldView) → count ≡ n + 1 → now ≡ [] → IsLeft names count all now old new → (below vs : List Value) → Ends all names below vs → ⊥
-some_left names count n all now old new is empty left below vs e =
-    let end = left below vs e in
+pub some_left : (names : List Bytes) (count : ℕ) (all now : List Value) (old new : WorldView) → 0 < count → now ≡ [] → IsLeft names count all now old new → ⊥
+some_left names count all now old new is empty end =
     let size = ap length (sym end.1 ∙ empty) in
-    omega (arith, size, length-append below end.0, end.2)
+    omega (arith, size, length-append (saved_below names all) end.0, end.2, is)
 
 -- ---- what a call keeps
 

@@ -1,5 +1,5 @@
 -- What a call saves, and what it gives.
-use Rattle.std.specs.Prelude.{◌≡◌, ℕ, List, [], ◌∷◌, ◌++◌, length, map, Option, Some, None, Result, Ok, Err}
+use Rattle.std.specs.Prelude.{◌≡◌, ℕ, ◌-◌, List, [], ◌∷◌, ◌++◌, length, map, take, drop, Option, Some, None, Result, Ok, Err}
 use Rattle.model.specs.Deck.Trees.{Bytes}
 use Rattle.model.specs.Language.Io.{Io}
 use Rattle.model.specs.Language.Conversions.{Op, Gives, Refuses, Faults}
@@ -28,6 +28,21 @@ saved_as (x ∷ xs) (v ∷ vs) = record { var = x; value = value_of v } ∷ save
 abbrev pub kept_as : Kept → List Value → calls.Kept PCode ℕ
 kept_as k vs = record { name = k.prototype.name; saved = saved_as (names_of k.prototype) vs; stno = k.statement; fnclevel = k.level }
 
+-- how many of the values are of calls that began before one that saved these names
+abbrev pub older : List Bytes → List Value → ℕ
+older xs saved = length saved - length xs
+
+abbrev pub saved_below : List Bytes → List Value → List Value
+saved_below xs saved = take (older xs saved) saved
+
+-- those that it saved, at the end
+abbrev pub saved_by : List Bytes → List Value → List Value
+saved_by xs saved = drop (older xs saved) saved
+
+-- with the values that it saved, of those of all calls
+abbrev pub kept_with : Kept → List Value → calls.Kept PCode ℕ
+kept_with k saved = kept_as k (saved_by (names_of k.prototype) saved)
+
 abbrev pub given_of : Given → MBack
 given_of (given.Value v) = AValue (value_of v)
 given_of (given.Name n) = AName (name_of n)
@@ -41,10 +56,6 @@ abbrev pub IsKept : Kept → FunctionPrototype → (before after : List Value) �
 IsKept k f before after h =
     (k.prototype ≡ f)
     × ((vs : List Value) × (after ≡ before ++ vs) × (length vs ≡ length (names_of f)) × ((io : Io) → kept_as k vs ≡ kept_of f.name f.arguments f.locals (world_of h io)))
-
--- what is left of the values, and what a call put there
-abbrev pub Ends : List Value → List Bytes → (below vs : List Value) → Type 0
-Ends all xs below vs = (all ≡ below ++ vs) × (length vs ≡ length xs)
 
 -- the end of a call: an error leaves this world, and all else that one
 abbrev pub LeavesTo : Result (Option Given) Fault → (here there : MW) → Op MW MBack → Type 0

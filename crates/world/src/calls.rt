@@ -1,6 +1,6 @@
 //! Calls of functions that DEFINE made: what a call saves, and what it gives back.
 
-ghost use Rattle.std.specs.Prelude.{◌≡◌, ℕ, List, map, option_map, IfOk, OnOk, OnErr};
+ghost use Rattle.std.specs.Prelude.{◌≡◌, ℕ, map, option_map, IfOk, OnOk, OnErr};
 ghost use Rattle.model.specs.Language.Io.{Io};
 ghost use Rattle.model.specs.Language.Calls.{as_name, as_value, back_to_caller, bind_arguments, enter_call, leave_op};
 ghost use Rattle.model.specs.Language.Calls as calls;
@@ -9,11 +9,10 @@ ghost use Rattle.model.specs.declared.run.Stop.TheVariants.{NoMemory};
 ghost use Rattle.pattern_compiler.specs.View.{name_of};
 ghost use Rattle.prototypes.specs.Views.{names_of};
 ghost use Rattle.world.specs.Answers.{answer_map, op_of, stopped_by, AnswersOrFails, IfStopped};
-ghost use Rattle.world.specs.Calling.{AreSaved, Ends, IsKept, LeavesTo, given_of, kept_as, saved_as};
+ghost use Rattle.world.specs.Calling.{AreSaved, IsKept, LeavesTo, given_of, kept_with, saved_as, saved_below, saved_by};
 ghost use Rattle.world.specs.Held.{value_in, variable_at, world_of};
 ghost use Rattle.world.specs.Values.{value_of};
-ghost use Rattle.world.specs.declared.value.Value.{Value as Item};
-ghost use Rattle.unit_io.specs.Service.{PrintsNothing, Served};
+ghost use Rattle.unit_io.specs.Service.{IsQuiet, Served};
 
 use crate::arguments::argument;
 use crate::fault::Fault;
@@ -100,17 +99,16 @@ impl World {
 
     // Gives the variables back the values at the end, the last one first.
     fn restore(&mut self, names: &[Text], saved: &mut Vec<Value>) -> Result<(), AllocError>
-        ensures values { (below vs : List Item) → Ends saved.old.items names.now below vs →
-            OnOk result (saved.new.items ≡ below) }
-        ensures restored { (below vs : List Item) → Ends saved.old.items names.now below vs →
-            OnOk result ((io : Io)
-            → world_of self.new io ≡ calls.restore (saved_as names.now vs) (world_of self.old io)) }
+        ensures values { OnOk result (saved.new.items ≡ saved_below names.now saved.old.items) }
+        ensures restored { OnOk result ((io : Io)
+            → world_of self.new io
+            ≡ calls.restore (saved_as names.now (saved_by names.now saved.old.items)) (world_of self.old io)) }
     {
-        let mut count = names.len();
+        let mut count = names.len().min(saved.as_slice().len());
         while count > 0 {
             count -= 1;
             let Some(value) = saved.pop() else {
-                return Ok(());
+                unreachable!();
             };
             let _unit = self.set(&names[count], NO_SLOT, value)?;
         }
@@ -170,11 +168,10 @@ impl World {
         kept: &Kept,
         saved: &mut Vec<Value>,
     ) -> Result<(), AllocError>
-        ensures values { (below vs : List Item) → Ends saved.old.items (names_of kept.now.prototype) below vs →
-            OnOk result (saved.new.items ≡ below) }
-        ensures back { (below vs : List Item) → Ends saved.old.items (names_of kept.now.prototype) below vs →
-            OnOk result ((io : Io)
-            → world_of self.new io ≡ back_to_caller kind (kept_as kept.now vs) (world_of self.old io)) }
+        ensures values { OnOk result
+            (saved.new.items ≡ saved_below (names_of kept.now.prototype) saved.old.items) }
+        ensures back { OnOk result ((io : Io)
+            → world_of self.new io ≡ back_to_caller kind (kept_with kept.now saved.old.items) (world_of self.old io)) }
     {
         self.restore(kept.prototype.names(), saved)?;
         self.put_back(kind, kept.statement, kept.level);
@@ -190,11 +187,10 @@ impl World {
         kept: &Kept,
         saved: &mut Vec<Value>,
     ) -> Result<Option<Given>, Fault>
-        ensures values { (below vs : List Item) → Ends saved.old.items (names_of kept.now.prototype) below vs →
-            OnOk result (saved.new.items ≡ below) }
-        ensures left { (below vs : List Item) → Ends saved.old.items (names_of kept.now.prototype) below vs →
-            (io : Io) → AnswersOrFails (answer_map (option_map given_of) result) (world_of self.new io)
-            (leave_op kind (kept_as kept.now vs) (world_of self.old io)) }
+        ensures values { OnOk result
+            (saved.new.items ≡ saved_below (names_of kept.now.prototype) saved.old.items) }
+        ensures left { (io : Io) → AnswersOrFails (answer_map (option_map given_of) result) (world_of self.new io)
+            (leave_op kind (kept_with kept.now saved.old.items) (world_of self.old io)) }
         ensures stop { IfStopped result (λ stop. stop ≡ NoMemory) }
     {
         let given = self.given(alloc, kind, kept.prototype.name())?;
@@ -211,7 +207,7 @@ impl World {
         ensures served { Served U.Units (stopped_by result) units.old units.new (λ io io'.
             AnswersOrFails (answer_map (option_map value_of) result) (world_of self.new io')
             (as_value (given_of given) (world_of self.old io))) }
-        ensures quiet { IfStopped result (λ stop. PrintsNothing (U.told units.old) (U.told units.new)) }
+        ensures quiet { IsQuiet (stopped_by result) (U.told units.old) (U.told units.new) }
         ensures err { OnErr result (self.new ≡ self.old) }
     {
         match given {

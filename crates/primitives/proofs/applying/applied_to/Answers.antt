@@ -10,16 +10,16 @@ returns-in_default-clause-applied c w =
     calls_function (value_of c.args.name.now) (map value_of c.args.others.now) c.in_ok-name.name w c.in_ok-name.ensures.variable
     (sym (ap prim_named c.as_slice.ensures) ∙ sym c.named.ensures ∙ c.in_default.is)
 
-pub returns-then-most_arguments-len-clause-applied : goal.returns-then-most_arguments-len-clause-applied
-returns-then-most_arguments-len-clause-applied c w =
+pub returns-then-most_arguments-others-clause-applied : goal.returns-then-most_arguments-others-clause-applied
+returns-then-most_arguments-others-clause-applied c w =
     let size = length-map c.args.others.now value_of in
-    let many : most_args c.in-Some.id < length (map value_of c.args.others.now) = omega (arith, size, c.most_arguments.ensures, c.len.ensures, c.if-most_arguments-len.true) in
+    let many : most_args c.in-Some.id < length (map value_of c.args.others.now) = omega (arith, size, c.most_arguments.ensures, c.if-most_arguments-others.true) in
     too_many (value_of c.args.name.now) (map value_of c.args.others.now) c.in_ok-name.name w c.in_ok-name.ensures.variable c.in-Some.id
     (sym (ap prim_named c.as_slice.ensures) ∙ sym c.named.ensures ∙ c.in-Some.is) many
 
 pub returns-clause-applied : goal.returns-clause-applied
 returns-clause-applied c w =
     let size = length-map c.args.others.now value_of in
-    let few : length (map value_of c.args.others.now) ≤ most_args c.in-Some.id = omega (arith, size, c.most_arguments.ensures, c.len.ensures, c.if-most_arguments-len.false) in
+    let few : length (map value_of c.args.others.now) ≤ most_args c.in-Some.id = omega (arith, size, c.most_arguments.ensures, c.if-most_arguments-others.false) in
     calls_primitive (value_of c.args.name.now) (map value_of c.args.others.now) c.in_ok-name.name w c.in_ok-name.ensures.variable c.in-Some.id
     (sym (ap prim_named c.as_slice.ensures) ∙ sym c.named.ensures ∙ c.in-Some.is) few

@@ -29,3 +29,15 @@ returns-in-Convert-clause-answer c io =
     let w = world_of c.args.world.now io in
     let vs = value_of c.args.first.now ∷ value_of c.args.second.now ∷ value_of c.args.third.now ∷ [] in
     subst (λ id. ComesTo c.convert.result (world_of c.convert.new.world io) (prim_op codes_of id vs w)) (sym c.in-Convert.is) (c.convert.ensures.answer io)
+
+pub returns-in-Data-clause-answer : goal.returns-in-Data-clause-answer
+returns-in-Data-clause-answer c io =
+    let w = world_of c.args.world.now io in
+    let vs = value_of c.args.first.now ∷ value_of c.args.second.now ∷ value_of c.args.third.now ∷ [] in
+    subst (λ id. ComesTo c.data.result (world_of c.data.new.world io) (prim_op codes_of id vs w)) (sym c.in-Data.is) (c.data.ensures.answer io)
+
+pub returns-in-Define-clause-answer : goal.returns-in-Define-clause-answer
+returns-in-Define-clause-answer c io =
+    let w = world_of c.args.world.now io in
+    let vs = value_of c.args.first.now ∷ value_of c.args.second.now ∷ value_of c.args.third.now ∷ [] in
+    subst (λ id. ComesTo c.define.result (world_of c.define.new.world io) (prim_op codes_of id vs w)) (sym c.in-Define.is) (c.define.ensures.answer io)

@@ -1,12 +1,11 @@
-use Rattle.std.proofs.Common.{◌≡◌, ◌+◌, ◌-◌, take, length, refl, arith, rules}
-use Rattle.std.proofs.lemmas.Grind.{common_steps}
-use Rattle.world.proofs.Saving.{all_left, left_turn, none_left, some_left}
+use Rattle.std.proofs.Common.{◌≡◌, ◌+◌, ◌-◌, length, min, ap, ◌∙◌, arith}
+use Rattle.world.proofs.Saving.{all_left, left_turn, none_left}
 use Rattle.world.proofs.world.World.restore.Goals as goal
 
 pub loop-count-init : goal.loop-count-init
 loop-count-init c = record {
-  within = omega arith;
-  left = all_left c.args.names.now (length c.args.names.now) c.args.saved.now.items c.args.self.now refl (grind (arith, common_steps));
+  within = omega (arith, c.min-count.ensures);
+  left = all_left c.args.names.now c.min-count.result c.args.saved.now.items c.args.self.now (c.min-count.ensures ∙ ap (λ xs. min (length c.args.names.now) (length xs)) c.as_slice.ensures.value);
 }
 
 pub loop-count-preserved : goal.loop-count-preserved
@@ -20,7 +19,7 @@ loop-count-preserved c =
     }
 
 pub returns-clause-values : goal.returns-clause-values
-returns-clause-values c below vs e = (none_left c.args.names.now c.loop-count.count c.args.saved.now.items c.loop-count.saved.items c.args.self.now c.loop-count.self (omega (arith, c.loop-count-test.false)) c.loop-count.invariant.left below vs e).0
+returns-clause-values c = (none_left c.args.names.now c.loop-count.count c.args.saved.now.items c.loop-count.saved.items c.args.self.now c.loop-count.self (omega (arith, c.loop-count-test.false)) c.loop-count.invariant.left).0
 
 pub returns-clause-restored : goal.returns-clause-restored
-returns-clause-restored c below vs e = (none_left c.args.names.now c.loop-count.count c.args.saved.now.items c.loop-count.saved.items c.args.self.now c.loop-count.self (omega (arith, c.loop-count-test.false)) c.loop-count.invariant.left below vs e).1
+returns-clause-restored c = (none_left c.args.names.now c.loop-count.count c.args.saved.now.items c.loop-count.saved.items c.args.self.now c.loop-count.self (omega (arith, c.loop-count-test.false)) c.loop-count.invariant.left).1

@@ -1,0 +1,67 @@
+//! Where a caller goes on with what its call gave.
+
+ghost use Rattle.std.specs.Prelude.{◌≡◌, List, false, true};
+ghost use Rattle.model.specs.Language.Io.{Io};
+ghost use Rattle.model.specs.declared.image.Image.{Image};
+ghost use Rattle.model.specs.declared.run.Stop.TheVariants.{NoMemory};
+ghost use Rattle.frames.specs.declared.frame.Frame.{Frame};
+ghost use Rattle.statement_machine.specs.Held.{Left, StaysSound};
+ghost use Rattle.statement_machine.specs.Resuming.{CallerStands, resumed_with};
+ghost use Rattle.statement_machine.specs.Stopped.{IfHalted, halted_by};
+ghost use Rattle.unit_io.specs.Service.{Served};
+
+use crate::state::State;
+use crate::status::Exit;
+use unit_io::Units;
+use world::{Fault, Given};
+
+impl State {
+    /// On with the value of what a call gave. That of a name is fetched.
+    pub(crate) fn resume_for_value<U: Units>(
+        &mut self,
+        units: &mut U,
+        given: Given,
+        next: usize,
+    ) -> Result<(), Exit>
+        ensures served { Served U.Units (halted_by result) units.old units.new (λ io io'.
+            (im : Image) (fs : List Frame)
+            → Left im fs result self.new io' (resumed_with im fs false next given self.old io)) }
+        ensures sound { (im : Image) (fs : List Frame) → CallerStands im fs false next self.old
+            → StaysSound im fs result self.new }
+    {
+        let answer = self.world.returned_value(units, given);
+        self.gave(answer, next)
+    }
+
+    /// On with the name that a call gave, which a value isn't.
+    pub(crate) fn resume_for_name(&mut self, given: Given, next: usize) -> Result<(), Exit>
+        ensures left { (im : Image) (fs : List Frame) (io : Io)
+            → Left im fs result self.new io (resumed_with im fs true next given self.old io) }
+        ensures stop { IfHalted result (λ stop. stop ≡ NoMemory) }
+    {
+        match given.into_name() {
+            Ok(name) => self.put_name(name, next),
+            Err(code) => Err(self.halted(Fault::Error(code))),
+        }
+    }
+
+    /// On with what a call gave, for a value or for a name.
+    pub(crate) fn resume<U: Units>(
+        &mut self,
+        units: &mut U,
+        given: Given,
+        want_name: bool,
+        next: usize,
+    ) -> Result<(), Exit>
+        ensures served { Served U.Units (halted_by result) units.old units.new (λ io io'.
+            (im : Image) (fs : List Frame)
+            → Left im fs result self.new io' (resumed_with im fs want_name next given self.old io)) }
+        ensures sound { (im : Image) (fs : List Frame) → CallerStands im fs want_name next self.old
+            → StaysSound im fs result self.new }
+    {
+        if want_name {
+            return self.resume_for_name(given, next);
+        }
+        self.resume_for_value(units, given, next)
+    }
+}
