@@ -14,7 +14,7 @@ ghost use Rattle.world.specs.Answers.{AnswersAs, AnswersOrFails, answer_map, don
 ghost use Rattle.world.specs.Held.{world_of};
 ghost use Rattle.world.specs.Values.{value_of};
 ghost use Rattle.statement_machine.specs.Held.{Left, Meets, StaysSound, after, handlers_in, waiting};
-ghost use Rattle.statement_machine.specs.Stopped.{IfHalted, halted_by};
+ghost use Rattle.statement_machine.specs.Stopped.{halted_by};
 ghost use Rattle.unit_io.specs.Service.{KeepsCounts, IsQuiet, Served};
 
 use crate::state::State;
