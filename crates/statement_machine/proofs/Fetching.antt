@@ -45,7 +45,7 @@ module _ (im : Image) (frames : List Frame) (q : ℕ) (s new : State) (mid : Wor
 
   -- what waits, with the operands that are left
   abbrev fs : List m.Frame
-  fs = frames_of (offset_at im.code) frames rest.under s.handlers.under
+  fs = frames_of (offset_at im.code) frames rest.under s.handlers.under s.saved.items
 
   abbrev to : ℕ
   to = offset_at im.code q

@@ -77,10 +77,10 @@ named_by im fs q s io (Err (fault.Stop x)) o h = tt
 
 pub was_named : (im : Image) (fs : List Frame) (n q : ℕ) (old new : State) (io : Io) (rest : Stacked Operand) (xs vs : List Value) (base : Value) (r : Result (Option Name) Fault)
     → vs ≡ xs → ((w : MW) (k : List MVal → List m.Operand → m.State) → pop_many n (operands_of old.operands.top) [] w k ≡ k (map value_of xs) (operands_of rest.top))
-    → rest.under ≡ old.operands.under → rest ≡ record new.operands { top = operand.Value base ∷ new.operands.top } → new.handlers ≡ old.handlers → new.world ≡ old.world
+    → rest.under ≡ old.operands.under → rest ≡ record new.operands { top = operand.Value base ∷ new.operands.top } → new.handlers ≡ old.handlers → new.saved.items ≡ old.saved.items → new.world ≡ old.world
     → AnswersOrFails (answer_map (option_map name_of) r) (world_of old.world io) (element_op (value_of base) (map value_of vs) (world_of old.world io))
     → Named im fs q r new io (after im (op.Elem n) q fs old io)
-was_named im fs n q old new io rest xs vs base r same taken under newest handlers world h =
+was_named im fs n q old new io rest xs vs base r same taken under newest handlers saved world h =
     subst (λ st. Named im fs q r new io st) (sym here)
     (named_by im fs q new io r (element_op (value_of base) (map value_of vs) (world_of old.world io))
     (subst (λ w. AnswersOrFails (answer_map (option_map name_of) r) (world_of w io) (element_op (value_of base) (map value_of vs) (world_of old.world io))) (sym world) h))
@@ -102,8 +102,9 @@ was_named im fs n q old new io rest xs vs base r same taken under newest handler
         taken w (λ us r1. pop r1 w (λ a ops. put_name (module_of im) (element_op a us w) (o q) ops (handlers_in im old) (waiting im fs old)))
         ∙ ap (λ us. pop (operands_of rest.top) w (λ a below. put_name (module_of im) (element_op a (map value_of us) w) (o q) below (handlers_in im old) (waiting im fs old))) (sym same)
         ∙ ap (λ (ops : Stacked Operand). pop (operands_of ops.top) w (λ a below. put_name (module_of im) (element_op a (map value_of vs) w) (o q) below (handlers_in im old) (waiting im fs old))) newest
-        ∙ ap (λ (hs : Stacked Handler). put (operands_of new.operands.top) (handlers_of o hs.top) (frames_of o fs old.operands.under hs.under)) (sym handlers)
-        ∙ ap (λ us. put (operands_of new.operands.top) (handlers_in im new) (frames_of o fs us new.handlers.under)) (sym beneath)
+        ∙ ap (λ (hs : Stacked Handler). put (operands_of new.operands.top) (handlers_of o hs.top) (frames_of o fs old.operands.under hs.under old.saved.items)) (sym handlers)
+        ∙ ap (λ us. put (operands_of new.operands.top) (handlers_in im new) (frames_of o fs us new.handlers.under old.saved.items)) (sym beneath)
+        ∙ ap (λ all. put (operands_of new.operands.top) (handlers_in im new) (frames_of o fs new.operands.under new.handlers.under all)) (sym saved)
 
 -- on with the name
 pub on_named : (im : Image) (fs : List Frame) (q : ℕ) (o : Option Name) (n : Name) (called new : State) (io : Io) (result : Result (Unit {0}) Exit) (st : m.State) → o ≡ Some n → Named im fs q (Ok o) called io st

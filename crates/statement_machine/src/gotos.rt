@@ -12,7 +12,8 @@ ghost use Rattle.statement_machine.specs.Stopped.{IfHalted};
 ghost use Rattle.frames.specs.Kinds.{kinds_of};
 ghost use Rattle.frames.specs.declared.frame.Frame.{Frame};
 ghost use Rattle.world.specs.Held.{world_of};
-ghost use Rattle.statement_machine.specs.Held.{DoesIn, Left, after, waiting};
+ghost use Rattle.statement_machine.specs.Calling.{GoesTo, WaitsAsBefore};
+ghost use Rattle.statement_machine.specs.Held.{Left, after, waiting};
 ghost use Rattle.statement_machine.specs.Runnable.{IsRunnable};
 
 use crate::state::State;
@@ -23,12 +24,14 @@ use model::{ErrorCode, Instr, ReturnKind};
 use world::Fault;
 
 impl State {
-    /// To the label that a value is.
-    pub(crate) fn goto_value(&mut self, program: &Module) -> Result<(), Exit>
+    /// To the label that a value is, or out of a call, which is told.
+    pub(crate) fn goto_value(&mut self, program: &Module) -> Result<Option<ReturnKind>, Exit>
         requires runnable { IsRunnable program.now }
         requires operands { kinds_of self.old.operands.top ≡ V ∷ [] }
         requires handlers { self.old.handlers.top ≡ [] }
-        ensures left { (next : ℕ) → DoesIn program.now Instr.GotoV next result self.old self.new }
+        ensures left { (next : ℕ) (fs : List Frame) (io : Io) →
+            GoesTo program.now fs result self.new io (after program.now Instr.GotoV next fs self.old io) }
+        ensures waits { WaitsAsBefore self.old self.new }
         ensures stop { IfHalted result (λ stop. stop ≡ NoMemory) }
     {
         let label = pop_value(&mut self.operands).to_label(self.alloc);
@@ -38,19 +41,24 @@ impl State {
         }
     }
 
-    // To the statement of a label, or out of a call.
-    fn goto_label(&mut self, program: &Module, label: &[u8]) -> Result<(), Exit>
+    /// To the statement of a label, or out of a call, which is told.
+    pub(crate) fn goto_label(
+        &mut self,
+        program: &Module,
+        label: &[u8],
+    ) -> Result<Option<ReturnKind>, Exit>
         requires runnable { IsRunnable program.now }
         requires operands { self.old.operands.top ≡ [] }
         requires handlers { self.old.handlers.top ≡ [] }
         ensures left { (fs : List Frame) (io : Io) →
-            Left program.now fs result self.new io
+            GoesTo program.now fs result self.new io
             (go_to_return (module_of program.now) label.now (return_of label.now)
             (waiting program.now fs self.old) (world_of self.old.world io)) }
+        ensures waits { WaitsAsBefore self.old self.new }
         ensures stop { IfHalted result (λ stop. stop ≡ NoMemory) }
     {
         if let Some(kind) = ReturnKind::named(label) {
-            return Err(Exit::Return(kind));
+            return Ok(Some(kind));
         }
         let Some(number) = program.label(label) else {
             return Err(self.no_label());
@@ -58,7 +66,7 @@ impl State {
         match program.statement(number) {
             Some(place) => {
                 self.place = place;
-                Ok(())
+                Ok(None)
             }
             None => unreachable!(),
         }

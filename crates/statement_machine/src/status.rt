@@ -3,7 +3,7 @@
 ghost use Rattle.std.specs.Prelude.{◌≡◌};
 ghost use Rattle.statement_machine.specs.Stopped.{status_of};
 
-use model::{Ending, ReturnKind, Status, Stop};
+use model::{Ending, Status, Stop};
 use std::alloc::AllocError;
 
 /// Why no further step is made.
@@ -19,8 +19,6 @@ pub(crate) enum Exit {
     Halt(Halt),
     /// A failure that no handler of this code catches.
     Failure,
-    /// A return from the call that runs this code.
-    Return(ReturnKind),
 }
 
 impl From<AllocError> for Exit {

@@ -20,6 +20,7 @@ use std::marker::Model;
 use strings::Text;
 
 /// A function that isn't primitive. Its clones share its names.
+#[derive(Drop)]
 pub enum Function {
     /// Made by DEFINE: the label where it begins, and its prototype.
     Defined(Text, FunctionPrototype),
@@ -27,14 +28,6 @@ pub enum Function {
     Constructor(Names),
     /// Made by DATA: the field that has its name.
     Field,
-}
-
-impl Drop for Function {
-    fn drop(self) {
-        match self {
-            Function::Defined(_, _) | Function::Constructor(_) | Function::Field => {}
-        }
-    }
 }
 
 impl Clone for Function {

@@ -25,8 +25,8 @@ returns-in-Some-Statement-clause-left c im fs io =
     let hs = handlers_of o new_hs.top in
     subst (λ x. fail_to (handlers_of o s.handlers.top) (operands_of s.operands.top) waits w ≡ caught_at o (Some x) ops hs waits w) c.in-Some-Statement.field-0-is (c.in-Some-Statement.ensures.leads o waits w)
     ∙ ap (λ v. Run to ops hs waits v) (sym (c.count_failure.ensures io))
-    ∙ ap (λ us. Run to ops hs (frames_of o fs us s.handlers.under) w1) (sym (ap (λ (l : Stacked Operand). l.under) c.in-Some-Statement.ensures.operands))
-    ∙ ap (λ us. Run to ops hs (frames_of o fs new_ops.under us) w1) (sym (ap (λ (l : Stacked Handler). l.under) c.in-Some-Statement.ensures.handlers))
+    ∙ ap (λ us. Run to ops hs (frames_of o fs us s.handlers.under s.saved.items) w1) (sym (ap (λ (l : Stacked Operand). l.under) c.in-Some-Statement.ensures.operands))
+    ∙ ap (λ us. Run to ops hs (frames_of o fs new_ops.under us s.saved.items) w1) (sym (ap (λ (l : Stacked Handler). l.under) c.in-Some-Statement.ensures.handlers))
 
 pub returns-in-Some-Try-clause-left : goal.returns-in-Some-Try-clause-left
 returns-in-Some-Try-clause-left c im fs io =
@@ -40,5 +40,5 @@ returns-in-Some-Try-clause-left c im fs io =
     let ops = operands_of new_ops.top in
     let hs = handlers_of o new_hs.top in
     subst (λ x. fail_to (handlers_of o s.handlers.top) (operands_of s.operands.top) waits w ≡ caught_at o (Some x) ops hs waits w) c.in-Some-Try.field-0-is (c.in-Some-Try.ensures.leads o waits w)
-    ∙ ap (λ us. Run to ops hs (frames_of o fs us s.handlers.under) w) (sym (ap (λ (l : Stacked Operand). l.under) c.in-Some-Try.ensures.operands))
-    ∙ ap (λ us. Run to ops hs (frames_of o fs new_ops.under us) w) (sym (ap (λ (l : Stacked Handler). l.under) c.in-Some-Try.ensures.handlers))
+    ∙ ap (λ us. Run to ops hs (frames_of o fs us s.handlers.under s.saved.items) w) (sym (ap (λ (l : Stacked Operand). l.under) c.in-Some-Try.ensures.operands))
+    ∙ ap (λ us. Run to ops hs (frames_of o fs new_ops.under us s.saved.items) w) (sym (ap (λ (l : Stacked Handler). l.under) c.in-Some-Try.ensures.handlers))

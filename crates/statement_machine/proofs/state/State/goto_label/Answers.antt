@@ -6,7 +6,8 @@ use Rattle.frames.specs.declared.handler.Handler.{Handler}
 use Rattle.frames.specs.declared.operand.Operand.{Operand}
 use Rattle.loader.specs.Places.{offset_at}
 use Rattle.world.specs.Held.{world_of}
-use Rattle.statement_machine.specs.Held.{Left, waiting}
+use Rattle.statement_machine.specs.Calling.{GoesTo}
+use Rattle.statement_machine.specs.Held.{waiting}
 use Rattle.statement_machine.proofs.Flowing.{statement_begins}
 use Rattle.statement_machine.proofs.Going.{leaves_not}
 use Rattle.statement_machine.proofs.state.State.goto_label.Goals as goal
@@ -17,7 +18,7 @@ returns-in_default-label-clause-left c fs io =
     let s = c.args.self.now in
     let waits = waiting im fs s in
     let w = world_of s.world io in
-    subst (λ st. Left im fs (Err c.no_label.result) s io st)
+    subst (λ st. GoesTo im fs (Err c.no_label.result) s io st)
     (sym (leaves_not im c.args.label.now _ waits w (sym c.named.ensures ∙ c.in_default.is) ∙ ap (λ x. go_to_known (module_of im) x waits w) (sym c.label.ensures ∙ c.in_default-label.is)))
     (c.no_label.ensures.left im fs 0 io)
 

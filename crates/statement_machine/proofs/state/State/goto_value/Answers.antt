@@ -5,7 +5,8 @@ use Rattle.model.specs.Module.Images.{module_of}
 use Rattle.world.specs.Held.{world_of}
 use Rattle.frames.specs.Stacked.{Stacked}
 use Rattle.frames.specs.declared.operand.Operand.{Operand}
-use Rattle.statement_machine.specs.Held.{Left, waiting}
+use Rattle.statement_machine.specs.Calling.{GoesTo}
+use Rattle.statement_machine.specs.Held.{waiting}
 use Rattle.statement_machine.proofs.Flowing.{last_operand}
 use Rattle.statement_machine.proofs.Going.{by_label, by_none}
 use Rattle.statement_machine.proofs.state.State.goto_value.Goals as goal
@@ -18,8 +19,8 @@ goto_label-requires-clause-operands c = last_operand c.args.self.now.operands.to
 
 pub returns-in-Ok-clause-left : goal.returns-in-Ok-clause-left
 returns-in-Ok-clause-left c next fs io =
-    subst (λ st. Left c.args.program.now fs c.goto_label.result c.goto_label.new.self io st) (sym (by_label c.args.program.now fs next c.args.self.now (record c.args.self.now { operands = c.pop_value.new.operands }) c.pop_value.result io c.pop_value.ensures c.in-Ok.label c.in-Ok.ensures.label))
-    (subst (λ l. Left c.args.program.now fs c.goto_label.result c.goto_label.new.self io (go_to_return (module_of c.args.program.now) l (return_of l) (waiting c.args.program.now fs (record c.args.self.now { operands = c.pop_value.new.operands })) (world_of c.args.self.now.world io))) c.as_slice.ensures (c.goto_label.ensures.left fs io))
+    subst (λ st. GoesTo c.args.program.now fs c.goto_label.result c.goto_label.new.self io st) (sym (by_label c.args.program.now fs next c.args.self.now (record c.args.self.now { operands = c.pop_value.new.operands }) c.pop_value.result io c.pop_value.ensures c.in-Ok.label c.in-Ok.ensures.label))
+    (subst (λ l. GoesTo c.args.program.now fs c.goto_label.result c.goto_label.new.self io (go_to_return (module_of c.args.program.now) l (return_of l) (waiting c.args.program.now fs (record c.args.self.now { operands = c.pop_value.new.operands })) (world_of c.args.self.now.world io))) c.as_slice.ensures (c.goto_label.ensures.left fs io))
 
 pub returns-in-Err-clause-left : goal.returns-in-Err-clause-left
 returns-in-Err-clause-left c next fs io =
