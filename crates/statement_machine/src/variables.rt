@@ -15,7 +15,7 @@ ghost use Rattle.world.specs.Held.{world_of};
 ghost use Rattle.world.specs.Values.{value_of};
 ghost use Rattle.statement_machine.specs.Held.{Left, Meets, StaysSound, after, handlers_in, waiting};
 ghost use Rattle.statement_machine.specs.Stopped.{halted_by};
-ghost use Rattle.unit_io.specs.Service.{KeepsCounts, Served};
+ghost use Rattle.unit_io.specs.Service.{IsQuiet, KeepsCounts, Served};
 
 use crate::state::State;
 use crate::status::Exit;
@@ -76,6 +76,7 @@ impl State {
         ensures served { Served U.Units (halted_by result) units.old units.new (λ io io'.
             (im : Image) (fs : List Frame)
             → Left im fs result self.new io' (after im Instr.Assign next fs self.old io)) }
+        ensures quiet { IsQuiet (halted_by result) (U.told units.old) (U.told units.new) }
         ensures sound { (im : Image) (fs : List Frame) → Meets im Instr.Assign next fs self.old
             → StaysSound im fs result self.new }
     {
@@ -91,6 +92,7 @@ impl State {
         ensures served { Served U.Units (halted_by result) units.old units.new (λ io io'.
             (im : Image) (fs : List Frame)
             → Left im fs result self.new io' (after im Instr.Fetch next fs self.old io)) }
+        ensures quiet { IsQuiet (halted_by result) (U.told units.old) (U.told units.new) }
         ensures sound { (im : Image) (fs : List Frame) → Meets im Instr.Fetch next fs self.old
             → StaysSound im fs result self.new }
     {
@@ -105,6 +107,7 @@ impl State {
         ensures served { Served U.Units (halted_by result) units.old units.new (λ io io'.
             (im : Image) (fs : List Frame)
             → Left im fs result self.new io' (after im Instr.FetchK next fs self.old io)) }
+        ensures quiet { IsQuiet (halted_by result) (U.told units.old) (U.told units.new) }
         ensures sound { (im : Image) (fs : List Frame) → Meets im Instr.FetchK next fs self.old
             → StaysSound im fs result self.new }
     {
@@ -118,6 +121,7 @@ impl State {
         ensures served { Served U.Units (halted_by result) units.old units.new (λ io io'.
             (im : Image) (fs : List Frame)
             → Left im fs result self.new io' (after im Instr.Splice next fs self.old io)) }
+        ensures quiet { IsQuiet (halted_by result) (U.told units.old) (U.told units.new) }
         ensures sound { (im : Image) (fs : List Frame) → Meets im Instr.Splice next fs self.old
             → StaysSound im fs result self.new }
     {

@@ -1,5 +1,5 @@
 -- What units did for a call.
-use Rattle.std.specs.Prelude.{◌≢◌, ℕ, Option, Some, None}
+use Rattle.std.specs.Prelude.{◌≡◌, ◌≢◌, ℕ, Option, Some, None}
 use Rattle.model.specs.Language.Io.{Io}
 use Rattle.model.specs.Language.Told.{IfTold}
 use Rattle.model.specs.Language.Units.{IsCounted}
@@ -23,3 +23,8 @@ KeepsCounts (Some why) old new = IsStop why old new
 pub record Served {U : Type 0} (units : Units U) (why : Option Stop) (old new : U) (P : Io → Io → Type 0) : Type 0 where
   pub told : IfTold (units.told old) (units.told new) P
   pub counts : KeepsCounts why (units.failures old) (units.failures new)
+
+-- a call that stopped printed nothing: what was printed before is what was printed after
+abbrev pub IsQuiet : Option Stop → Option Io → Option Io → Type 0
+IsQuiet None before after = Unit {0}
+IsQuiet (Some why) before after = IfTold before after (λ io io'. io'.printed ≡ io.printed)
