@@ -1,6 +1,6 @@
 //! Instructions that may read from a unit or write to one, by a variable that has it.
 
-ghost use Rattle.std.specs.Prelude.{ℕ, ◌∷◌, List, [], option_map};
+ghost use Rattle.std.specs.Prelude.{ℕ, ◌∷◌, List, [], option_map, ◌≡◌, Some, IfSome};
 ghost use Rattle.model.specs.Language.Conversions.{Op};
 ghost use Rattle.model.specs.Module.Flow.{V, N, R};
 ghost use Rattle.model.specs.Language.Io.{Io};
@@ -36,6 +36,7 @@ impl State {
             (handlers_in im self.old) (waiting im fs self.old) w)) }
         ensures counts { (old new : ℕ → ℕ) → KeepsCounts (stopped_by answer) old new
             → KeepsCounts (halted_by result) old new }
+        ensures stop { IfSome (halted_by result) (λ why. stopped_by answer ≡ Some why) }
     {
         match answer {
             Ok(()) => {

@@ -24,7 +24,11 @@ pub record Served {U : Type 0} (units : Units U) (why : Option Stop) (old new : 
   pub told : IfTold (units.told old) (units.told new) P
   pub counts : KeepsCounts why (units.failures old) (units.failures new)
 
--- a call that stopped printed nothing: what was printed before is what was printed after
+-- what was printed before is what was printed after
+abbrev pub PrintsNothing : Option Io → Option Io → Type 0
+PrintsNothing before after = IfTold before after (λ io io'. io'.printed ≡ io.printed)
+
+-- a call that stopped printed nothing
 abbrev pub IsQuiet : Option Stop → Option Io → Option Io → Type 0
 IsQuiet None before after = Unit {0}
-IsQuiet (Some why) before after = IfTold before after (λ io io'. io'.printed ≡ io.printed)
+IsQuiet (Some why) before after = PrintsNothing before after

@@ -12,7 +12,7 @@ ghost use Rattle.pattern_compiler.specs.View.{name_of};
 ghost use Rattle.world.specs.Values.{value_of};
 ghost use Rattle.world.specs.Held.{WorldView, IsSet, IsSetOrKept, world_of, taken, variable_at, value_in};
 ghost use Rattle.world.specs.Answers.{answer_map, AnswersAs, AnswersOrFails, done, IfStopped, stop_of, stopped_by};
-ghost use Rattle.unit_io.specs.Service.{IsQuiet, Served};
+ghost use Rattle.unit_io.specs.Service.{IsQuiet, PrintsNothing, Served};
 
 use crate::fault::Fault;
 use crate::value::Value;
@@ -32,7 +32,7 @@ impl World {
         ensures served { Served U.Units (stopped_by result) units.old units.new (λ io io'.
             AnswersOrFails (answer_map (option_map value_of) result) (world_of self.new io')
             (fetch_op (name_of name.now) (world_of self.old io))) }
-        ensures quiet { IsQuiet (stopped_by result) (U.told units.old) (U.told units.new) }
+        ensures quiet { PrintsNothing (U.told units.old) (U.told units.new) }
         ensures err { OnErr result (self.new ≡ self.old) }
         ensures end { result ≡ Ok None → self.new ≡ self.old }
     {
@@ -49,7 +49,7 @@ impl World {
         ensures served { Served U.Units (stopped_by result) units.old units.new (λ io io'.
             AnswersOrFails (answer_map (option_map value_of) result) (world_of self.new io')
             (fetch_op (name_of name.now) (world_of self.old io))) }
-        ensures quiet { IsQuiet (stopped_by result) (U.told units.old) (U.told units.new) }
+        ensures quiet { PrintsNothing (U.told units.old) (U.told units.new) }
         ensures err { OnErr result (self.new ≡ self.old) }
         ensures end { result ≡ Ok None → self.new ≡ self.old }
     {
@@ -73,7 +73,7 @@ impl World {
         ensures served { Served U.Units (stopped_by result) units.old units.new (λ io io'.
             AnswersOrFails (answer_map (option_map value_of) result) (world_of self.new io')
             (fetch_op (Variable name.now) (world_of self.old io))) }
-        ensures quiet { IsQuiet (stopped_by result) (U.told units.old) (U.told units.new) }
+        ensures quiet { PrintsNothing (U.told units.old) (U.told units.new) }
         ensures err { OnErr result (self.new ≡ self.old) }
         ensures end { result ≡ Ok None → self.new ≡ self.old }
     {
@@ -99,7 +99,7 @@ impl World {
         ensures served { Served U.Units (stopped_by result) units.old units.new (λ io io'.
             AnswersOrFails (answer_map (option_map value_of) result) (world_of self.new io')
             (take_record name.now unit (io.left unit) (world_of self.old io))) }
-        ensures quiet { IsQuiet (stopped_by result) (U.told units.old) (U.told units.new) }
+        ensures quiet { PrintsNothing (U.told units.old) (U.told units.new) }
         ensures err { OnErr result (self.new ≡ self.old) }
         ensures end { result ≡ Ok None → self.new ≡ self.old }
     {
