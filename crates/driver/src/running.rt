@@ -2,12 +2,13 @@
 
 ghost use Rattle.std.specs.Prelude.{◌≡◌, ℕ, List, Err, Ok, IfErr, IfOk, OnErr, OnOk};
 ghost use Rattle.model.specs.declared.image.Image.{Image};
+ghost use Rattle.model.specs.Language.Told.{IfTold};
 ghost use Rattle.model.specs.Module.Images.{card_of};
 ghost use Rattle.model.specs.Module.Reading.{read_image};
 ghost use Rattle.loader.specs.Answers.{IsAnswer};
 ghost use Rattle.loader.specs.Loaded.{IsLoaded};
-ghost use Rattle.statement_machine.specs.Stopped.{IfRan, ending_of, stop_of_run};
-ghost use Rattle.statement_machine.specs.Runs.{IsRun};
+ghost use Rattle.statement_machine.specs.Stopped.{IfRan, IfStop, ending_of, stop_of_run};
+ghost use Rattle.statement_machine.specs.Runs.{IsRun, IsStoppedRun};
 ghost use Rattle.unit_io.specs.Service.{Served};
 ghost use Rattle.driver.specs.Cards.{card_told, number_in};
 ghost use Rattle.driver.specs.Compiled.{IsModuleOf};
@@ -71,8 +72,12 @@ pub fn run_with_card<U: Units>(
     ensures served { IfOk result (λ ran. (m : Image) → read_image bytes.now ≡ Ok m →
         Served U.Units (stop_of_run ran.status) units.old units.new (λ io io'.
         IfRan ran.status (IsRun m bound (ending_of ran.status) io io'))) }
+    // A run that stopped has printed a beginning of what the machine prints.
+    ensures printed { IfOk result (λ ran. (m : Image) → read_image bytes.now ≡ Ok m →
+        IfStop ran.status (IfTold (U.told units.old) (U.told units.new) (IsStoppedRun m bound))) }
     // Of a module that compile_deck wrote, in the words of its deck alone: it ended as the deck's meaning does at some
-    // depth, with exactly that printed, or runs on, and what it printed is a beginning of what the meaning prints.
+    // depth, with exactly that printed, or runs on or was stopped, and what it printed is a beginning of what the meaning
+    // prints.
     ensures meant { IfOk result (λ ran.
         (deck : List ℕ) → IsModuleOf deck bytes.now
         → IsMeant deck ran.status (U.told units.old) (U.told units.new)) }
@@ -105,8 +110,12 @@ pub fn run_module<U: Units>(
     ensures served { IfOk result (λ status. (m : Image) → read_image bytes.now ≡ Ok m →
         Served U.Units (stop_of_run status) units.old units.new (λ io io'.
         IfRan status (IsRun m bound (ending_of status) io io'))) }
+    // A run that stopped has printed a beginning of what the machine prints.
+    ensures printed { IfOk result (λ status. (m : Image) → read_image bytes.now ≡ Ok m →
+        IfStop status (IfTold (U.told units.old) (U.told units.new) (IsStoppedRun m bound))) }
     // Of a module that compile_deck wrote, in the words of its deck alone: it ended as the deck's meaning does at some
-    // depth, with exactly that printed, or runs on, and what it printed is a beginning of what the meaning prints.
+    // depth, with exactly that printed, or runs on or was stopped, and what it printed is a beginning of what the meaning
+    // prints.
     ensures meant { IfOk result (λ status.
         (deck : List ℕ) → IsModuleOf deck bytes.now
         → IsMeant deck status (U.told units.old) (U.told units.new)) }

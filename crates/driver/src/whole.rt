@@ -35,7 +35,7 @@ pub fn run_deck<U: Units>(
     ensures refused { IfErr result (IsRefusalOf deck.now) }
     ensures untouched { OnErr result (units.new ≡ units.old) }
     // In the deck's own words: the run ended as its meaning does at some depth, with exactly that printed, or it runs
-    // on, and what it printed is a beginning of what its meaning prints at some depth.
+    // on or was stopped, and what it printed is a beginning of what its meaning prints at some depth.
     ensures meant { IfOk result (λ status.
         IsMeant deck.now status (U.told units.old) (U.told units.new)) }
     // Where the meaning ends having used r rules, a run of STEPS_PER_RULE * (r + 1) steps or more has ended so.

@@ -14,3 +14,4 @@ pub mod Stopping
 pub mod Telling
 pub mod WellFormed
 pub mod Named
+pub mod Printing

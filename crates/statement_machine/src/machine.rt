@@ -2,13 +2,14 @@
 
 ghost use Rattle.std.specs.Prelude.{◌≡◌, Option, Some, None, IfOk};
 ghost use Rattle.model.specs.Language.Io.{Io};
+ghost use Rattle.model.specs.Language.Told.{IfTold};
 ghost use Rattle.model.specs.Laws.Agreement.{first_m};
 ghost use Rattle.model.specs.Laws.PrintedBefore.{after_s};
 ghost use Rattle.model.specs.Machine.Steps as m;
 ghost use Rattle.model.specs.Machine.Steps.{begun, steps};
 ghost use Rattle.model.specs.Module.Images.{module_of};
-ghost use Rattle.statement_machine.specs.Runs.{Holds, IsRun};
-ghost use Rattle.statement_machine.specs.Stopped.{IfRan, ending_of, status_at, stop_of_run, stopped_now};
+ghost use Rattle.statement_machine.specs.Runs.{Holds, IsRun, IsStoppedRun, PrintsWithin};
+ghost use Rattle.statement_machine.specs.Stopped.{IfRan, IfStop, ending_of, status_at, stop_of_run, stopped_now};
 ghost use Rattle.unit_io.specs.Service.{Served};
 ghost use Rattle.statement_machine.specs.declared.status.Halt.{Halt as RustHalt};
 
@@ -65,6 +66,9 @@ impl<'m> Machine<'m> {
             (stopped_now self.old.halt result) units.old units.new (λ io io'.
             IfRan result ((st : m.State) → Holds self.old io st
             → Holds self.new io' (steps (module_of self.old.image) bound st))) }
+        ensures printed { (st : Io → m.State) → ((io : Io) → Holds self.old io (st io)) →
+            PrintsWithin (stopped_now self.old.halt result) (U.told units.old) (U.told units.new) (λ io.
+            steps (module_of self.old.image) bound (st io)) }
         ensures again { (halt : RustHalt) → self.old.halt ≡ Some halt → (self.new ≡ self.old)
             × (units.new ≡ units.old) }
     {
@@ -91,6 +95,9 @@ pub fn run_from_entry<U: Units>(
     // What was printed follows what was printed before.
     ensures served { Served U.Units (stop_of_run result) units.old units.new (λ io io'.
         IfRan result (IsRun program.now bound (ending_of result) io io')) }
+    // A run that stopped has printed a beginning of what the machine prints.
+    ensures printed { IfStop result
+        (IfTold (U.told units.old) (U.told units.new) (IsStoppedRun program.now bound)) }
 {
     match Machine::new(alloc, program) {
         Ok(mut machine) => machine.run(units, bound),

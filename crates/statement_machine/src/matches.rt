@@ -12,7 +12,7 @@ ghost use Rattle.model.specs.Pattern.Patterns.{Matched};
 ghost use Rattle.model.specs.declared.image.Image.{Image};
 ghost use Rattle.model.specs.declared.run.Stop.TheVariants.{NoMemory};
 ghost use Rattle.statement_machine.specs.Held.{Left, waiting};
-ghost use Rattle.statement_machine.specs.Runs.{found_kinds, matching_in};
+ghost use Rattle.statement_machine.specs.Runs.{PrintsTo, PrintsWithin, found_kinds, matching_in, world_in};
 ghost use Rattle.statement_machine.specs.Stopped.{GoesOrHalts, halted_by};
 ghost use Rattle.unit_io.specs.Service.{Served};
 ghost use Rattle.world.specs.Answers.{AnswersAs, done, stopped_by};
@@ -37,6 +37,8 @@ fn assign_all<U: Units>(
     ensures served { Served U.Units (stopped_by result) units.old units.new (λ io io'.
         AnswersAs (done result) (world_of world.new io')
         (assign_all (pending_of pending.now) (world_of world.old io))) }
+    ensures printed { PrintsTo (stopped_by result) (U.told units.old) (U.told units.new) (λ io.
+        world_in (assign_all (pending_of pending.now) (world_of world.old io))) }
 {
     for assignment in pending {
         let value = Value::String(assignment.value.clone()?);
@@ -73,6 +75,11 @@ impl State {
             (on_event (module_of im) (Matched start end (pending_of pending.items))
             (matching_in im matching self.old) matching.search.state (waiting im fs self.old)
             (world_of self.old.world io))) }
+        ensures printed { (im : Image) (fs : List Frame)
+            → PrintsWithin (halted_by result) (U.told units.old) (U.told units.new) (λ io.
+            on_event (module_of im) (Matched start end (pending_of pending.items))
+            (matching_in im matching self.old) matching.search.state (waiting im fs self.old)
+            (world_of self.old.world io)) }
         ensures shape { OnOk result
             ((self.new.place ≡ matching.place) × (self.new.handlers ≡ self.old.handlers)
             × (self.new.operands.under ≡ self.old.operands.under)

@@ -8,7 +8,7 @@ ghost use Rattle.frames.specs.declared.frame.Frame.{Frame};
 ghost use Rattle.statement_machine.specs.Held.{Left, StaysSound};
 ghost use Rattle.statement_machine.specs.Resuming.{CallerStands, resumed_with};
 ghost use Rattle.statement_machine.specs.Stopped.{IfHalted, halted_by};
-ghost use Rattle.unit_io.specs.Service.{Served};
+ghost use Rattle.unit_io.specs.Service.{IsQuiet, Served};
 
 use crate::state::State;
 use crate::status::Exit;
@@ -26,6 +26,7 @@ impl State {
         ensures served { Served U.Units (halted_by result) units.old units.new (λ io io'.
             (im : Image) (fs : List Frame)
             → Left im fs result self.new io' (resumed_with im fs false next given self.old io)) }
+        ensures quiet { IsQuiet (halted_by result) (U.told units.old) (U.told units.new) }
         ensures sound { (im : Image) (fs : List Frame) → CallerStands im fs false next self.old
             → StaysSound im fs result self.new }
     {
@@ -56,6 +57,7 @@ impl State {
         ensures served { Served U.Units (halted_by result) units.old units.new (λ io io'.
             (im : Image) (fs : List Frame)
             → Left im fs result self.new io' (resumed_with im fs want_name next given self.old io)) }
+        ensures quiet { IsQuiet (halted_by result) (U.told units.old) (U.told units.new) }
         ensures sound { (im : Image) (fs : List Frame) → CallerStands im fs want_name next self.old
             → StaysSound im fs result self.new }
     {

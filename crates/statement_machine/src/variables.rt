@@ -1,6 +1,6 @@
 //! Instructions that may read from a unit or write to one, by a variable that has it.
 
-ghost use Rattle.std.specs.Prelude.{ℕ, ◌∷◌, List, [], option_map};
+ghost use Rattle.std.specs.Prelude.{ℕ, ◌∷◌, List, [], option_map, ◌≡◌, Some, IfSome};
 ghost use Rattle.model.specs.Language.Conversions.{Op};
 ghost use Rattle.model.specs.Module.Flow.{V, N, R};
 ghost use Rattle.model.specs.Language.Io.{Io};
@@ -15,7 +15,7 @@ ghost use Rattle.world.specs.Held.{world_of};
 ghost use Rattle.world.specs.Values.{value_of};
 ghost use Rattle.statement_machine.specs.Held.{Left, Meets, StaysSound, after, handlers_in, waiting};
 ghost use Rattle.statement_machine.specs.Stopped.{halted_by};
-ghost use Rattle.unit_io.specs.Service.{KeepsCounts, Served};
+ghost use Rattle.unit_io.specs.Service.{IsQuiet, KeepsCounts, Served};
 
 use crate::state::State;
 use crate::status::Exit;
@@ -36,6 +36,7 @@ impl State {
             (handlers_in im self.old) (waiting im fs self.old) w)) }
         ensures counts { (old new : ℕ → ℕ) → KeepsCounts (stopped_by answer) old new
             → KeepsCounts (halted_by result) old new }
+        ensures stop { IfSome (halted_by result) (λ why. stopped_by answer ≡ Some why) }
     {
         match answer {
             Ok(()) => {
@@ -76,6 +77,7 @@ impl State {
         ensures served { Served U.Units (halted_by result) units.old units.new (λ io io'.
             (im : Image) (fs : List Frame)
             → Left im fs result self.new io' (after im Instr.Assign next fs self.old io)) }
+        ensures quiet { IsQuiet (halted_by result) (U.told units.old) (U.told units.new) }
         ensures sound { (im : Image) (fs : List Frame) → Meets im Instr.Assign next fs self.old
             → StaysSound im fs result self.new }
     {
@@ -91,6 +93,7 @@ impl State {
         ensures served { Served U.Units (halted_by result) units.old units.new (λ io io'.
             (im : Image) (fs : List Frame)
             → Left im fs result self.new io' (after im Instr.Fetch next fs self.old io)) }
+        ensures quiet { IsQuiet (halted_by result) (U.told units.old) (U.told units.new) }
         ensures sound { (im : Image) (fs : List Frame) → Meets im Instr.Fetch next fs self.old
             → StaysSound im fs result self.new }
     {
@@ -105,6 +108,7 @@ impl State {
         ensures served { Served U.Units (halted_by result) units.old units.new (λ io io'.
             (im : Image) (fs : List Frame)
             → Left im fs result self.new io' (after im Instr.FetchK next fs self.old io)) }
+        ensures quiet { IsQuiet (halted_by result) (U.told units.old) (U.told units.new) }
         ensures sound { (im : Image) (fs : List Frame) → Meets im Instr.FetchK next fs self.old
             → StaysSound im fs result self.new }
     {
@@ -118,6 +122,7 @@ impl State {
         ensures served { Served U.Units (halted_by result) units.old units.new (λ io io'.
             (im : Image) (fs : List Frame)
             → Left im fs result self.new io' (after im Instr.Splice next fs self.old io)) }
+        ensures quiet { IsQuiet (halted_by result) (U.told units.old) (U.told units.new) }
         ensures sound { (im : Image) (fs : List Frame) → Meets im Instr.Splice next fs self.old
             → StaysSound im fs result self.new }
     {

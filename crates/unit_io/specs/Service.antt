@@ -1,5 +1,5 @@
 -- What units did for a call.
-use Rattle.std.specs.Prelude.{◌≢◌, ℕ, Option, Some, None}
+use Rattle.std.specs.Prelude.{◌≡◌, ◌≢◌, ℕ, Option, Some, None}
 use Rattle.model.specs.Language.Io.{Io}
 use Rattle.model.specs.Language.Told.{IfTold}
 use Rattle.model.specs.Language.Units.{IsCounted}
@@ -23,3 +23,12 @@ KeepsCounts (Some why) old new = IsStop why old new
 pub record Served {U : Type 0} (units : Units U) (why : Option Stop) (old new : U) (P : Io → Io → Type 0) : Type 0 where
   pub told : IfTold (units.told old) (units.told new) P
   pub counts : KeepsCounts why (units.failures old) (units.failures new)
+
+-- what was printed before is what was printed after
+abbrev pub PrintsNothing : Option Io → Option Io → Type 0
+PrintsNothing before after = IfTold before after (λ io io'. io'.printed ≡ io.printed)
+
+-- a call that stopped printed nothing
+abbrev pub IsQuiet : Option Stop → Option Io → Option Io → Type 0
+IsQuiet None before after = Unit {0}
+IsQuiet (Some why) before after = PrintsNothing before after

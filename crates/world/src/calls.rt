@@ -12,7 +12,7 @@ ghost use Rattle.world.specs.Answers.{answer_map, op_of, stopped_by, AnswersOrFa
 ghost use Rattle.world.specs.Calling.{AreSaved, IsKept, LeavesTo, given_of, kept_with, saved_as, saved_below, saved_by};
 ghost use Rattle.world.specs.Held.{value_in, variable_at, world_of};
 ghost use Rattle.world.specs.Values.{value_of};
-ghost use Rattle.unit_io.specs.Service.{Served};
+ghost use Rattle.unit_io.specs.Service.{PrintsNothing, Served};
 
 use crate::arguments::argument;
 use crate::fault::Fault;
@@ -207,6 +207,7 @@ impl World {
         ensures served { Served U.Units (stopped_by result) units.old units.new (λ io io'.
             AnswersOrFails (answer_map (option_map value_of) result) (world_of self.new io')
             (as_value (given_of given) (world_of self.old io))) }
+        ensures quiet { PrintsNothing (U.told units.old) (U.told units.new) }
         ensures err { OnErr result (self.new ≡ self.old) }
     {
         match given {

@@ -12,7 +12,7 @@ ghost use Rattle.pattern_compiler.specs.View.{name_of};
 ghost use Rattle.world.specs.Values.{value_of};
 ghost use Rattle.world.specs.Held.{WorldView, IsSet, IsSetOrKept, world_of, taken, variable_at, value_in};
 ghost use Rattle.world.specs.Answers.{answer_map, AnswersAs, AnswersOrFails, done, IfStopped, stop_of, stopped_by};
-ghost use Rattle.unit_io.specs.Service.{Served};
+ghost use Rattle.unit_io.specs.Service.{IsQuiet, PrintsNothing, Served};
 
 use crate::fault::Fault;
 use crate::value::Value;
@@ -32,6 +32,7 @@ impl World {
         ensures served { Served U.Units (stopped_by result) units.old units.new (λ io io'.
             AnswersOrFails (answer_map (option_map value_of) result) (world_of self.new io')
             (fetch_op (name_of name.now) (world_of self.old io))) }
+        ensures quiet { PrintsNothing (U.told units.old) (U.told units.new) }
         ensures err { OnErr result (self.new ≡ self.old) }
         ensures end { result ≡ Ok None → self.new ≡ self.old }
     {
@@ -48,6 +49,7 @@ impl World {
         ensures served { Served U.Units (stopped_by result) units.old units.new (λ io io'.
             AnswersOrFails (answer_map (option_map value_of) result) (world_of self.new io')
             (fetch_op (name_of name.now) (world_of self.old io))) }
+        ensures quiet { PrintsNothing (U.told units.old) (U.told units.new) }
         ensures err { OnErr result (self.new ≡ self.old) }
         ensures end { result ≡ Ok None → self.new ≡ self.old }
     {
@@ -71,6 +73,7 @@ impl World {
         ensures served { Served U.Units (stopped_by result) units.old units.new (λ io io'.
             AnswersOrFails (answer_map (option_map value_of) result) (world_of self.new io')
             (fetch_op (Variable name.now) (world_of self.old io))) }
+        ensures quiet { PrintsNothing (U.told units.old) (U.told units.new) }
         ensures err { OnErr result (self.new ≡ self.old) }
         ensures end { result ≡ Ok None → self.new ≡ self.old }
     {
@@ -96,6 +99,7 @@ impl World {
         ensures served { Served U.Units (stopped_by result) units.old units.new (λ io io'.
             AnswersOrFails (answer_map (option_map value_of) result) (world_of self.new io')
             (take_record name.now unit (io.left unit) (world_of self.old io))) }
+        ensures quiet { PrintsNothing (U.told units.old) (U.told units.new) }
         ensures err { OnErr result (self.new ≡ self.old) }
         ensures end { result ≡ Ok None → self.new ≡ self.old }
     {
@@ -148,6 +152,7 @@ impl World {
         ensures served { Served U.Units (stopped_by result) units.old units.new (λ io io'.
             AnswersAs (done result) (world_of self.new io')
             (assign_op (name_of name.now) (value_of value) (world_of self.old io))) }
+        ensures quiet { IsQuiet (stopped_by result) (U.told units.old) (U.told units.new) }
         ensures ok { OnOk result (IsSet (name_of name.now) (value_of value) self.old self.new) }
         ensures err { OnErr result
             (IsSetOrKept (name_of name.now) (value_of value) self.old self.new) }
@@ -167,6 +172,7 @@ impl World {
         ensures served { Served U.Units (stopped_by result) units.old units.new (λ io io'.
             AnswersAs (done result) (world_of self.new io')
             (assign_op (name_of name.now) (value_of value) (world_of self.old io))) }
+        ensures quiet { IsQuiet (stopped_by result) (U.told units.old) (U.told units.new) }
         ensures ok { OnOk result (IsSet (name_of name.now) (value_of value) self.old self.new) }
         ensures err { OnErr result
             (IsSetOrKept (name_of name.now) (value_of value) self.old self.new) }
@@ -196,6 +202,7 @@ impl World {
         ensures served { Served U.Units (stopped_by result) units.old units.new (λ io io'.
             AnswersAs (done result) (world_of self.new io')
             (assign_op (Variable name.now) (value_of value) (world_of self.old io))) }
+        ensures quiet { IsQuiet (stopped_by result) (U.told units.old) (U.told units.new) }
         ensures ok { OnOk result (IsSet (Variable name.now) (value_of value) self.old self.new) }
         ensures err { OnErr result
             (IsSetOrKept (Variable name.now) (value_of value) self.old self.new) }
@@ -219,6 +226,7 @@ impl World {
             AnswersAs (done result) (world_of self.new io')
             (splice_op (name_of name.now) span.now.subject span.now.start span.now.end
             (value_of value.now) (world_of self.old io))) }
+        ensures quiet { IsQuiet (stopped_by result) (U.told units.old) (U.told units.new) }
         ensures only { (self.new ≡ self.old) ⊎
             ((v : MVal) × IsSet (name_of name.now) v self.old self.new) }
     {
@@ -239,6 +247,7 @@ impl World {
             AnswersAs (done result) (world_of self.new io')
             (splice_op (name_of name.now) span.now.subject span.now.start span.now.end
             (value_of value.now) (world_of self.old io))) }
+        ensures quiet { IsQuiet (stopped_by result) (U.told units.old) (U.told units.new) }
         ensures only { (self.new ≡ self.old) ⊎
             ((v : MVal) × IsSet (name_of name.now) v self.old self.new) }
     {
@@ -260,6 +269,7 @@ impl World {
             AnswersAs (done result) (world_of self.now io')
             (write_var (Some unit) (value_in (variable_at name.now self.now.variables))
             (world_of self.now io))) }
+        ensures quiet { IsQuiet (stopped_by result) (U.told units.old) (U.told units.new) }
     {
         if is_zero(&self.keywords, KeyId::Output) {
             return Ok(());
@@ -276,6 +286,7 @@ fn print<U: Units>(alloc: Global, units: &mut U, unit: u8, value: &Value) -> Res
     ensures served { Served U.Units (stopped_by result) units.old units.new (λ io io'.
         (h : WorldView) → AnswersAs (done result) (world_of h io')
         (print_text unit (to_text (value_of value.now)) (world_of h io))) }
+    ensures quiet { IsQuiet (stopped_by result) (U.told units.old) (U.told units.new) }
 {
     let text = match value.to_text(alloc) {
         Ok(text) => text,

@@ -139,6 +139,9 @@ module _ (img : Module) where
   event_on (Asks (SayThat x v)) g st fs m = op_on g.hs g.ops fs _ (assign_on x (told_value v) m) (λ _ v b. record { is = b })
   event_on (Asks (AskFor k want)) g st fs m = stmt_on (img.expr k) _ m
 
+  pub event_prints : (e : p.Event ℕ) (g : Matching) (st : s.MatchState) (fs : List Frame) (m : MW) → Before m (world_of (on_event img e g st fs m))
+  event_prints e g st fs m = (event_on e g st fs m).is
+
   put_on : {o : Op MW MVal} {m : MW} (q : ℕ) (ops : List Operand) (hs : List Handler) (fs : List Frame) → OpOn m o → On m (put img o q ops hs fs)
   put_on q ops hs fs h = op_on hs ops fs _ h (λ v u b. record { is = b })
 

@@ -3,7 +3,7 @@ use Rattle.driver.proofs.whole.run_deck.Goals as goal
 
 pub returns-in-Ok-clause-run : goal.returns-in-Ok-clause-run
 returns-in-Ok-clause-run g c =
-    is_run c.args.deck.now c.deref.result.now c.in_ok-module.module.items c.args.bound c.in-Ok.status (g.U.Units.told c.args.units.now) (g.U.Units.told c.run_module.new.units) c.deref.ensures.value c.in_ok-module.ensures.module (λ im e. (c.in-Ok.ensures.served im e).told)
+    is_run c.args.deck.now c.deref.result.now c.in_ok-module.module.items c.args.bound c.in-Ok.status (g.U.Units.told c.args.units.now) (g.U.Units.told c.run_module.new.units) c.deref.ensures.value c.in_ok-module.ensures.module (λ im e. (c.in-Ok.ensures.served im e).told) c.in-Ok.ensures.printed
 
 pub lacking-requires : goal.lacking-requires
 lacking-requires g c = record { memory = only_memory c.args.deck.now c.deref.result.now c.in_ok-module.module.items c.in-Err.fault c.deref.ensures.value c.in_ok-module.ensures.module c.in-Err.ensures.refused }

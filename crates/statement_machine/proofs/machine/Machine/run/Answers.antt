@@ -1,6 +1,7 @@
 use Rattle.std.proofs.Common.{sym, ap, ◌∙◌}
 use Rattle.statement_machine.specs.Runs.{MachineView}
 use Rattle.statement_machine.proofs.Seeing.{ran_on, ran_out, ran_same}
+use Rattle.statement_machine.proofs.Printing.{halt_prints}
 use Rattle.statement_machine.proofs.machine.Machine.run.Goals as goal
 
 pub returns-in-Some-clause-served : goal.returns-in-Some-clause-served
@@ -14,3 +15,7 @@ returns-in-Ok-clause-served g c =
 pub returns-in-Err-clause-served : goal.returns-in-Err-clause-served
 returns-in-Err-clause-served g c =
     ran_out c.self.inside.program.now c.args.self.now c.self.inside.halt c.in-Err.halt c.self.inside.run c.make_steps.new.self c.args.bound c.status-in-Err.result c.self.view_is c.in_default.is c.status-in-Err.ensures c.in-Err.ensures.served
+
+pub returns-in-Err-clause-printed : goal.returns-in-Err-clause-printed
+returns-in-Err-clause-printed g c =
+    halt_prints c.self.inside.program.now c.args.self.now c.self.inside.halt c.in-Err.halt c.self.inside.run c.args.bound c.status-in-Err.result _ _ c.self.view_is c.in_default.is c.status-in-Err.ensures c.in-Err.ensures.printed

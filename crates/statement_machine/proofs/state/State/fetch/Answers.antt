@@ -3,6 +3,8 @@ use Rattle.world.specs.Answers.{answer_map}
 use Rattle.world.specs.Values.{value_of}
 use Rattle.unit_io.proofs.Serving.{served_for}
 use Rattle.statement_machine.proofs.Fetching.{fetched, fetch_sound}
+use Rattle.statement_machine.specs.Stopped.{halted_by}
+use Rattle.statement_machine.proofs.Printing.{quiet_ever}
 use Rattle.statement_machine.proofs.state.State.fetch.Goals as goal
 
 pub returns-clause-served : goal.returns-clause-served
@@ -17,3 +19,6 @@ returns-clause-sound g c im fs h =
     fetch_sound im fs c.args.next c.args.self.now c.gave.new.self c.fetch-answer.new.self c.gave.result c.pop_name-name.new.operands c.pop_name-name.result
     (answer_map (option_map value_of) c.fetch-answer.result) h
     (c.pop_name-name.ensures) (c.gave.ensures.left im fs)
+
+pub returns-clause-quiet : goal.returns-clause-quiet
+returns-clause-quiet g c = quiet_ever (halted_by c.gave.result) _ _ c.fetch-answer.ensures.quiet

@@ -4,6 +4,8 @@ use Rattle.world.specs.Answers.{answer_map}
 use Rattle.world.specs.Values.{value_of}
 use Rattle.unit_io.proofs.Serving.{served_for}
 use Rattle.statement_machine.proofs.Fetching.{fetched_above, fetch_above_sound}
+use Rattle.statement_machine.specs.Stopped.{halted_by}
+use Rattle.statement_machine.proofs.Printing.{quiet_ever}
 use Rattle.statement_machine.proofs.state.State.fetch_above.Goals as goal
 
 pub returns-clause-served : goal.returns-clause-served
@@ -18,3 +20,6 @@ returns-clause-sound g c im fs h =
     fetch_above_sound im fs c.args.next c.args.self.now c.gave.new.self c.fetch-answer.new.self c.gave.result (record c.args.self.now.operands { top = drop 1 c.args.self.now.operands.top }) c.top_name.result.now
     (answer_map (option_map value_of) c.fetch-answer.result) h
     (ap (λ l. record c.args.self.now.operands { top = l }) c.top_name.ensures) (c.gave.ensures.left im fs)
+
+pub returns-clause-quiet : goal.returns-clause-quiet
+returns-clause-quiet g c = quiet_ever (halted_by c.gave.result) _ _ c.fetch-answer.ensures.quiet

@@ -14,6 +14,8 @@ use Rattle.statement_machine.specs.Held.{handlers_in, waiting}
 use Rattle.statement_machine.proofs.Flowing.{seen}
 use Rattle.statement_machine.proofs.Operations.{some_answer_or_failure}
 use Rattle.statement_machine.proofs.Telling.{no_records}
+use Rattle.statement_machine.specs.Stopped.{halted_by}
+use Rattle.statement_machine.proofs.Printing.{quiet_ever}
 use Rattle.statement_machine.proofs.state.State.resume_for_value.Goals as goal
 
 pub returns-clause-served : goal.returns-clause-served
@@ -27,3 +29,6 @@ returns-clause-sound g c im fs h =
     let o = some_answer_or_failure (answer_map (option_map value_of) c.returned_value-answer.result) (world_of c.returned_value-answer.new.self no_records) in
     seen im fs c.gave.result c.gave.new.self no_records _ (c.gave.ensures.left im fs no_records o.0 o.1)
     (laws.wait_stands im o.0 (offset_at im.code c.args.next) (given false) (handlers_in im s) (operands_of s.operands.top) (waiting im fs s) _ h.0 h.1 (λ v w1. ((h.0.0, h.0.1, h.0.3), h.1)))
+
+pub returns-clause-quiet : goal.returns-clause-quiet
+returns-clause-quiet g c = quiet_ever (halted_by c.gave.result) _ _ c.returned_value-answer.ensures.quiet

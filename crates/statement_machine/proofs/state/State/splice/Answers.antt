@@ -5,6 +5,8 @@ use Rattle.frames.specs.declared.operand.Operand.TheVariants as operand
 use Rattle.world.specs.Answers.{done}
 use Rattle.unit_io.proofs.Serving.{served_for}
 use Rattle.statement_machine.proofs.Fetching.{spliced, splice_sound}
+use Rattle.statement_machine.specs.Stopped.{halted_by}
+use Rattle.statement_machine.proofs.Printing.{quiet_settled}
 use Rattle.statement_machine.proofs.state.State.splice.Goals as goal
 
 pub returns-clause-served : goal.returns-clause-served
@@ -19,3 +21,6 @@ returns-clause-sound g c im fs h =
     splice_sound im fs c.args.next c.args.self.now c.went.new.self c.splice-answer.new.self c.went.result c.pop_name-name.new.operands c.pop_name-name.result
     c.pop_value-value.result c.pop_span-span.result (done c.splice-answer.result) h
     (c.pop_value-value.ensures ∙ ap (λ (l : Stacked Operand). record l { top = operand.Value c.pop_value-value.result ∷ l.top }) (c.pop_span-span.ensures ∙ ap (λ (l : Stacked Operand). record l { top = operand.Span c.pop_span-span.result ∷ l.top }) c.pop_name-name.ensures)) (c.went.ensures.left im fs)
+
+pub returns-clause-quiet : goal.returns-clause-quiet
+returns-clause-quiet g c = quiet_settled (halted_by c.went.result) _ _ _ c.went.ensures.stop c.splice-answer.ensures.quiet
