@@ -1,4 +1,3 @@
-use Rattle.match_machine.specs.View.{pending_of}
 use Rattle.statement_machine.specs.Held.{waiting}
 use Rattle.statement_machine.specs.Runs.{matching_in}
 use Rattle.statement_machine.specs.Stopped.{halted_by}
@@ -19,7 +18,7 @@ returns-in-Err-clause-halts g c = rw c.halted.ensures tt
 pub returns-in_err-found-clause-printed : goal.returns-in_err-found-clause-printed
 returns-in_err-found-clause-printed g c = λ im fs.
     let s = c.args.self.now in
-    settled_prints im (matching_in im c.args.matching s) c.args.matching.search.state (waiting im fs s) c.args.start c.args.end (halted_by c.from_residual.result) _ _ (pending_of c.args.pending.items) s.world c.assign_all.new.world ?
+    settled_prints im (matching_in im c.args.matching s) c.args.matching.search.state (waiting im fs s) c.args.start c.args.end (halted_by c.from_residual.result) _ _ c.as_slice.result.now c.args.pending.items s.world c.assign_all.new.world c.as_slice.ensures.value c.in_default.ensures.served.told
 
 pub returns-in-Err-clause-printed : goal.returns-in-Err-clause-printed
 returns-in-Err-clause-printed g c = λ im fs.
