@@ -2,7 +2,8 @@
 
 A crate offers its public types, its definitions in the files of specs/ that a contract of a public function reaches or
 that its page CALLING.md names, and the lemmas that the page names under `## Laws for other crates`. All definitions of
-`model` are offered, as they are what the contracts of all crates speak of.
+`model` are offered, as they are what the contracts of all crates speak of; but no crate above the matcher names choices,
+and none above the module format the bytes of parts.
 """
 
 import functools
@@ -17,6 +18,11 @@ LISTED = repository.listed()
 DEFINING = "model"
 HEADING = "## Laws for other crates"
 PATH = re.compile(r"\bRattle\.(\w+)\.(specs|proofs)\.([\w.-]*\w)((?:\.\{[^}]*\}|\.[^\w\s{}();,]\S*| as \w+)?)")
+# Definitions of how a layer works: no crate above it names them, though they stand in files of `model`.
+WITHIN = {
+    "match_machine": ("Pattern/Steps", {"Note", "Thread", "Choice", "Move", "Act", "pattern_act"}),
+    "module_format": ("Module/Spelling", {"opcode", "instr", "pat_instr", "counted", "string", "code_bytes"}),
+}
 IMPORT = re.compile(r"^\s*(?:pub |ghost )*use ")
 EXPORT = re.compile(r"^pub use \w+::(?:\{([^}]*)\}|(\w+));", re.MULTILINE)
 PUBLIC = re.compile(r"^\s*pub (?:ghost )?(?:const )?fn (\w+)", re.MULTILINE)
@@ -57,7 +63,7 @@ def split(path, rest):
 
 def whole(text, alias):
     """The names that a text takes of a file which it has under this name."""
-    return sorted({it.strip(".") for it in re.findall(rf"(?<![\w.]){alias}\.([^\s(){{}}\[\];,]+)", text)})
+    return sorted(set(re.findall(rf"(?<![\w.]){alias}\.([^\W\d][\w-]*)", text)))
 
 
 @functools.lru_cache(maxsize=None)
@@ -143,12 +149,20 @@ def is_type(it):
 
 def is_offered(it):
     """Whether a citation is of what the crate below offers."""
+    if passes_over(it.file.split("/")[0], it):
+        return False
     if it.room == "proofs":
         return it.name in laws(it.below).get(it.where, ())
     if it.where.startswith("declared"):
         return is_type(it)
     file = f"specs/{it.where}.antt"
     return it.below == DEFINING or f"`{file}`" in page(it.below) or f"{it.below}/{file}" in reached(it.below)
+
+
+def passes_over(crate, it):
+    """The layer between a crate and a definition, if it names how that layer works."""
+    over = (layer for layer, (where, names) in WITHIN.items() if it.where == where and it.name in names)
+    return next((layer for layer in over if layer in repository.below(crate, LISTED)), None)
 
 
 def told(crate):
