@@ -24,7 +24,7 @@ PARTS = $(foreach crate,$(shell tools/below $(1) 2>/dev/null),$(foreach part,src
 SOURCES := $(shell find crates.txt $(wildcard $(call PARTS,sno)) 2>/dev/null)
 LISTER_SOURCES := $(shell find crates.txt $(wildcard $(call PARTS,sno_list)) 2>/dev/null)
 
-.PHONY: help run try sno list install uninstall test decks pages bound refuse failing damage deep wrong time check bench compare fmt clean toolchain program deck input
+.PHONY: help run try sno list install uninstall test decks pages bound ways refuse failing damage deep wrong time check bench compare fmt clean toolchain program deck input
 .DEFAULT_GOAL := help
 
 help: ## list the targets
@@ -86,7 +86,7 @@ uninstall: ## [PREFIX=folder]: take away what install put there
 test: toolchain ## the gate: every proof from nothing, must-fail edits, tests, programs, decks (last line 'N passed, M failed')
 	@echo "test: proving every crate from nothing; this takes many minutes (all lines go to build/log)"
 	@mkdir -p build && touch build/began
-	@RT_JOBS=$${RT_JOBS:-$$(tools/jobs)} tools/progress "$(RT) ci" "tools/wrong --texts" "tests/docs $(PROGRAM)/out/sno $(LISTER)/out/sno_list" "tests/run $(BUILT)" "tests/pipe $(PROGRAM)/out/sno" "tests/bound --decks 100 $(PROGRAM)/out/sno" $(FAULTS)
+	@RT_JOBS=$${RT_JOBS:-$$(tools/jobs)} tools/progress "$(RT) ci" "tools/wrong --texts" "tests/docs $(PROGRAM)/out/sno $(LISTER)/out/sno_list" "tests/run $(BUILT)" "tests/pipe $(PROGRAM)/out/sno" "tests/bound --decks 100 $(PROGRAM)/out/sno" "tests/ways $(BUILT)" $(FAULTS)
 	@cp $(PROGRAM)/out/sno build/sno.new && touch -r build/began build/sno.new && mv build/sno.new build/sno
 
 decks: build/sno ## the decks of tests/ alone, on the proved program
@@ -97,6 +97,9 @@ pages: build/sno build/sno_list ## what the pages name and show, on the proved p
 
 bound: build/sno ## 2,000 random decks on the proved program and on the reference of tests/, with steps and rules
 	@tests/bound build/sno --decks 2000
+
+ways: build/sno ## 5,000 random decks of the whole language each way on the proved program, and on the reference
+	@tests/ways build/sno --decks 5000 --mangled 1000
 
 refuse: build/sno build/failing ## each growth of memory refused in turn, to the proved program on some hundred decks
 	@tests/refuse build/sno build/failing
