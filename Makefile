@@ -107,8 +107,8 @@ refuse: build/sno build/failing ## each growth of memory refused in turn, to the
 failing: build/sno build/failing ## each read and write failed in turn, on the proved program and on units that fail
 	@tests/failing build/sno build/failing
 
-damage: build/sno ## a million of some nine million damaged modules on the proved program
-	@tests/damage build/sno --every 8
+damage: build/sno build/failing ## some nine million damaged modules, run by the proved code
+	@tests/damage build/sno build/failing
 
 deep: build/sno ## deep and large decks on the proved program, with a small stack and little memory
 	@tests/deep build/sno
@@ -123,9 +123,14 @@ check: toolchain ## prove every crate over what earlier checks kept
 	@echo "check: proving every crate, lowest first"
 	@$(RT) all check
 
-bench: toolchain ## prove, build and run the benchmark programs
+ifdef INSTRUCTIONS
+bench: build/sno ## [INSTRUCTIONS=1]: prove, build and run the benchmark programs; or what a step costs, by valgrind
+	@bench/steps build/sno
+else
+bench: toolchain
 	@: $(if $(BENCHES),,$(error there are no benchmark programs yet: no crate crates/bench_*))
 	@for crate in $(BENCHES); do echo "bench: $$crate"; (cd $$crate && $(RT) run -- time < /dev/null) || exit 1; done
+endif
 
 compare: build/sno ## the workloads of bench/ on the proved program and on the others that are installed
 	@bench/compare build/sno
