@@ -18,7 +18,7 @@ BUILT := $(PROGRAM)/out/sno $(PROGRAM)/out/sno.by-rattle
 FAILING := crates/tests_failing/out/tests_failing
 # A part of the faults that `make refuse`, `failing`, `damage` and `deep` run whole.
 FAULTS := "tests/refuse --every 50 $(PROGRAM)/out/sno $(FAILING)" "tests/failing $(PROGRAM)/out/sno $(FAILING)" \
-	"tests/damage --every 900 $(PROGRAM)/out/sno" "tests/deep --part $(PROGRAM)/out/sno"
+	"tests/damage --every 90 $(PROGRAM)/out/sno $(FAILING)" "tests/deep --part $(PROGRAM)/out/sno"
 # What a proof of the program reads, folders too, so that a file that goes is noticed.
 PARTS = $(foreach crate,$(shell tools/below $(1) 2>/dev/null),$(foreach part,src specs proofs,crates/$(crate)/$(part)))
 SOURCES := $(shell find crates.txt $(wildcard $(call PARTS,sno)) 2>/dev/null)
