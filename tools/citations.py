@@ -3,7 +3,7 @@
 A crate offers its public types, its definitions in the files of specs/ that a contract of a public function reaches or
 that its page CALLING.md names, and the lemmas that the page names under `## Laws for other crates`. All definitions of
 `model` are offered, as they are what the contracts of all crates speak of; but no crate above the matcher names choices,
-and none above the module format the bytes of parts.
+and none above the module format how its parts are spelt.
 """
 
 import functools
