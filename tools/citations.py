@@ -2,8 +2,8 @@
 
 A crate offers its public types, its definitions in the files of specs/ that a contract of a public function reaches or
 that its page CALLING.md names, and the lemmas that the page names under `## Laws for other crates`. All definitions of
-`model` are offered, as they are what the contracts of all crates speak of; but no crate above the matcher names choices,
-and none above the module format how its parts are spelt.
+`model` are offered, as they are what the contracts of all crates speak of; but no crate above the matcher names
+choices, and none above the module format how its parts are spelt.
 """
 
 import functools
@@ -31,7 +31,7 @@ ROW = re.compile(r"^\| `proofs/([\w/]+)\.antt` \| (.*?) \|")
 
 
 class Citation(typing.NamedTuple):
-    """A name of a crate below: the file and the line that cite it, that crate, its room there, its file and the name."""
+    """A name of a crate below: the file and line that cite it, that crate, its room there, its file and the name."""
 
     file: str
     line: int

@@ -3,9 +3,9 @@
 The modules are those of some decks of decks/, with each instruction that runs among them. Each is cut at each length;
 each byte of a short one gets each other value, and each bit of a longer one is turned. A module must be refused with
 one line `offset N F` or `W` and status 4, or run at most 10,000 steps and end with the status of a run. With a program
-`tests_failing` too, it runs them all without being started anew, some thousand in a process, and each fiftieth is run by
-`sno` as well, which must tell the same. The lines before the last tell how many came to what; the last line is `N passed,
-M failed`; the exit status is 0 if M is 0, and else 1.
+`tests_failing` too, it runs them all without being started anew, some thousand in a process, and each fiftieth is run
+by `sno` as well, which must tell the same. The lines before the last tell how many came to what; the last line is `N
+passed, M failed`; the exit status is 0 if M is 0, and else 1.
 """
 
 import argparse
@@ -169,7 +169,7 @@ def arguments():
     """The words of the command line."""
     parser = argparse.ArgumentParser(description=__doc__.partition("\n\n")[0])
     parser.add_argument("program", nargs="?", default=PROGRAM, help="build/sno if none is given")
-    parser.add_argument("failing", nargs="?", help="a program tests_failing, which runs them without being started anew")
+    parser.add_argument("failing", nargs="?", help="a program tests_failing, which runs many in a process")
     parser.add_argument("--every", type=int, default=1, metavar="K", help="only each K-th damaged module")
     parser.add_argument("--jobs", type=int, default=os.cpu_count(), metavar="N", help="how many at once")
     return parser.parse_args()

@@ -1,8 +1,9 @@
 """Runs random decks of the whole language each way that programs `sno` have, and compares all with the reference.
 
-Each deck is run by `sno` alone, compiled, and its module checked, shown and run, without input and with some. All ways and
-all programs give the same, and the reference says what. Where the reference would use too many rules, as a match may go on
-for ever, the module is run for so many steps on each program. The decks have each instruction and each primitive.
+Each deck is run by `sno` alone, compiled, and its module checked, shown and run, without input and with some. All ways
+and all programs give the same, and the reference says what. Where the reference would use too many rules, as a match
+may go on for ever, the module is run for so many steps on each program. The decks have each instruction and each
+primitive.
 """
 
 import argparse
@@ -41,7 +42,7 @@ class Case(typing.NamedTuple):
 
 
 class Result(typing.NamedTuple):
-    """What came of a case: the lines that tell what differs, whether the reference left it out, and its instructions."""
+    """What came of a case: the lines that tell what differs, whether it was left out, and its instructions."""
 
     case: Case
     lines: typing.List[str]

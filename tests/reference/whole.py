@@ -2,7 +2,7 @@
 
 from . import generate
 
-# Statements that random decks seldom have: recursion, evaluations within matches, names that calls give, units, records.
+# Statements that random decks seldom have: recursion, evaluations within matches, names that calls give, units.
 SEEN = ["'AB'", "V", "W", "3", "I", "'(A)B'"]
 BODIES = [
     "OUTPUT = APPLY('SIZE',{0})",

@@ -3,8 +3,8 @@
 //! `9`. It tells what `sno` tells, without cards. Its status is 9 if a machine that came to its end or was stopped
 //! answers something else when it is to run on.
 //!
-//! `tests_failing each FILE` runs each module of a file, each behind its length in four bytes, for at most 10,000 steps. Of
-//! each it prints what `sno run` tells, and the exit status in a line behind it.
+//! `tests_failing each FILE` runs each module of a file, each behind its length in four bytes, for at most 10,000 steps.
+//! Of each it prints what `sno run` tells, and the exit status in a line behind it.
 #![tactic(auto)]
 
 mod each;
