@@ -64,7 +64,7 @@ build/sno: $(SOURCES) | program
 	@(cd $(PROGRAM) && echo END | ../../tools/progress "$(RT) run") >&2 || { echo "sno: not proved, or not built" >&2; exit 1; }
 	@cp $(PROGRAM)/out/sno build/sno.new && mv build/sno.new build/sno
 
-build/failing: $(SOURCES) crates/tests_failing/src/main.rt | program
+build/failing: $(SOURCES) $(wildcard crates/tests_failing/src/*.rt) | program
 	@(cd crates/tests_failing && ../../tools/progress "$(RT) run -- 0 data/deck.sno" >&2) || { echo "failing: not proved, or not built" >&2; exit 1; }
 	@cp crates/tests_failing/out/tests_failing build/failing
 
