@@ -14,10 +14,14 @@
 
 mod code;
 mod fields;
+mod instrs;
 mod reading;
 mod strings;
 mod tables;
+mod view;
 mod writing;
 
-pub use reading::{read_image, read_image_v1};
+pub use instrs::Instrs;
+pub use reading::{read_image, read_image_v1, view_image, view_image_v1};
+pub use view::ImageView;
 pub use writing::write_image;
