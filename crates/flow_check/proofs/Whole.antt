@@ -52,6 +52,12 @@ pub record Walked (im : Image) (ns : List Node) (m : ℕ → Option Mark) (c : O
   pub clear : (y : ℕ) → y < o → BreaksFlow im y → ⊥
   pub distinct : Distinct ns
 
+-- the same, where these instructions are left
+pub record WalkedTo (im : Image) (left : List Instr) (ns : List Node) (m : ℕ → Option Mark) (c : Option Shape) (o : ℕ) : Type 0 where
+  pub place : ℕ
+  pub code : drop place im.code ≡ left
+  pub walked : Walked im ns m c place o
+
 begins_known : (im : Image) (y : ℕ) (t : flow.Shape) → Known im 0 y t → flow.Begins im y t
 begins_known im y t (inl h) = h
 begins_known im y t (inr k) = absurd (let e = k.earlier in omega (arith, e))
