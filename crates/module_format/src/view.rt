@@ -79,7 +79,8 @@ impl<'a> ImageView<'a> {
 
     /// Names and literals, no two equal.
     pub fn strings(&self) -> &[&'a [u8]]
-        ensures { map (λ s. s.now) result.now ≡ self.now.strings }
+        ensures each { map (λ s. s.now) result.now ≡ self.now.strings }
+        ensures count { length result.now ≡ length self.now.strings }
     {
         self.strings.as_slice()
     }
