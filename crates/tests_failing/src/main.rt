@@ -70,19 +70,15 @@ fn not_read(error: &io::Error) -> Told<'static> {
     }
 }
 
-/// The module of a deck.
-fn compiled<R: Files + AllocGlobal>(rt: &R, deck: &str) -> Result<Module, Told<'static>> {
+/// The module of a deck, as bytes.
+fn compiled<R: Files + AllocGlobal>(rt: &R, deck: &str) -> Result<Vec<u8>, Told<'static>> {
     let deck = match fs::read(rt, deck) {
         Ok(deck) => deck,
         Err(error) => return Err(not_read(&error)),
     };
-    let bytes = match compile_deck(rt.alloc(), &deck) {
-        Ok(bytes) => bytes,
-        Err(refusal) => return Err(Told::Refused(refusal)),
-    };
-    match load(rt.alloc(), &bytes) {
-        Ok(module) => Ok(module),
-        Err(fault) => Err(Told::BadModule(fault)),
+    match compile_deck(rt.alloc(), &deck) {
+        Ok(bytes) => Ok(bytes),
+        Err(refusal) => Err(Told::Refused(refusal)),
     }
 }
 
@@ -106,8 +102,11 @@ fn run_twice<R: Files + Input + Print + AllocGlobal>(
 
 fn run<R: Env + Files + Input + Print + AllocGlobal>(rt: &R) -> Result<Answers, Told<'static>> {
     let words = read_words(rt)?;
-    let module = compiled(rt, &words.deck)?;
-    run_twice(rt, &module, words.k)
+    let bytes = compiled(rt, &words.deck)?;
+    match load(rt.alloc(), &bytes) {
+        Ok(module) => run_twice(rt, &module, words.k),
+        Err(fault) => Err(Told::BadModule(fault)),
+    }
 }
 
 /// What is told of the answers, if they are the same.
