@@ -127,7 +127,11 @@ fn size_of(image: &ImageView<'_>) -> u32
 }
 
 /// The first fault of the instructions of the code, which begins at a place.
-pub(crate) fn code_fault(image: &ImageView<'_>, placed: &PlacedCode, place: usize) -> Option<ModuleFault>
+pub(crate) fn code_fault(
+    image: &ImageView<'_>,
+    placed: &PlacedCode,
+    place: usize,
+) -> Option<ModuleFault>
     requires spelt { IsImage image.now }
     requires placed { placed.now ≡ image.now.code }
     requires there { place + most_code < 2 ^ 60 }

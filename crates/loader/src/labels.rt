@@ -21,9 +21,7 @@ fn is_label(image: &ImageView<'_>, label: Label, is_new: bool) -> bool
         (slice_get image.now.strings label.string) && is_statement image.now label.statement &&
         is_new }
 {
-    is_label_name(image.string(label.string))
-        && is_statement(image, label.statement)
-        && is_new
+    is_label_name(image.string(label.string)) && is_statement(image, label.statement) && is_new
 }
 
 /// The first fault of the labels, which begin at a place.

@@ -59,9 +59,7 @@ pub(crate) fn is_label_name(string: Option<&[u8]>) -> bool
     ensures { result ≡ is_label_name (option_copied string.entry) }
 {
     match string {
-        Some(name) => {
-            !name.is_empty() && !is_end(name) && ReturnKind::named(name).is_none()
-        }
+        Some(name) => { !name.is_empty() && !is_end(name) && ReturnKind::named(name).is_none() }
         None => false,
     }
 }

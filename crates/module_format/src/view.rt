@@ -48,15 +48,15 @@ impl<'a> Model for ImageView<'a> {
     ghost Value = { Image };
 
     ghost view = { λ v. record {
-        level = v.level;
-        entry = v.entry;
-        strings = map (λ s. s.now) v.strings.items;
-        labels = v.labels;
-        statements = v.statements;
-        cards = v.cards;
-        expressions = v.expressions;
-        patterns = v.patterns;
-        code = instrs_from v.len v.code.now;
+      level = v.level;
+      entry = v.entry;
+      strings = map (λ s. s.now) v.strings.items;
+      labels = v.labels;
+      statements = v.statements;
+      cards = v.cards;
+      expressions = v.expressions;
+      patterns = v.patterns;
+      code = instrs_from v.len v.code.now;
     } };
 
     ghost invariant = { λ v. length (instrs_from v.len v.code.now) ≡ v.len };
