@@ -11,7 +11,7 @@ use Rattle.model.specs.Pattern.Steps as s
 use Rattle.model.specs.Pattern.Steps.{Code}
 use Rattle.match_machine.specs.declared.event.Assignment.{Assignment}
 use Rattle.match_machine.specs.declared.trail.Entry.{Entry}
-use Rattle.match_machine.specs.declared.trail.Choice.{Choice}
+use Rattle.match_machine.specs.Choices.{Choice}
 use Rattle.match_machine.specs.declared.state.Kept.{Kept}
 use Rattle.match_machine.specs.declared.state.Kept.TheVariants as kept
 use Rattle.match_machine.specs.Standing.{Back, Standing, IsAtArb, no_backs, oldest}
