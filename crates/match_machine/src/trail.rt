@@ -1,13 +1,13 @@
 //! Where the attempt under way stands, and the choices that are gone back to.
 
-ghost use Rattle.std.specs.Prelude.{◌≡◌, ◌∷◌, ◌++◌, List, [], true, false, Bool, IfOk, IfSome, OnOk, OnErr};
+ghost use Rattle.std.specs.Prelude.{◌≡◌, ◌∷◌, ◌++◌, ℕ, List, [], true, false, Bool, IfOk, IfSome, OnOk, OnErr};
 ghost use Rattle.std.specs.Prelude.{MatchOption, length, reverse, take, Some, None, option_copied};
 ghost use Rattle.std.specs.Prelude.{if◌then◌else◌};
 ghost use Rattle.model.specs.Pattern.Steps as s;
 ghost use Rattle.model.specs.Pattern.Steps.{Code};
 ghost use Rattle.model.specs.Pattern.Patterns.{Pending};
 ghost use Rattle.match_machine.specs.Standing.{Standing, Back, inside, opened, unopened, fenced};
-ghost use Rattle.match_machine.specs.Standing.{unfenced, no_backs, oldest, IsAtArb, from_end};
+ghost use Rattle.match_machine.specs.Standing.{unfenced, no_backs, oldest, IsAtArb, IsOpenAtBack, from_end};
 ghost use Rattle.match_machine.specs.Logs.{assigned, pending_of, note_of, chain, entry_at, below_of, last_code};
 ghost use Rattle.match_machine.specs.Logs.{LeavesAll};
 
@@ -305,6 +305,19 @@ impl Trail {
         }
     }
 
+    /// Whether the newest note of the newest choice is that of OPEN, where no note was added since.
+    pub fn is_open_at_back(&self) -> bool
+        ensures { result ≡ true → IsOpenAtBack self.now }
+    {
+        match self.choices.last() {
+            Some(choice) => {
+                let marks = choice.marks();
+                self.log.len() <= marks.log && is_opened_at(self.log.as_slice(), marks.head)
+            }
+            None => false,
+        }
+    }
+
     /// The newest choice, which goes back to ARB, does so from a further end.
     pub fn pass_arb(&mut self, end: usize) -> Result<(), AllocError>
         ensures { OnOk result
@@ -404,6 +417,16 @@ fn opened_at(log: &[Entry], head: usize) -> Option<(usize, usize)>
     match entry.note {
         Note::Opened(cursor) => Some((cursor, list_below(head, entry.below))),
         Note::Fenced(_) | Note::Left(_, _) => None,
+    }
+}
+
+/// Whether the newest note is that of OPEN.
+fn is_opened_at(log: &[Entry], head: usize) -> bool
+    ensures { result ≡ true → (b : ℕ) × (ns : List s.Note) × (chain (reverse log.now) head ≡ s.Opened b ∷ ns) }
+{
+    match opened_at(log, head) {
+        Some(_found) => true,
+        None => false,
     }
 }
 
