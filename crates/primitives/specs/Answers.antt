@@ -1,5 +1,7 @@
 -- What calls of primitives answer.
-use Rattle.std.specs.Prelude.{◌≡◌, ℕ, ℤ, map, Bool, true, false, not, int_le, int_lt, Result, Ok, Err}
+use Rattle.std.specs.Prelude.{◌≡◌, ℕ, ℤ, map, Bool, true, false, not, int_le, int_lt, Option, Some, None, Result, Ok, Err}
+use Rattle.model.specs.declared.run.ErrorCode.{ErrorCode}
+use Rattle.model.specs.declared.run.ErrorCode.TheVariants as error
 use Rattle.model.specs.declared.primitives.PrimId.{PrimId}
 use Rattle.model.specs.declared.primitives.PrimId.TheVariants as p
 use Rattle.model.specs.Language.Calls.{AValue, AName}
@@ -38,6 +40,28 @@ ComesTo (Err (fault.Stop s)) w o = Unit {0}
 -- in each world, unless it stopped, a call answers as the operation does, which changes nothing
 abbrev pub AnswersAs : Result Outcome Fault → (MW → Op MW MVal) → Type 0
 AnswersAs r o = (w : MW) → ComesTo r w (returned (o w))
+
+-- primitives that say something of two values and take no memory for it
+abbrev pub is_test : PrimId → Bool
+is_test p.Eq = true
+is_test p.Ne = true
+is_test p.Lt = true
+is_test p.Le = true
+is_test p.Gt = true
+is_test p.Ge = true
+is_test p.Ident = true
+is_test p.Differ = true
+is_test _ = false
+
+-- what such a primitive comes to
+abbrev pub tested : Result Bool ErrorCode → MW → Op MW (model.Outcome PCode ℕ)
+tested (Ok b) w = returned (model.holds_if b w)
+tested (Err e) w = Faults e w
+
+-- whether two values are the same, or the error where that can't be asked
+abbrev pub SameOr : Result Bool ErrorCode → Option Bool → Type 0
+SameOr (Ok b) same = same ≡ Some b
+SameOr (Err e) same = (same ≡ None) × (e ≡ error.WrongType)
 
 -- which integers a comparison holds of
 abbrev pub test_of : Comparison → ℤ → ℤ → Bool

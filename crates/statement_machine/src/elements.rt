@@ -40,6 +40,11 @@ impl State {
             Named im fs next result self.new io (after im (Instr.Elem count) next fs self.old io) }
         ensures stop { IfStopped result (λ stop. stop ≡ NoMemory) }
     {
+        if count == 1 {
+            let subscripts = [pop_value(&mut self.operands)];
+            let base = pop_value(&mut self.operands);
+            return self.world.item(&base, &subscripts);
+        }
         pop_values(&mut self.operands, count as usize, &mut self.arguments)?;
         let base = pop_value(&mut self.operands);
         self.world.item(&base, self.arguments.as_slice())
