@@ -5,6 +5,7 @@ use Rattle.model.specs.declared.run.ErrorCode.TheVariants as error
 use Rattle.model.specs.declared.primitives.PrimId.{PrimId}
 use Rattle.model.specs.declared.primitives.PrimId.TheVariants as p
 use Rattle.model.specs.Language.Calls.{AValue, AName}
+use Rattle.model.specs.Language.Io.{Io}
 use Rattle.model.specs.Language.Conversions.{Op, Gives, Refuses, Faults}
 use Rattle.model.specs.Machine.Steps.{PCode, MVal, MW}
 use Rattle.model.specs.Language.Primitives.{Returns, Calls, int_same, returned}
@@ -12,6 +13,7 @@ use Rattle.model.specs.Language.Primitives as model
 use Rattle.pattern_compiler.specs.View.{name_of}
 use Rattle.world.specs.declared.fault.Fault.{Fault}
 use Rattle.world.specs.declared.fault.Fault.TheVariants as fault
+use Rattle.world.specs.Held.{WorldView, world_of}
 use Rattle.world.specs.Values.{value_of}
 use Rattle.primitives.specs.declared.outcome.Outcome.{Outcome}
 use Rattle.primitives.specs.declared.outcome.Outcome.TheVariants as outcome
@@ -62,6 +64,10 @@ tested (Err e) w = Faults e w
 abbrev pub SameOr : Result Bool ErrorCode → Option Bool → Type 0
 SameOr (Ok b) same = same ≡ Some b
 SameOr (Err e) same = (same ≡ None) × (e ≡ error.WrongType)
+
+-- unless it stopped, a call answers as the operation does, and its new world is what that leaves of the old one
+abbrev pub Changes : Result Outcome Fault → (MW → Op MW MVal) → (old new : WorldView) → Type 0
+Changes r o old new = (io : Io) → ComesTo r (world_of new io) (returned (o (world_of old io)))
 
 -- which integers a comparison holds of
 abbrev pub test_of : Comparison → ℤ → ℤ → Bool

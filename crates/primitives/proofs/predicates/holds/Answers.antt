@@ -1,3 +1,4 @@
+use Rattle.primitives.proofs.Called.{tested_same}
 use Rattle.primitives.proofs.predicates.holds.Goals as goal
 
 pub returns-in-Eq : goal.returns-in-Eq
@@ -19,4 +20,4 @@ pub returns-in-Ge : goal.returns-in-Ge
 returns-in-Ge c vs w first second = rw (c.in-Ge.is, first, second) (c.compares-in-Ge.ensures w)
 
 pub returns-in-Ident : goal.returns-in-Ident
-returns-in-Ident c vs w first second = let h = c.same.ensures in ?
+returns-in-Ident c vs w first second = rw (c.in-Ident.is, first, second) (tested_same c.same.result _ w c.same.ensures)
