@@ -1,4 +1,4 @@
-use Rattle.primitives.proofs.Called.{tested_same}
+use Rattle.primitives.proofs.Tests.{tested_same}
 use Rattle.primitives.proofs.predicates.holds.Goals as goal
 
 pub returns-in-Eq : goal.returns-in-Eq
