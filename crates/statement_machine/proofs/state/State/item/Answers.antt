@@ -18,4 +18,4 @@ returns-clause-named c im fs next io =
     c.as_slice.ensures.value c.in_ok-pop_values.ensures.pops (sym (ap (λ (l : Stacked Operand). l.under) c.in_ok-pop_values.ensures.operands)) c.pop_value-base.ensures refl refl refl (c.item.ensures.name io)
 
 pub returns-then-count-eq1-clause-named : goal.returns-then-count-eq1-clause-named
-returns-then-count-eq1-clause-named c im fs next io = ?
+returns-then-count-eq1-clause-named c im fs next io = rw c.if-count-eq1.true (c.item_of_one.ensures.named im fs next io)
