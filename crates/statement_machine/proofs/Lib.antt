@@ -15,3 +15,4 @@ pub mod Telling
 pub mod WellFormed
 pub mod Named
 pub mod Printing
+pub mod Tests

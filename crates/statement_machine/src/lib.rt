@@ -21,6 +21,7 @@ mod machine;
 mod matches;
 mod operators;
 mod patterns;
+mod predicates;
 mod resuming;
 mod run;
 mod state;
