@@ -16,7 +16,7 @@ use Rattle.model.specs.Language.Keywords.{Keys}
 use Rattle.model.specs.Language.Values.{Object, Str, set_var, set_plain}
 use Rattle.model.specs.Language.Primitives.{set_reads, set_writes}
 use Rattle.model.specs.Language.Conversions.{Gives}
-use Rattle.model.specs.Language.Operators.{assign_op, fetch_op, fetch_var, write_var}
+use Rattle.model.specs.Language.Operators.{assign_op, write_var}
 use Rattle.model.specs.Deck.Target as target
 use Rattle.model.specs.Machine.Steps.{MVal}
 use Rattle.world.specs.Values.{value_of}
@@ -212,15 +212,8 @@ put_in_slot m os fs ks lv held x k old v value is unique stands there e io =
 
 -- ---- variables without units
 
--- what is fetched from a variable that reads from no unit
-pub fetched_plain : (h : WorldView) (x : Bytes) (k : ℕ) (v : Variable) → variable_at x h.variables ≡ Some v → v.input ≡ None
-    → (io : Io) → fetch_op (target.Variable x) (world_of h io) ≡ Gives (value_of v.value) (world_of h io)
-fetched_plain h x k v found none io =
-    let w = world_of h io in
-    ap (λ o. fetch_var x (input_in o) w) found ∙ ap (λ u. fetch_var x u w) none ∙ ap (λ o. Gives (value_in o) w) found
-
--- what is assigned to one that writes to no unit
-pub assigned_plain : (h new : WorldView) (x : Bytes) (k : ℕ) (v : MVal) → IsPlain (target.Variable x) k h → ((io : Io) → world_of new io ≡ set_var x v (world_of h io))
-    → (io : Io) → assign_op (target.Variable x) v (world_of h io) ≡ Gives (record {}) (world_of new io)
-assigned_plain h new x k v plain set io =
-    ap (λ u. write_var u v (set_var x v (world_of h io))) plain.1 ∙ ap (λ w. Gives (record {}) w) (sym (set io))
+-- what is assigned to a variable that writes to none
+pub assigned_plain : (h new : WorldView) (n : target.Name) (k : ℕ) (v : MVal) → IsPlain n k h → ((x : Bytes) → StandsIn x k h.variables → (io : Io) → world_of new io ≡ set_var x v (world_of h io))
+    → (io : Io) → assign_op n v (world_of h io) ≡ Gives (record {}) (world_of new io)
+assigned_plain h new (target.Variable x) k v plain set io = ap (λ u. write_var u v (set_var x v (world_of h io))) plain.1 ∙ ap (λ w. Gives (record {}) w) (sym (set x plain.0 io))
+assigned_plain h new _ k v plain set io = absurd plain

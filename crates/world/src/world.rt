@@ -275,9 +275,10 @@ impl World {
             → assign_op name (value_of value) (world_of self.old io)
             ≡ Gives (record {}) (world_of self.new io) }
     {
-        if let Some(variable) = self.variables.get_index_mut(slot as usize) {
-            variable.set(value);
-        }
+        let Some(variable) = self.variables.get_index_mut(slot as usize) else {
+            return;
+        };
+        variable.set(value);
     }
 
     /// The unit that a variable reads from, unless `&INPUT` is 0.
