@@ -49,15 +49,12 @@ impl<T: Drop> Stack<T> {
     }
 
     /// Another one in the place of the newest.
-    #[tactic(auto, using(crate::proofs::Stacks::replaced))]
     pub fn set_top(&mut self, item: T)
         requires { 0 < length self.old.top }
         ensures { self.new ≡ record self.old { top = item ∷ drop 1 self.old.top } }
     {
-        match self.items.as_mut_slice().last_mut() {
-            Some(newest) => *newest = item,
-            None => unreachable!(),
-        }
+        let newest = self.items.len() - 1;
+        self.items[newest] = item;
     }
 
     /// Takes off the newest.
@@ -83,7 +80,6 @@ impl<T: Drop> Stack<T> {
     }
 
     /// The one under so many, if there is one of the code that runs.
-    #[tactic(auto, using(crate::proofs::Stacks::under_so_many))]
     pub fn get(&self, depth: usize) -> Option<&T>
         ensures { option_copied result ≡ slice_get self.now.top depth }
     {
