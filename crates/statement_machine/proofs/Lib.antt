@@ -4,7 +4,7 @@ pub mod Evaluations
 pub mod Fetching
 pub mod Flowing
 pub mod Going
-pub mod Joined
+pub mod Joining
 pub mod Keys
 pub mod Operations
 pub mod Parts
