@@ -20,22 +20,25 @@ use std::marker::Model;
 use strings::Text;
 use world::Span;
 
-/// A match under way, which the operands and the handlers of its statement wait for where they are.
-pub struct Matching {
+// What a match under way holds.
+#[derive(Drop)]
+struct Held {
     matcher: Matcher,
-    /// Where a match that succeeds goes on.
+    // Where a match that succeeds goes on.
     place: usize,
-    /// The subject, if the match leaves what it matched for a replacement.
+    // The subject, if the match leaves what it matched for a replacement.
     replaced: Option<Text>,
+}
+
+/// A match under way, which the operands and the handlers of its statement wait for where they are. What it holds stays
+/// where it is in memory, so moving a match costs little.
+pub struct Matching {
+    held: Box<Held>,
 }
 
 impl Drop for Matching {
     fn drop(self) {
-        let Matching {
-            matcher: _,
-            place: _,
-            replaced: _,
-        } = self;
+        let Matching { held: _ } = self;
     }
 }
 
@@ -46,9 +49,14 @@ impl Model for Matching {
 
     ghost Value = { Match };
 
-    ghost view = { λ g. record { search = g.matcher; place = g.place; keep = is_some g.replaced } };
+    ghost view = { λ g. record {
+      search = g.held.value.matcher;
+      place = g.held.value.place;
+      keep = is_some g.held.value.replaced;
+    } };
 
-    ghost invariant = { λ g. IfGiven g.replaced (λ subject. subject ≡ g.matcher.subject) };
+    ghost invariant = { λ g.
+        IfGiven g.held.value.replaced (λ subject. subject ≡ g.held.value.matcher.subject) };
 }
 
 impl Matching {
@@ -74,10 +82,13 @@ impl Matching {
         }) }
     {
         let replaced = if keep { Some(subject.clone()?) } else { None };
-        Ok(Matching {
+        let held = Held {
             matcher: Matcher::start(alloc, code, subject, anchored),
             place,
             replaced,
+        };
+        Ok(Matching {
+            held: Box::new(alloc, held)?,
         })
     }
 
@@ -85,7 +96,7 @@ impl Matching {
     pub fn place(&self) -> usize
         ensures { result ≡ self.now.place }
     {
-        self.place
+        self.held.place
     }
 
     /// At least one step and at most so many, and fewer only up to an event; the event, and how many steps. The machine
@@ -117,7 +128,7 @@ impl Matching {
             }) }
         ensures stays { self.old.search.refused ≡ true → IsErr result }
     {
-        let (event, count) = self.matcher.advance(bound)?;
+        let (event, count) = self.held.matcher.advance(bound)?;
         Ok((event, count))
     }
 
@@ -133,7 +144,7 @@ impl Matching {
             } }
         ensures running { event_of self.new.search.state ≡ Running }
     {
-        self.matcher.supply(answer)
+        self.held.matcher.supply(answer)
     }
 
     /// The match succeeded between two places: leaves what it matched, if it has to.
@@ -149,11 +160,12 @@ impl Matching {
         ensures under { operands.new.under ≡ operands.old.under }
         ensures err { OnErr result (operands.new ≡ operands.old) }
     {
-        let Matching {
+        let Matching { held } = self;
+        let Held {
             matcher: _,
             place: _,
             replaced,
-        } = self;
+        } = Box::into_inner(held);
         match replaced {
             Some(subject) => operands.push(Operand::Span(Span {
                 subject,

@@ -10,8 +10,8 @@ use Rattle.world.specs.Answers.{AnswersAs, AnswersOrFails}
 use Rattle.world.specs.Held.{world_of}
 use Rattle.world.specs.declared.fault.Fault.{Fault}
 use Rattle.world.specs.declared.fault.Fault.TheVariants as fault
-use Rattle.statement_machine.specs.Held.{Left}
-use Rattle.statement_machine.specs.Stopped.{exit_of}
+use Rattle.statement_machine.specs.Held.{Halted, Left}
+use Rattle.statement_machine.specs.Stopped.{halt_of}
 use Rattle.statement_machine.specs.declared.state.State.{State}
 use Rattle.statement_machine.specs.declared.status.Exit.{Exit}
 use Rattle.statement_machine.proofs.Keys.{halts}
@@ -26,16 +26,11 @@ pub refuses : {A : Type 0} (o : Op MW A) (w : MW) (im : Image) (fs : List Frame)
     → o ≡ Refuses w → Left im fs r s io (fail_to hs ops waits w) → Left im fs r s io (after_op o hs ops waits k)
 refuses o w im fs r s io hs ops waits k e h = subst (λ x. Left im fs r s io (after_op x hs ops waits k)) (sym e) h
 
--- a fault ends the run as the definitions say
-pub ends : {A : Type 0} (o : Op MW A) (f : Fault) (h : Exit) (im : Image) (fs : List Frame) (s : State) (io : Io) (hs : List Handler) (ops : List Operand) (waits : List m.Frame) (k : A → MW → m.State)
-    → h ≡ exit_of s.world.keys.stno f → AnswersAs (Err f) (world_of s.world io) o → Left im fs (Err h) s io (after_op o hs ops waits k)
-ends o f h im fs s io hs ops waits k e a = subst (λ x. Left im fs (Err x) s io (after_op o hs ops waits k)) (sym e) (halts o f s io hs ops waits k a)
-
--- so does one of an operation that may fail
-pub faults : {A : Type 0} (o : Op MW A) (f : Fault) (h : Exit) (im : Image) (fs : List Frame) (s : State) (io : Io) (hs : List Handler) (ops : List Operand) (waits : List m.Frame) (k : A → MW → m.State)
-    → h ≡ exit_of s.world.keys.stno f → AnswersOrFails (Err f) (world_of s.world io) o → Left im fs (Err h) s io (after_op o hs ops waits k)
-faults o (fault.Error x) h im fs s io hs ops waits k e a = ends o (fault.Error x) h im fs s io hs ops waits k e a
-faults o (fault.Stop x) h im fs s io hs ops waits k e a = ends o (fault.Stop x) h im fs s io hs ops waits k e a
+-- a fault of an operation that may fail ends the run as the definitions say
+pub faults : {A : Type 0} (o : Op MW A) (f : Fault) (s : State) (io : Io) (hs : List Handler) (ops : List Operand) (waits : List m.Frame) (k : A → MW → m.State)
+    → AnswersOrFails (Err f) (world_of s.world io) o → Halted (halt_of s.world.keys.stno f) s io (after_op o hs ops waits k)
+faults o (fault.Error x) s io hs ops waits k a = halts o (fault.Error x) s io hs ops waits k a
+faults o (fault.Stop x) s io hs ops waits k a = halts o (fault.Stop x) s io hs ops waits k a
 
 -- ---- some operation answers so
 

@@ -29,7 +29,7 @@ impl State {
         match self.item(count) {
             Ok(Some(name)) => self.put_name(name, next),
             Ok(None) => self.fail(),
-            Err(fault) => Err(self.halted(fault)),
+            Err(fault) => Err(Exit::Fault(fault)),
         }
     }
 

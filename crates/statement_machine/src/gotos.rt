@@ -37,7 +37,7 @@ impl State {
         let label = pop_value(&mut self.operands).to_label(self.alloc);
         match label {
             Ok(label) => self.goto_label(program, label.as_slice()),
-            Err(fault) => Err(self.halted(fault)),
+            Err(fault) => Err(Exit::Fault(fault)),
         }
     }
 
@@ -78,6 +78,6 @@ impl State {
             → Left im fs (Err result) self.now io (after im Instr.NoLabel next fs self.now io) }
         ensures stop { IfHalted {A = record {}} (Err result) (λ stop. stop ≡ NoMemory) }
     {
-        self.halted(Fault::Error(ErrorCode::UndefinedLabel))
+        Exit::Fault(Fault::Error(ErrorCode::UndefinedLabel))
     }
 }

@@ -14,7 +14,7 @@ ghost use Rattle.frames.specs.View.{operands_of};
 ghost use Rattle.frames.specs.declared.frame.Frame.{Frame};
 ghost use Rattle.frames.specs.Failing.{IsInBegin};
 ghost use Rattle.statement_machine.specs.Held.{Does, DoesIn, Left, after, handlers_in, waiting};
-ghost use Rattle.statement_machine.specs.Stopped.{IfHalted, exit_of, halt_of};
+ghost use Rattle.statement_machine.specs.Stopped.{IfHalted, halt_of};
 
 use crate::state::State;
 use crate::status::{Exit, Halt};
@@ -36,14 +36,6 @@ impl State {
             }),
             Fault::Stop(stop) => Halt::Stopped(stop),
         }
-    }
-
-    /// The same, as the end of an instruction.
-    #[cold]
-    pub(crate) fn halted(&self, fault: Fault) -> Exit
-        ensures { result ≡ exit_of self.now.world.keys.stno fault }
-    {
-        Exit::Halt(self.halt(fault))
     }
 
     /// Puts on a value and goes on.
@@ -94,7 +86,7 @@ impl State {
         ensures stop { IfHalted result (λ stop. stop ≡ NoMemory) }
     {
         if self.world.is_over_limit() {
-            return Err(Exit::Halt(Halt::Ended(Ending::StLimit { statement: entered })));
+            return Err(Exit::Limit(entered));
         }
         self.handlers.push(Handler::Begin { target })?;
         self.world.enter_statement(entered);

@@ -88,7 +88,7 @@ impl State {
         ensures halts { GoesOrHalts result }
     {
         if let Err(fault) = assign_all(self.alloc, &mut self.world, units, pending.as_slice()) {
-            return Err(self.halted(fault));
+            return Err(Exit::Fault(fault));
         }
         self.place = matching.place();
         matching.found(&mut self.operands, start, end)?;

@@ -23,7 +23,7 @@ impl State {
         let value = pop_value(&mut self.operands);
         match sign(op, &value) {
             Ok(signed) => self.put(signed, next),
-            Err(code) => Err(self.halted(Fault::Error(code))),
+            Err(code) => Err(Exit::Fault(Fault::Error(code))),
         }
     }
 
@@ -37,7 +37,7 @@ impl State {
         let left = pop_value(&mut self.operands);
         match arith(op, &left, &right) {
             Ok(value) => self.put(value, next),
-            Err(code) => Err(self.halted(Fault::Error(code))),
+            Err(code) => Err(Exit::Fault(Fault::Error(code))),
         }
     }
 
@@ -51,7 +51,7 @@ impl State {
         let left = pop_value(&mut self.operands);
         match self.world.cat(self.alloc, left, right) {
             Ok(value) => self.put(value, next),
-            Err(fault) => Err(self.halted(fault)),
+            Err(fault) => Err(Exit::Fault(fault)),
         }
     }
 
@@ -65,7 +65,7 @@ impl State {
         let left = pop_value(&mut self.operands);
         match alt(self.alloc, &left, &right) {
             Ok(value) => self.put(value, next),
-            Err(fault) => Err(self.halted(fault)),
+            Err(fault) => Err(Exit::Fault(fault)),
         }
     }
 
@@ -79,7 +79,7 @@ impl State {
         let value = pop_value(&mut self.operands);
         match cond(self.alloc, &value, name) {
             Ok(pattern) => self.put(pattern, next),
-            Err(fault) => Err(self.halted(fault)),
+            Err(fault) => Err(Exit::Fault(fault)),
         }
     }
 
@@ -93,7 +93,7 @@ impl State {
         let value = pop_value(&mut self.operands);
         match imm(self.alloc, &value, name) {
             Ok(pattern) => self.put(pattern, next),
-            Err(fault) => Err(self.halted(fault)),
+            Err(fault) => Err(Exit::Fault(fault)),
         }
     }
 
@@ -117,7 +117,7 @@ impl State {
         let value = pop_value(&mut self.operands);
         match indir(self.alloc, &value) {
             Ok(name) => self.put_name(name, next),
-            Err(fault) => Err(self.halted(fault)),
+            Err(fault) => Err(Exit::Fault(fault)),
         }
     }
 
@@ -147,7 +147,7 @@ impl State {
     {
         match self.world.keyword(id) {
             Ok(value) => self.put(value, next),
-            Err(fault) => Err(self.halted(fault)),
+            Err(fault) => Err(Exit::Fault(fault)),
         }
     }
 
@@ -163,7 +163,7 @@ impl State {
                 self.place = next;
                 Ok(())
             }
-            Err(code) => Err(self.halted(Fault::Error(code))),
+            Err(code) => Err(Exit::Fault(Fault::Error(code))),
         }
     }
 }

@@ -42,7 +42,7 @@ impl State {
     {
         match given.into_name() {
             Ok(name) => self.put_name(name, next),
-            Err(code) => Err(self.halted(Fault::Error(code))),
+            Err(code) => Err(Exit::Fault(Fault::Error(code))),
         }
     }
 

@@ -5,6 +5,7 @@ ghost use Rattle.statement_machine.specs.Stopped.{status_of};
 
 use model::{Ending, Status, Stop};
 use std::alloc::AllocError;
+use world::Fault;
 
 /// Why no further step is made.
 #[derive(Clone, Copy)]
@@ -13,23 +14,30 @@ pub(crate) enum Halt {
     Stopped(Stop),
 }
 
-/// Why a run doesn't go on in the code that it is in.
+/// Why a run doesn't go on in the code that it is in. It is small, since each instruction may give it.
 #[derive(Clone, Copy)]
 pub(crate) enum Exit {
-    Halt(Halt),
+    /// END was reached.
+    End,
+    /// `&STLIMIT` statements were begun. The number of the one that would have begun.
+    Limit(u32),
+    /// An error in the statement that runs, or a stop.
+    Fault(Fault),
     /// A failure that no handler of this code catches.
     Failure,
 }
 
+const _: () = prove!(size_of::<Exit>() <= 8);
+
 impl From<AllocError> for Exit {
     ghost use Rattle.statement_machine.specs.declared.status.Exit.TheVariants as exit;
-    ghost use Rattle.statement_machine.specs.declared.status.Halt.TheVariants.{Stopped};
+    ghost use Rattle.world.specs.declared.fault.Fault.TheVariants as fault;
     ghost use Rattle.model.specs.declared.run.Stop.TheVariants.{NoMemory};
 
-    ghost from_gives = { λ _ x. x ≡ exit.Halt (Stopped NoMemory) };
+    ghost from_gives = { λ _ x. x ≡ exit.Fault (fault.Stop NoMemory) };
 
     fn from(_refused: AllocError) -> Exit {
-        Exit::Halt(Halt::Stopped(Stop::NoMemory))
+        Exit::Fault(Fault::Stop(Stop::NoMemory))
     }
 }
 

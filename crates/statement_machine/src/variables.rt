@@ -43,7 +43,7 @@ impl State {
                 self.place = next;
                 Ok(())
             }
-            Err(fault) => Err(self.halted(fault)),
+            Err(fault) => Err(Exit::Fault(fault)),
         }
     }
 
@@ -67,7 +67,7 @@ impl State {
         match answer {
             Ok(Some(value)) => self.put(value, next),
             Ok(None) => self.fail(),
-            Err(fault) => Err(self.halted(fault)),
+            Err(fault) => Err(Exit::Fault(fault)),
         }
     }
 

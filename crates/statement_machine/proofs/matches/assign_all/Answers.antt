@@ -1,7 +1,12 @@
-use Rattle.std.proofs.Common.{rules, drop}
+use Rattle.std.proofs.Common.{drop, rules}
 use Rattle.match_machine.specs.View.{pending_of}
+use Rattle.pattern_compiler.specs.View.{name_of}
 use Rattle.world.specs.Answers.{stopped_by}
-use Rattle.statement_machine.proofs.Printing.{assigned_prints, pending_prints, printed_more, quiet_same}
+use Rattle.world.specs.Held.{world_of}
+use Rattle.world.specs.Values.{value_of}
+use Rattle.world.specs.declared.value.Value.TheVariants as value
+use Rattle.unit_io.proofs.Serving.{served_then}
+use Rattle.statement_machine.proofs.Printing.{assigned_prints, assigned_rest, pending_prints, printed_more, quiet_same, residual_quiet}
 use Rattle.statement_machine.proofs.matches.assign_all.Goals as goal
 
 pub returns-in_err-clone-clause-printed : goal.returns-in_err-clone-clause-printed
@@ -10,10 +15,16 @@ returns-in_err-clone-clause-printed g c =
 
 pub returns-in_err-assign-clause-printed : goal.returns-in_err-assign-clause-printed
 returns-in_err-assign-clause-printed g c =
-    pending_prints (stopped_by c.from_residual-in_err-assign.result) _ _ _ c.args.world.now c.loop-assignment.world (pending_of c.args.pending.now) (pending_of (drop c.loop-assignment.assignment-index c.args.pending.now)) c.loop-assignment.invariant.printed c.loop-assignment.invariant.served.told c.in_err-assign.ensures.quiet
+    let result = c.from_residual-in_err-assign.result in
+    pending_prints (stopped_by result) _ _ _ c.args.world.now c.loop-assignment.world (pending_of c.args.pending.now) (pending_of (drop c.loop-assignment.assignment-index c.args.pending.now)) c.loop-assignment.invariant.printed c.loop-assignment.invariant.served.told
+    (residual_quiet result c.in_err-assign.field-0.0 _ _ c.from_residual-in_err-assign.ensures.1 c.in_err-assign.ensures.quiet)
 
 pub loop-assignment-preserved : goal.loop-assignment-preserved
-loop-assignment-preserved g c = record {
-  printed = printed_more _ _ _ _ c.loop-assignment.invariant.printed c.in_ok-assign.ensures.served.told (λ io io' e. assigned_prints _ _ _ _ io io' _ e);
-  served = search rules;
-}
+loop-assignment-preserved g c =
+    let x = c.assignment-item.result in
+    let v = value_of (value.String c.in_ok-clone.field-0) in
+    record {
+      printed = printed_more _ _ _ _ c.loop-assignment.invariant.printed c.in_ok-assign.ensures.served.told (λ io io' e. assigned_prints (name_of x.name) v c.loop-assignment.world c.assign.new.self io io' (record {}) e);
+      served = served_then _ c.loop-assignment.invariant.served c.in_ok-assign.ensures.served
+          (λ before now after so_far one. assigned_rest c.args.pending.now c.loop-assignment.assignment-index x v (world_of c.args.world.now before) (world_of c.loop-assignment.world now) (world_of c.assign.new.self after) c.loop-assignment-test.true c.assignment-item.is (search rules) so_far one);
+    }

@@ -1,9 +1,14 @@
+use Rattle.std.proofs.Common.{ap, ◌∙◌}
 use Rattle.std.specs.Prelude.{is_some}
 use Rattle.match_machine.specs.View.{event_is}
 use Rattle.frames.proofs.Matches.{advanced}
+use Rattle.frames.specs.Matches.{Match}
+use Rattle.frames.specs.declared.matching.Held.{Held}
 use Rattle.frames.proofs.matching.Matching.advance.Goals as goal
 
 pub returns-clause-steps : goal.returns-clause-steps
 returns-clause-steps c =
-    advanced c.self.inside.matcher c.advance.new.self c.self.inside.place (is_some c.self.inside.replaced) c.args.self.now (event_is c.in_ok-event.event) c.in_ok-event.count c.args.bound
-    c.self.view_is c.in_ok-event.ensures.steps c.in_ok-event.ensures.event c.requires.running c.requires.bound c.in_ok-event.ensures.fewer c.in_ok-event.ensures.way
+    let held = c.deref_mut.result.now in
+    let seen : Held → Match = λ h. record { search = h.matcher; place = h.place; keep = is_some h.replaced } in
+    advanced held.matcher c.advance.new.self held.place (is_some held.replaced) c.args.self.now (event_is c.in_ok-event.event) c.in_ok-event.count c.args.bound
+    (ap seen c.deref_mut.ensures.value ∙ c.self.view_is) c.in_ok-event.ensures.steps c.in_ok-event.ensures.event c.requires.running c.requires.bound c.in_ok-event.ensures.fewer c.in_ok-event.ensures.way

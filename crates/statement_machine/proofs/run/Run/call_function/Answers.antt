@@ -1,8 +1,11 @@
-use Rattle.std.proofs.Common.{ap, refl, sym, subst, ◌∙◌, Some, None, Err}
+use Rattle.std.proofs.Common.{ap, sym, subst, ◌∙◌, Some, None, Err}
 use Rattle.unit_io.proofs.Serving.{served_on}
 use Rattle.world.specs.Functions.{IfNamed}
 use Rattle.world.specs.declared.functions.Function.TheVariants as function
+use Rattle.world.specs.declared.fault.Fault.TheVariants.{Error}
+use Rattle.model.specs.declared.run.ErrorCode.TheVariants.{UndefinedFunction}
 use Rattle.statement_machine.specs.Runs.{Leaves}
+use Rattle.statement_machine.specs.declared.status.Exit.TheVariants as exit
 use Rattle.statement_machine.proofs.Calling.{defined_as, found_as}
 use Rattle.statement_machine.proofs.Matching.{left_leaves}
 use Rattle.statement_machine.proofs.Stopping.{served_alone}
@@ -43,6 +46,5 @@ pub returns-in-None-clause-served : goal.returns-in-None-clause-served
 returns-in-None-clause-served g c =
     let im = c.args.program.now in
     let r = c.args.self.now in
-    served_alone g.U.Units c.args.units.now (Err c.halted.result) (rw c.halted.ensures tt)
-    (λ io. subst (λ st. Leaves im (Err c.halted.result) r io st)
-    (sym (found_as im r.frames.top c.args.name.now c.args.want_name c.args.next r.state io _ None (c.in_ok-entry.ensures.function io) c.in-None.is)) (rw c.halted.ensures refl))
+    served_alone g.U.Units c.args.units.now (Err (exit.Fault (Error UndefinedFunction))) tt
+    (λ io. found_as im r.frames.top c.args.name.now c.args.want_name c.args.next r.state io _ None (c.in_ok-entry.ensures.function io) c.in-None.is)

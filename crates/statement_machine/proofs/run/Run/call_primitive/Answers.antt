@@ -1,6 +1,7 @@
 use Rattle.std.proofs.Common.{sym, subst, Err}
 use Rattle.unit_io.proofs.Serving.{served_on}
-use Rattle.statement_machine.proofs.Stopping.{served_alone, stops_alone}
+use Rattle.statement_machine.specs.declared.status.Exit.TheVariants as exit
+use Rattle.statement_machine.proofs.Stopping.{served_alone}
 use Rattle.statement_machine.proofs.Matching.{code_stands, left_leaves}
 use Rattle.statement_machine.specs.Runs.{Leaves}
 use Rattle.model.specs.Language.Primitives.{prim_op}
@@ -13,7 +14,7 @@ use Rattle.statement_machine.specs.Calling.{arguments_in}
 use Rattle.statement_machine.specs.Held.{handlers_in, waiting}
 use Rattle.statement_machine.proofs.Calling.{came_bad, came_by}
 use Rattle.statement_machine.proofs.Flowing.{seen}
-use Rattle.statement_machine.proofs.Operations.{ends}
+use Rattle.statement_machine.proofs.Keys.{halts}
 use Rattle.statement_machine.proofs.Telling.{no_records}
 use Rattle.statement_machine.proofs.run.Run.call_primitive.Goals as goal
 
@@ -66,6 +67,6 @@ returns-in-Err-clause-served g c =
     let im = c.args.program.now in
     let r = c.args.self.now in
     let s = r.state in
-    served_alone g.U.Units c.args.units.now (Err c.halted.result) (stops_alone c.in-Err.fault c.halted.result _ c.halted.ensures c.in-Err.ensures.stop)
-    (λ io. ends (prim_op codes_of c.args.id (arguments_in s) (world_of s.world io)) c.in-Err.fault c.halted.result im r.frames.top (record s { world = c.call_prim-outcome.new.world }) io (handlers_in im s) (operands_of s.operands.top) (waiting im r.frames.top s) _ c.halted.ensures
+    served_alone g.U.Units c.args.units.now (Err (exit.Fault c.in-Err.fault)) c.in-Err.ensures.stop
+    (λ io. halts (prim_op codes_of c.args.id (arguments_in s) (world_of s.world io)) c.in-Err.fault (record s { world = c.call_prim-outcome.new.world }) io (handlers_in im s) (operands_of s.operands.top) (waiting im r.frames.top s) _
     (came_bad im r.frames.top c.args.want_name c.args.id c.args.next s c.as_slice.result.now c.call_prim-outcome.new.world io c.as_slice.ensures.value c.in-Err.fault (c.in-Err.ensures.answer io)))

@@ -4,9 +4,10 @@ use Rattle.model.specs.Language.Calls.{construct_op}
 use Rattle.world.specs.Answers.{AnswersAs}
 use Rattle.world.specs.Held.{world_of}
 use Rattle.world.specs.Values.{value_of}
+use Rattle.statement_machine.specs.declared.status.Exit.TheVariants as exit
 use Rattle.statement_machine.specs.Calling.{arguments_in}
 use Rattle.statement_machine.proofs.Calling.{given_ends, given_gives}
-use Rattle.statement_machine.proofs.Stopping.{served_alone, stops_alone}
+use Rattle.statement_machine.proofs.Stopping.{served_alone}
 use Rattle.statement_machine.proofs.state.State.construct.Goals as goal
 
 pub returns-in-Ok-clause-served : goal.returns-in-Ok-clause-served
@@ -20,6 +21,6 @@ pub returns-in-Err-clause-served : goal.returns-in-Err-clause-served
 returns-in-Err-clause-served g c =
     let s = c.args.self.now in
     let new = record s { world = c.construct-made.new.self } in
-    served_alone g.U.Units c.args.units.now (Err c.halted.result) (stops_alone c.in-Err.fault c.halted.result _ c.halted.ensures c.in-Err.ensures.stop)
-    (λ io im fs. given_ends im fs c.args.want_name c.args.next (construct_op c.args.name.now c.args.fields.now (arguments_in s) (world_of s.world io)) s new io c.in-Err.fault c.halted.result c.halted.ensures
+    served_alone g.U.Units c.args.units.now (Err (exit.Fault c.in-Err.fault)) c.in-Err.ensures.stop
+    (λ io im fs. given_ends im fs c.args.want_name c.args.next (construct_op c.args.name.now c.args.fields.now (arguments_in s) (world_of s.world io)) s new io c.in-Err.fault
     (subst (λ xs. AnswersAs (Err c.in-Err.fault) (world_of new.world io) (construct_op c.args.name.now c.args.fields.now (map value_of xs) (world_of s.world io))) c.as_slice.ensures.value (c.in-Err.ensures.made io)))

@@ -16,4 +16,4 @@ returns-in-Ok-None-clause-left c im fs io =
 
 pub returns-in-Err-clause-left : goal.returns-in-Err-clause-left
 returns-in-Err-clause-left c im fs io =
-    subst (λ h. Left im fs (Err h) c.item.new.self io (after im (Elem c.args.count) c.args.next fs c.args.self.now io)) (sym c.halted.ensures) (c.in-Err.ensures.named im fs c.args.next io)
+    c.in-Err.ensures.named im fs c.args.next io

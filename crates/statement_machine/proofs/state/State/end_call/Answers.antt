@@ -3,8 +3,9 @@ use Rattle.frames.specs.View.{operands_of}
 use Rattle.unit_io.proofs.Serving.{served_on}
 use Rattle.world.specs.Calling.{given_of}
 use Rattle.world.specs.Held.{world_of}
+use Rattle.statement_machine.specs.declared.status.Exit.TheVariants as exit
 use Rattle.statement_machine.specs.Held.{Left, handlers_in, waiting}
-use Rattle.statement_machine.proofs.Stopping.{served_alone, stops_alone}
+use Rattle.statement_machine.proofs.Stopping.{served_alone}
 use Rattle.model.specs.Language.Calls.{leave_op}
 use Rattle.model.proofs.Machine.Standing.{fail_stands}
 use Rattle.world.specs.Calling.{kept_with}
@@ -52,5 +53,5 @@ returns-in-Err-clause-served g c =
     let s = c.args.self.now in
     let kept = c.args.kept.now in
     let mid = record s { saved = c.leave.new.saved; world = c.leave.new.self } in
-    served_alone g.U.Units c.args.units.now (Err c.halted.result) (stops_alone c.in-Err.fault c.halted.result _ c.halted.ensures c.in-Err.ensures.stop)
-    (λ io im fs. faults (leave_op c.args.kind (kept_with kept s.saved.items) (world_of s.world io)) c.in-Err.fault c.halted.result im fs mid io (handlers_in im s) (operands_of s.operands.top) (waiting_below im fs kept s) _ c.halted.ensures (c.in-Err.ensures.left io))
+    served_alone g.U.Units c.args.units.now (Err (exit.Fault c.in-Err.fault)) c.in-Err.ensures.stop
+    (λ io im fs. faults (leave_op c.args.kind (kept_with kept s.saved.items) (world_of s.world io)) c.in-Err.fault mid io (handlers_in im s) (operands_of s.operands.top) (waiting_below im fs kept s) _ (c.in-Err.ensures.left io))

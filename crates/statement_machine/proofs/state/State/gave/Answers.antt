@@ -25,5 +25,5 @@ returns-in-Ok-None-clause-left c im fs io o a =
 pub returns-in-Err-clause-left : goal.returns-in-Err-clause-left
 returns-in-Err-clause-left c im fs io o a =
     let s = c.args.self.now in
-    faults o c.in-Err.fault c.halted.result im fs s io (handlers_in im s) (operands_of s.operands.top) (waiting im fs s) _ c.halted.ensures
+    faults o c.in-Err.fault s io (handlers_in im s) (operands_of s.operands.top) (waiting im fs s) _
     (subst (λ r. AnswersOrFails (answer_map (option_map value_of) r) (world_of s.world io) o) c.in-Err.is a)

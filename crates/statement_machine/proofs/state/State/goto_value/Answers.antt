@@ -24,4 +24,4 @@ returns-in-Ok-clause-left c next fs io =
 
 pub returns-in-Err-clause-left : goal.returns-in-Err-clause-left
 returns-in-Err-clause-left c next fs io =
-    rw c.halted.ensures (by_none c.args.program.now fs next c.args.self.now (record c.args.self.now { operands = c.pop_value.new.operands }) c.pop_value.result io c.pop_value.ensures c.in-Err.fault refl c.in-Err.ensures.label)
+    by_none c.args.program.now fs next c.args.self.now (record c.args.self.now { operands = c.pop_value.new.operands }) c.pop_value.result io c.pop_value.ensures c.in-Err.fault refl c.in-Err.ensures.label

@@ -8,4 +8,4 @@ returns-in-Ok-clause-left c im fs io =
 
 pub returns-in-Err-clause-left : goal.returns-in-Err-clause-left
 returns-in-Err-clause-left c im fs io =
-    key_halts im fs c.args.id c.args.next c.args.self.now io c.in-Err.fault c.halted.result c.halted.ensures (c.in-Err.ensures.value io)
+    key_halts im fs c.args.id c.args.next c.args.self.now io c.in-Err.fault (c.in-Err.ensures.value io)

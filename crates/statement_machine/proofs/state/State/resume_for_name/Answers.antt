@@ -7,7 +7,8 @@ use Rattle.world.specs.Calling.{given_of}
 use Rattle.world.specs.Held.{world_of}
 use Rattle.world.specs.declared.fault.Fault.TheVariants.{Error}
 use Rattle.statement_machine.specs.Held.{handlers_in, waiting}
-use Rattle.statement_machine.proofs.Operations.{ends, gives}
+use Rattle.statement_machine.proofs.Keys.{halts}
+use Rattle.statement_machine.proofs.Operations.{gives}
 use Rattle.statement_machine.proofs.state.State.resume_for_name.Goals as goal
 
 pub returns-in-Ok-clause-left : goal.returns-in-Ok-clause-left
@@ -22,5 +23,5 @@ pub returns-in-Err-clause-left : goal.returns-in-Err-clause-left
 returns-in-Err-clause-left c im fs io =
     let s = c.args.self.now in
     let w = world_of s.world io in
-    ends (as_name (given_of c.args.given) w) (Error c.in-Err.code) c.halted.result im fs s io (handlers_in im s) (operands_of s.operands.top) (waiting im fs s) _ c.halted.ensures
+    halts (as_name (given_of c.args.given) w) (Error c.in-Err.code) s io (handlers_in im s) (operands_of s.operands.top) (waiting im fs s) _
     (sym (c.into_name.ensures w) ∙ ap (λ r. op_of (answer_map name_of r) w) c.in-Err.is)

@@ -4,13 +4,15 @@ use Rattle.unit_io.proofs.Serving.{served_on}
 use Rattle.world.specs.Calling.{given_of}
 use Rattle.world.specs.Held.{world_of}
 use Rattle.world.specs.Values.{value_of}
+use Rattle.statement_machine.specs.declared.status.Exit.TheVariants as exit
 use Rattle.statement_machine.specs.Held.{handlers_in, waiting}
-use Rattle.statement_machine.proofs.Stopping.{served_alone, stops_alone}
+use Rattle.statement_machine.proofs.Stopping.{served_alone}
 use Rattle.model.specs.Language.Calls.{select_op}
 use Rattle.world.specs.Answers.{answer_map, op_of}
 use Rattle.world.specs.declared.fault.Fault.TheVariants.{Error}
 use Rattle.statement_machine.specs.Calling.{arguments_in}
-use Rattle.statement_machine.proofs.Operations.{ends, gives}
+use Rattle.statement_machine.proofs.Keys.{halts}
+use Rattle.statement_machine.proofs.Operations.{gives}
 use Rattle.statement_machine.proofs.state.State.select.Goals as goal
 
 pub returns-in-Ok-clause-served : goal.returns-in-Ok-clause-served
@@ -25,8 +27,8 @@ returns-in-Ok-clause-served g c =
 pub returns-in-Err-clause-served : goal.returns-in-Err-clause-served
 returns-in-Err-clause-served g c =
     let s = c.args.self.now in
-    served_alone g.U.Units c.args.units.now (Err c.halted.result) (stops_alone (Error c.in-Err.code) c.halted.result _ c.halted.ensures tt)
+    served_alone g.U.Units c.args.units.now (Err (exit.Fault (Error c.in-Err.code))) tt
     (λ io im fs.
     let w = world_of s.world io in
-    ends (select_op c.args.name.now (arguments_in s) w) (Error c.in-Err.code) c.halted.result im fs s io (handlers_in im s) (operands_of s.operands.top) (waiting im fs s) _ c.halted.ensures
+    halts (select_op c.args.name.now (arguments_in s) w) (Error c.in-Err.code) s io (handlers_in im s) (operands_of s.operands.top) (waiting im fs s) _
     (ap (λ xs. select_op c.args.name.now (map value_of xs) w) (sym c.as_slice.ensures.value) ∙ sym (c.select.ensures io) ∙ ap (λ r. op_of (answer_map given_of r) w) c.in-Err.is))

@@ -3,7 +3,8 @@ use Rattle.frames.specs.View.{operands_of}
 use Rattle.world.specs.Answers.{AnswersAs, done}
 use Rattle.world.specs.Held.{world_of}
 use Rattle.statement_machine.specs.Held.{handlers_in, waiting}
-use Rattle.statement_machine.proofs.Operations.{gives, ends}
+use Rattle.statement_machine.proofs.Keys.{halts}
+use Rattle.statement_machine.proofs.Operations.{gives}
 use Rattle.statement_machine.proofs.state.State.went.Goals as goal
 
 pub returns-in-Ok-clause-left : goal.returns-in-Ok-clause-left
@@ -14,4 +15,4 @@ returns-in-Ok-clause-left c im fs io o a =
 pub returns-in-Err-clause-left : goal.returns-in-Err-clause-left
 returns-in-Err-clause-left c im fs io o a =
     let s = c.args.self.now in
-    ends o c.in-Err.fault c.halted.result im fs s io (handlers_in im s) (operands_of s.operands.top) (waiting im fs s) _ c.halted.ensures (subst (λ r. AnswersAs (done r) (world_of s.world io) o) c.in-Err.is a)
+    halts o c.in-Err.fault s io (handlers_in im s) (operands_of s.operands.top) (waiting im fs s) _ (subst (λ r. AnswersAs (done r) (world_of s.world io) o) c.in-Err.is a)
