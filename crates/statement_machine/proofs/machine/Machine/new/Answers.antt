@@ -28,4 +28,4 @@ returns-clause-begun c = λ io.
     let ops = ap (λ (s : State). s.operands.top) rest ∙ c.in_ok-run.ensures.place.1 in
     let hs = ap (λ (s : State). s.handlers.top) rest ∙ c.in_ok-run.ensures.place.2 in
     let at = statement_begins im (runnable im c.start-place.ensures.loaded) im.entry c.start-place.result c.start-place.ensures.place in
-    begun_is im _ (record c.in_ok-run.run { state = c.enter_variables.new.self }) io at (ap (offset_at im.code) place) e.0 e.1 ops hs (c.in_ok-enter_variables.ensures.unseen io ∙ c.in_ok-run.ensures.world io ∙ ap (λ l. after_w io.printed (first_m l io.left)) c.level.ensures)
+    begun_is im _ (record c.in_ok-run.run' { state = c.enter_variables.new.self }) io at (ap (offset_at im.code) place) e.0 e.1 ops hs (c.in_ok-enter_variables.ensures.unseen io ∙ c.in_ok-run.ensures.world io ∙ ap (λ l. after_w io.printed (first_m l io.left)) c.level.ensures)
