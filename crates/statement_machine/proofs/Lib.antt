@@ -4,6 +4,7 @@ pub mod Evaluations
 pub mod Fetching
 pub mod Flowing
 pub mod Going
+pub mod Joining
 pub mod Keys
 pub mod Operations
 pub mod Parts

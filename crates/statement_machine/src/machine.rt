@@ -51,9 +51,11 @@ impl<'m, 'a> Machine<'m, 'a> {
             (after_s io.printed (begun (module_of program.now) (first_m program.now.level io.left)))) }
     {
         let place = program.start();
+        let mut run = Run::new(alloc, program.level(), place)?;
+        run.state.enter_variables(program)?;
         Ok(Machine {
             program,
-            run: Run::new(alloc, program.level(), place)?,
+            run,
             halt: None,
         })
     }
