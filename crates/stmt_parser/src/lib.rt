@@ -13,9 +13,11 @@ mod bodies;
 mod cursor;
 mod expressions;
 mod gotos;
+mod letting_go;
 mod marks;
 mod parts;
 mod statements;
 mod stop;
 
+pub use letting_go::let_go;
 pub use statements::parse_statement;
