@@ -1,6 +1,7 @@
 //! Expressions by grades.
 //!
-//! Brackets nest on the stack, so what is read is handed up behind a pointer, and marks of unary operators wait in a list.
+//! Brackets nest on the stack, so what is read is handed up behind a pointer, and marks of unary operators wait in a
+//! list.
 
 ghost use Rattle.std.specs.Prelude.{◌≡◌, ◌≤◌, ◌<◌, ◌+◌, ◌-◌, length, IfOk};
 ghost use Rattle.model.specs.Deck.Parse as spec;
@@ -193,7 +194,10 @@ fn literal(alloc: Global, text: &[u8]) -> Result<Box<Expr>, AllocError>
     requires { 2 ≤ length text.now }
     ensures { IfOk result (λ e. boxed_of e ≡ Literal (between_quotes text.now)) }
 {
-    node(alloc, Expr::Literal(Vec::from_slice(alloc, unquoted(text))?))
+    node(
+        alloc,
+        Expr::Literal(Vec::from_slice(alloc, unquoted(text))?),
+    )
 }
 
 /// An expression and the round bracket that closes, after the one that opens.
@@ -218,7 +222,12 @@ fn bracketed(alloc: Global, cursor: &mut Cursor<'_>, depth: usize) -> Result<Box
 #[cycle(expr)]
 #[inline(never)]
 #[tactic(auto, unfolding(model::specs::Deck::Parse::after_name, model::specs::Deck::Parse::bind, model::specs::Deck::Parse::expect))]
-fn named(alloc: Global, cursor: &mut Cursor<'_>, depth: usize, name: &[u8]) -> Result<Box<Expr>, Stop>
+fn named(
+    alloc: Global,
+    cursor: &mut Cursor<'_>,
+    depth: usize,
+    name: &[u8],
+) -> Result<Box<Expr>, Stop>
     ensures { Reads boxed_of
         (spec.after_name (spec.whole depth) name.now cursor.old) result cursor.new }
 {
