@@ -132,9 +132,9 @@ impl State {
         let value = pop_value(&mut self.operands);
         let span = pop_span(&mut self.operands);
         let named = pop_name(&mut self.operands);
-        let answer =
-            self.world
-                .splice_at(self.alloc, units, &named.name, named.slot, &span, &value);
+        let answer = self
+            .world
+            .splice_at(self.alloc, units, &named.name, named.slot, &span, &value);
         self.went(answer, next)
     }
 }
