@@ -1,7 +1,7 @@
 -- Stacks cut, and values taken off them.
-use Rattle.std.proofs.Common.{◌≡◌, ℕ, zero, suc, ◌+◌, ◌<◌, ◌≤◌, ◌-◌, List, [], ◌∷◌, ◌++◌, length, take, drop, map, reverse, replicate, refl, ap, sym, ◌∙◌, arith, inl, inr}
+use Rattle.std.proofs.Common.{◌≡◌, ℕ, zero, suc, ◌+◌, ◌<◌, ◌≤◌, ◌-◌, List, [], ◌∷◌, ◌++◌, length, take, drop, map, reverse, slice_set, replicate, refl, ap, sym, ◌∙◌, arith, inl, inr}
 use Rattle.std.proofs.lemmas.Bool.{cases_lt}
-use Rattle.std.proofs.lemmas.List.{append-nil, take-append-drop, reverse-append, length-reverse, length-drop, length-take-le, length-map, drop-map, drop-take, take_all, drop_all, take_at, drop_at}
+use Rattle.std.proofs.lemmas.List.{append-nil, take-append-drop, reverse-append, length-append, length-reverse, length-drop, length-take-le, length-map, drop-map, drop-take, take_all, drop_all, take_at, drop_at}
 use Rattle.std.proofs.Math.Seq.{drop-append_seam, drop-length, take-length, take-add}
 use Rattle.std.proofs.lemmas.Grind.{reverse_onto}
 use Rattle.model.specs.Machine.Steps as m
@@ -32,6 +32,28 @@ take_on (suc f) (y ∷ ys) x le = ap (λ l. y ∷ l) (take_on f ys x (omega (ari
 -- one more
 pub put_on : {T : Type 0} (f : ℕ) (xs : List T) (x : T) → f ≤ length xs → parted f (xs ++ x ∷ []) ≡ record { top = x ∷ (parted f xs).top; under = (parted f xs).under }
 put_on f xs x le = rw (drop_on f xs x le, take_on f xs x le, reverse-append (drop f xs) (x ∷ [])) refl
+
+from_last : {T : Type 0} (xs : List T) → 0 < length xs → (ys : List T) × (y : T) × (xs ≡ ys ++ y ∷ [])
+from_last [] lt = absurd (omega (arith, lt))
+from_last (x ∷ []) lt = ([], x, refl)
+from_last (x ∷ z ∷ zs) lt = let r = from_last (z ∷ zs) (omega arith) in (x ∷ r.0, r.1, ap (λ l. x ∷ l) r.2)
+
+set_last : {T : Type 0} (ys : List T) (y x : T) → slice_set (ys ++ y ∷ []) (length ys) x ≡ ys ++ x ∷ []
+set_last [] y x = refl
+set_last (z ∷ ys) y x = ap (λ l. z ∷ l) (set_last ys y x)
+
+-- another one in the place of the newest
+pub set_newest : {T : Type 0} (s : Stacked T) (f n : ℕ) (xs : List T) (x : T) → parted f xs ≡ s → f ≤ length xs → n ≡ length xs → 0 < length s.top → parted f (slice_set xs (n - 1) x) ≡ record s { top = x ∷ drop 1 s.top }
+set_newest {T} s f n xs x is le all some =
+    let top : length s.top ≡ length xs - f = ap (λ (z : Stacked T). length z.top) (sym is) ∙ length-reverse (drop f xs) ∙ length-drop f xs in
+    let l = from_last xs (omega (arith, some, top)) in
+    let len : length xs ≡ length l.0 + 1 = ap length l.2 ∙ length-append l.0 (l.1 ∷ []) in
+    let floor : f ≤ length l.0 = omega (arith, some, top, len) in
+    let last : n - 1 ≡ length l.0 = omega (arith, len, all) in
+    let set : slice_set xs (n - 1) x ≡ l.0 ++ x ∷ [] = ap (λ k. slice_set xs k x) last ∙ ap (λ l'. slice_set l' (length l.0) x) l.2 ∙ set_last l.0 l.1 x in
+    ap (parted f) set
+    ∙ put_on f l.0 x floor
+    ∙ ap (λ (z : Stacked T). record z { top = x ∷ drop 1 z.top }) (sym (put_on f l.0 l.1 floor) ∙ sym (ap (parted f) l.2) ∙ is)
 
 -- what is kept of items is the oldest of them
 cut_keeps : {T : Type 0} (xs : List T) (d : ℕ) → reverse (take d xs) ≡ drop (length (reverse xs) - d) (reverse xs)

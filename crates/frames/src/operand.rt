@@ -14,11 +14,21 @@ use pattern_compiler::Name;
 use std::alloc::AllocError;
 use world::{Span, Value};
 
+const _: () = prove!(size_of::<Operand>() <= 48);
+
+/// A name, and the slot where its variable may stand.
+#[derive(Drop)]
+pub struct Named {
+    pub name: Name,
+    /// A hint, which nothing that is said of a name depends on.
+    pub slot: u32,
+}
+
 /// An operand of an instruction.
 #[derive(Drop)]
 pub enum Operand {
     Value(Value),
-    Name(Name),
+    Name(Named),
     /// What a replacement replaces: the subject, and where the match in it began and ended.
     Span(Span),
 }
@@ -35,7 +45,7 @@ pub fn pop_value(operands: &mut Stack<Operand>) -> Value
 }
 
 /// Takes off the newest operand, a name.
-pub fn pop_name(operands: &mut Stack<Operand>) -> Name
+pub fn pop_name(operands: &mut Stack<Operand>) -> Named
     requires { TopIs N operands.old.top }
     ensures { operands.old ≡ record operands.new { top = operand.Name result ∷ operands.new.top } }
 {
@@ -57,7 +67,7 @@ pub fn pop_span(operands: &mut Stack<Operand>) -> Span
 }
 
 /// The newest operand, a name, which stays.
-pub fn top_name(operands: &Stack<Operand>) -> &Name
+pub fn top_name(operands: &Stack<Operand>) -> &Named
     requires { TopIs N operands.now.top }
     ensures { operands.now.top ≡ operand.Name result.now ∷ drop 1 operands.now.top }
 {

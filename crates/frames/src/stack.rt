@@ -1,6 +1,7 @@
 //! A stack, which contracts see newest first.
 
 ghost use Rattle.std.specs.Prelude.{◌≡◌, ◌==◌, ◌<◌, ◌-◌, [], ◌∷◌, ◌++◌, length, take, drop, OnOk, OnErr};
+ghost use Rattle.std.specs.Prelude.{option_copied, slice_get};
 
 use std::alloc::{AllocError, Global};
 use std::marker::Model;
@@ -42,8 +43,18 @@ impl<T: Drop> Stack<T> {
         ensures ok { OnOk result (self.new ≡ record self.old { top = item ∷ self.old.top }) }
         ensures err { OnErr result (self.new ≡ self.old) }
     {
-        self.items.push(item)?;
+        self.items.reserve(1)?;
+        self.items.push_reserved(item);
         Ok(())
+    }
+
+    /// Another one in the place of the newest.
+    pub fn set_top(&mut self, item: T)
+        requires { 0 < length self.old.top }
+        ensures { self.new ≡ record self.old { top = item ∷ drop 1 self.old.top } }
+    {
+        let newest = self.items.len() - 1;
+        self.items[newest] = item;
     }
 
     /// Takes off the newest.
@@ -65,6 +76,17 @@ impl<T: Drop> Stack<T> {
         match self.items.as_slice().last() {
             Some(item) => item,
             None => unreachable!(),
+        }
+    }
+
+    /// The one under so many, if there is one of the code that runs.
+    pub fn get(&self, depth: usize) -> Option<&T>
+        ensures { option_copied result ≡ slice_get self.now.top depth }
+    {
+        if depth < self.len() {
+            Some(&self.items[self.items.len() - 1 - depth])
+        } else {
+            None
         }
     }
 

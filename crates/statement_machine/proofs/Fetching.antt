@@ -8,7 +8,7 @@ use Rattle.model.specs.Language.Operators.{assign_op, fetch_op, splice_op}
 use Rattle.model.specs.Machine.Steps as m
 use Rattle.model.specs.Machine.Steps.{MVal, MW, OV, Run, after_op, pop, pop_name, pop_span}
 use Rattle.pattern_compiler.specs.View.{name_of}
-use Rattle.pattern_compiler.specs.declared.instr.Name.{Name}
+use Rattle.frames.specs.declared.operand.Named.{Named}
 use Rattle.frames.specs.declared.operand.Operand.{Operand}
 use Rattle.frames.specs.declared.operand.Operand.TheVariants as operand
 use Rattle.loader.specs.Places.{offset_at}
@@ -39,7 +39,7 @@ abbrev pub GoesWith : Image → List Frame → (q : ℕ) → Result (Option MVal
 GoesWith im frames q answer mid ops hs fs r new =
     (io : Io) (o : Op MW MVal) → AnswersOrFails answer (world_of mid io) o → Left im frames r new io (after_op o hs ops fs (λ v w. Run (offset_at im.code q) (OV v ∷ ops) hs fs w))
 
-module _ (im : Image) (frames : List Frame) (q : ℕ) (s new : State) (mid : WorldView) (r : Result (Unit {0}) Exit) (rest : Stacked Operand) (n : Name) where
+module _ (im : Image) (frames : List Frame) (q : ℕ) (s new : State) (mid : WorldView) (r : Result (Unit {0}) Exit) (rest : Stacked Operand) (n : Named) where
   abbrev hs : List m.Handler
   hs = handlers_in im s
 
@@ -57,8 +57,8 @@ module _ (im : Image) (frames : List Frame) (q : ℕ) (s new : State) (mid : Wor
 
   pub fetched : (answer : Result (Option MVal) Fault) → s.operands ≡ record rest { top = operand.Name n ∷ rest.top }
       → GoesWith im frames q answer mid (operands_of rest.top) hs fs r new
-      → (io io' : Io) → AnswersOrFails answer (world_of mid io') (fetch_op (name_of n) (world_of s.world io)) → Left im frames r new io' (after im op.Fetch q frames s io)
-  fetched answer e g io io' x = rw e (g io' (fetch_op (name_of n) (world_of s.world io)) x)
+      → (io io' : Io) → AnswersOrFails answer (world_of mid io') (fetch_op (name_of n.name) (world_of s.world io)) → Left im frames r new io' (after im op.Fetch q frames s io)
+  fetched answer e g io io' x = rw e (g io' (fetch_op (name_of n.name) (world_of s.world io)) x)
 
   pub fetch_sound : (answer : Result (Option MVal) Fault) → Meets im op.Fetch q frames s → s.operands ≡ record rest { top = operand.Name n ∷ rest.top } → GoesWith im frames q answer mid (operands_of rest.top) hs fs r new → StaysSound im frames r new
   fetch_sound answer h e g =
@@ -68,9 +68,9 @@ module _ (im : Image) (frames : List Frame) (q : ℕ) (s new : State) (mid : Wor
 
   pub fetched_above : (answer : Result (Option MVal) Fault) → s.operands ≡ record rest { top = operand.Name n ∷ rest.top }
       → GoesWith im frames q answer mid (operands_of s.operands.top) hs fs r new
-      → (io io' : Io) → AnswersOrFails answer (world_of mid io') (fetch_op (name_of n) (world_of s.world io)) → Left im frames r new io' (after im op.FetchK q frames s io)
+      → (io io' : Io) → AnswersOrFails answer (world_of mid io') (fetch_op (name_of n.name) (world_of s.world io)) → Left im frames r new io' (after im op.FetchK q frames s io)
   fetched_above answer e g io io' x =
-      let h : Left im frames r new io' (after_op (fetch_op (name_of n) (world_of s.world io)) hs (operands_of s.operands.top) fs (λ v w. Run to (OV v ∷ operands_of s.operands.top) hs fs w)) = g io' (fetch_op (name_of n) (world_of s.world io)) x in
+      let h : Left im frames r new io' (after_op (fetch_op (name_of n.name) (world_of s.world io)) hs (operands_of s.operands.top) fs (λ v w. Run to (OV v ∷ operands_of s.operands.top) hs fs w)) = g io' (fetch_op (name_of n.name) (world_of s.world io)) x in
       rw e (rw e at h)
 
   pub fetch_above_sound : (answer : Result (Option MVal) Fault) → Meets im op.FetchK q frames s → s.operands ≡ record rest { top = operand.Name n ∷ rest.top } → GoesWith im frames q answer mid (operands_of s.operands.top) hs fs r new → StaysSound im frames r new
@@ -84,8 +84,8 @@ module _ (im : Image) (frames : List Frame) (q : ℕ) (s new : State) (mid : Wor
 
   pub assigned : (v : Value) (answer : Result (record {}) Fault) → s.operands ≡ record rest { top = operand.Value v ∷ operand.Name n ∷ rest.top }
       → Goes im frames q answer mid (operands_of rest.top) hs fs r new
-      → (io io' : Io) → AnswersAs answer (world_of mid io') (assign_op (name_of n) (value_of v) (world_of s.world io)) → Left im frames r new io' (after im op.Assign q frames s io)
-  assigned v answer e g io io' x = rw e (g io' (assign_op (name_of n) (value_of v) (world_of s.world io)) x)
+      → (io io' : Io) → AnswersAs answer (world_of mid io') (assign_op (name_of n.name) (value_of v) (world_of s.world io)) → Left im frames r new io' (after im op.Assign q frames s io)
+  assigned v answer e g io io' x = rw e (g io' (assign_op (name_of n.name) (value_of v) (world_of s.world io)) x)
 
   pub assign_sound : (v : Value) (answer : Result (record {}) Fault) → Meets im op.Assign q frames s → s.operands ≡ record rest { top = operand.Value v ∷ operand.Name n ∷ rest.top } → Goes im frames q answer mid (operands_of rest.top) hs fs r new → StaysSound im frames r new
   assign_sound v answer h e g =
@@ -95,8 +95,8 @@ module _ (im : Image) (frames : List Frame) (q : ℕ) (s new : State) (mid : Wor
 
   pub spliced : (v : Value) (d : Span) (answer : Result (record {}) Fault) → s.operands ≡ record rest { top = operand.Value v ∷ operand.Span d ∷ operand.Name n ∷ rest.top }
       → Goes im frames q answer mid (operands_of rest.top) hs fs r new
-      → (io io' : Io) → AnswersAs answer (world_of mid io') (splice_op (name_of n) d.subject d.start d.end (value_of v) (world_of s.world io)) → Left im frames r new io' (after im op.Splice q frames s io)
-  spliced v d answer e g io io' x = rw e (g io' (splice_op (name_of n) d.subject d.start d.end (value_of v) (world_of s.world io)) x)
+      → (io io' : Io) → AnswersAs answer (world_of mid io') (splice_op (name_of n.name) d.subject d.start d.end (value_of v) (world_of s.world io)) → Left im frames r new io' (after im op.Splice q frames s io)
+  spliced v d answer e g io io' x = rw e (g io' (splice_op (name_of n.name) d.subject d.start d.end (value_of v) (world_of s.world io)) x)
 
   pub splice_sound : (v : Value) (d : Span) (answer : Result (record {}) Fault) → Meets im op.Splice q frames s → s.operands ≡ record rest { top = operand.Value v ∷ operand.Span d ∷ operand.Name n ∷ rest.top } → Goes im frames q answer mid (operands_of rest.top) hs fs r new → StaysSound im frames r new
   splice_sound v d answer h e g =

@@ -4,6 +4,7 @@ pub mod Evaluations
 pub mod Fetching
 pub mod Flowing
 pub mod Going
+pub mod Joining
 pub mod Keys
 pub mod Operations
 pub mod Parts
@@ -15,3 +16,4 @@ pub mod Telling
 pub mod WellFormed
 pub mod Named
 pub mod Printing
+pub mod Tests

@@ -6,3 +6,4 @@ pub mod Calling
 pub mod Resuming
 pub use Rattle.world.specs.Answers
 pub mod Elements
+pub mod Joined

@@ -18,11 +18,11 @@ ghost use Rattle.statement_machine.specs.Stopped.{IfHalted, halt_of};
 
 use crate::state::State;
 use crate::status::{Exit, Halt};
-use frames::{Handler, Operand, pop_begin};
+use frames::{Handler, Named, Operand, pop_begin};
 use loader::Module;
 use model::{Ending, Instr};
 use pattern_compiler::Name;
-use world::{Fault, Value};
+use world::{Fault, NO_SLOT, Value};
 
 impl State {
     /// What a fault comes to.
@@ -57,7 +57,23 @@ impl State {
             (handlers_in im self.old) (waiting im fs self.old) (world_of self.old.world io)) }
         ensures stop { IfHalted result (λ stop. stop ≡ NoMemory) }
     {
-        self.operands.push(Operand::Name(name))?;
+        self.put_named(
+            Named {
+                name,
+                slot: NO_SLOT,
+            },
+            next,
+        )
+    }
+
+    // Puts on a name with its slot and goes on.
+    fn put_named(&mut self, named: Named, next: usize) -> Result<(), Exit>
+        ensures left { (im : Image) (fs : List Frame) (io : Io) → Left im fs result self.new io
+            (Run (offset_at im.code next) (ON (name_of named.name) ∷ operands_of self.old.operands.top)
+            (handlers_in im self.old) (waiting im fs self.old) (world_of self.old.world io)) }
+        ensures stop { IfHalted result (λ stop. stop ≡ NoMemory) }
+    {
+        self.operands.push(Operand::Name(named))?;
         self.place = next;
         Ok(())
     }
@@ -113,7 +129,8 @@ impl State {
         ensures left { DoesIn program.now (Instr.Var number) next result self.old self.new }
         ensures stop { IfHalted result (λ stop. stop ≡ NoMemory) }
     {
-        let name = program.string(number).clone()?;
-        self.put_name(Name::Variable(name), next)
+        let name = Name::Variable(program.string(number).clone()?);
+        let slot = self.slot(number);
+        self.put_named(Named { name, slot }, next)
     }
 }

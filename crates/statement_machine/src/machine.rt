@@ -23,13 +23,13 @@ use unit_io::Units;
 
 /// A run of a module.
 #[derive(Drop)]
-pub struct Machine<'m> {
-    program: &'m Module,
+pub struct Machine<'m, 'a> {
+    program: &'m Module<'a>,
     run: Run,
     halt: Option<Halt>,
 }
 
-impl<'m> Model for Machine<'m> {
+impl<'m, 'a> Model for Machine<'m, 'a> {
     ghost use Rattle.statement_machine.specs.Runnable.{IsRunnable};
     ghost use Rattle.statement_machine.specs.Runs.{MachineView, IsGoing, LacksNothing};
 
@@ -41,9 +41,9 @@ impl<'m> Model for Machine<'m> {
         IsRunnable m.program.now × IsGoing m.halt (LacksNothing m.program.now m.run) };
 }
 
-impl<'m> Machine<'m> {
+impl<'m, 'a> Machine<'m, 'a> {
     /// A run of a module, before its first step.
-    pub fn new(alloc: Global, program: &'m Module) -> Result<Machine<'m>, AllocError>
+    pub fn new(alloc: Global, program: &'m Module<'a>) -> Result<Machine<'m, 'a>, AllocError>
         ensures image { IfOk result (λ machine. machine.image ≡ program.now) }
         ensures going { IfOk result (λ machine. machine.halt ≡ None) }
         ensures begun { IfOk result (λ machine.
@@ -51,9 +51,11 @@ impl<'m> Machine<'m> {
             (after_s io.printed (begun (module_of program.now) (first_m program.now.level io.left)))) }
     {
         let place = program.start();
+        let mut run = Run::new(alloc, program.level(), place)?;
+        run.state.enter_variables(program)?;
         Ok(Machine {
             program,
-            run: Run::new(alloc, program.level(), place)?,
+            run,
             halt: None,
         })
     }

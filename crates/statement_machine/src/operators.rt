@@ -9,7 +9,7 @@ ghost use Rattle.statement_machine.specs.Stopped.{IfHalted};
 
 use crate::state::State;
 use crate::status::Exit;
-use frames::{pop_name, pop_value};
+use frames::{Named, pop_name, pop_value};
 use model::{ArithOp, Instr, KeyId, SignOp};
 use world::{Fault, Value, alt, arith, cond, cursor, imm, indir, sign};
 
@@ -75,7 +75,7 @@ impl State {
         ensures left { Does Instr.Cond next result self.old self.new }
         ensures stop { IfHalted result (λ stop. stop ≡ NoMemory) }
     {
-        let name = pop_name(&mut self.operands);
+        let Named { name, slot: _ } = pop_name(&mut self.operands);
         let value = pop_value(&mut self.operands);
         match cond(self.alloc, &value, name) {
             Ok(pattern) => self.put(pattern, next),
@@ -89,7 +89,7 @@ impl State {
         ensures left { Does Instr.Imm next result self.old self.new }
         ensures stop { IfHalted result (λ stop. stop ≡ NoMemory) }
     {
-        let name = pop_name(&mut self.operands);
+        let Named { name, slot: _ } = pop_name(&mut self.operands);
         let value = pop_value(&mut self.operands);
         match imm(self.alloc, &value, name) {
             Ok(pattern) => self.put(pattern, next),
@@ -103,7 +103,7 @@ impl State {
         ensures left { Does Instr.Cursor next result self.old self.new }
         ensures stop { IfHalted result (λ stop. stop ≡ NoMemory) }
     {
-        let name = pop_name(&mut self.operands);
+        let Named { name, slot: _ } = pop_name(&mut self.operands);
         let pattern = cursor(self.alloc, name)?;
         self.put(pattern, next)
     }
@@ -127,7 +127,7 @@ impl State {
         ensures left { Does Instr.NameV next result self.old self.new }
         ensures stop { IfHalted result (λ stop. stop ≡ NoMemory) }
     {
-        let name = pop_name(&mut self.operands);
+        let Named { name, slot: _ } = pop_name(&mut self.operands);
         self.put(Value::Name(name), next)
     }
 

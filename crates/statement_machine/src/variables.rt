@@ -82,8 +82,10 @@ impl State {
             → StaysSound im fs result self.new }
     {
         let value = pop_value(&mut self.operands);
-        let name = pop_name(&mut self.operands);
-        let answer = self.world.assign(self.alloc, units, &name, value);
+        let named = pop_name(&mut self.operands);
+        let answer = self
+            .world
+            .assign_at(self.alloc, units, &named.name, named.slot, value);
         self.went(answer, next)
     }
 
@@ -97,8 +99,8 @@ impl State {
         ensures sound { (im : Image) (fs : List Frame) → Meets im Instr.Fetch next fs self.old
             → StaysSound im fs result self.new }
     {
-        let name = pop_name(&mut self.operands);
-        let answer = self.world.fetch(units, &name);
+        let named = pop_name(&mut self.operands);
+        let answer = self.world.fetch_at(units, &named.name, named.slot);
         self.gave(answer, next)
     }
 
@@ -112,7 +114,8 @@ impl State {
         ensures sound { (im : Image) (fs : List Frame) → Meets im Instr.FetchK next fs self.old
             → StaysSound im fs result self.new }
     {
-        let answer = self.world.fetch(units, top_name(&self.operands));
+        let named = top_name(&self.operands);
+        let answer = self.world.fetch_at(units, &named.name, named.slot);
         self.gave(answer, next)
     }
 
@@ -128,8 +131,10 @@ impl State {
     {
         let value = pop_value(&mut self.operands);
         let span = pop_span(&mut self.operands);
-        let name = pop_name(&mut self.operands);
-        let answer = self.world.splice(self.alloc, units, &name, &span, &value);
+        let named = pop_name(&mut self.operands);
+        let answer =
+            self.world
+                .splice_at(self.alloc, units, &named.name, named.slot, &span, &value);
         self.went(answer, next)
     }
 }

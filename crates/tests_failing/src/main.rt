@@ -92,19 +92,15 @@ fn not_read(error: &io::Error) -> Told<'static> {
     }
 }
 
-/// The module of a deck.
-fn compiled<R: Files + AllocGlobal>(rt: &R, deck: &str) -> Result<Module, Told<'static>> {
+/// The module of a deck, as bytes.
+fn compiled<R: Files + AllocGlobal>(rt: &R, deck: &str) -> Result<Vec<u8>, Told<'static>> {
     let deck = match fs::read(rt, deck) {
         Ok(deck) => deck,
         Err(error) => return Err(not_read(&error)),
     };
-    let bytes = match compile_deck(rt.alloc(), &deck) {
-        Ok(bytes) => bytes,
-        Err(refusal) => return Err(Told::Refused(refusal)),
-    };
-    match load(rt.alloc(), &bytes) {
-        Ok(module) => Ok(module),
-        Err(fault) => Err(Told::BadModule(fault)),
+    match compile_deck(rt.alloc(), &deck) {
+        Ok(bytes) => Ok(bytes),
+        Err(refusal) => Err(Told::Refused(refusal)),
     }
 }
 
@@ -129,8 +125,11 @@ fn run_twice<R: Files + Input + Print + AllocGlobal>(
 fn run<R: Env + Files + Input + Print + AllocGlobal>(rt: &R) -> Result<Answers, Told<'static>> {
     match read_words(rt)? {
         Words::Failing { k, deck } => {
-            let module = compiled(rt, &deck)?;
-            run_twice(rt, &module, k)
+            let bytes = compiled(rt, &deck)?;
+            match load(rt.alloc(), &bytes) {
+                Ok(module) => run_twice(rt, &module, k),
+                Err(fault) => Err(Told::BadModule(fault)),
+            }
         }
         Words::Each { file } => {
             run_each(rt, &file)?;

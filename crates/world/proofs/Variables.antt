@@ -15,12 +15,16 @@ use Rattle.model.specs.Language.Io.{Io}
 use Rattle.model.specs.Language.Keywords.{Keys}
 use Rattle.model.specs.Language.Values.{Object, Str, set_var, set_plain}
 use Rattle.model.specs.Language.Primitives.{set_reads, set_writes}
+use Rattle.model.specs.Language.Conversions.{Gives}
+use Rattle.model.specs.Language.Operators.{assign_op, write_var}
+use Rattle.model.specs.Deck.Target as target
+use Rattle.model.specs.Machine.Steps.{MVal}
 use Rattle.world.specs.Values.{value_of}
 use Rattle.world.specs.Functions.{Functions, functions_in}
 use Rattle.world.specs.Objects.{object_map}
 use Rattle.world.specs.declared.value.Value.{Value}
 use Rattle.world.specs.declared.value.Value.TheVariants.{String}
-use Rattle.world.specs.Held.{WorldView, variable_at, name_at, value_in, input_in, output_in, world_of}
+use Rattle.world.specs.Held.{WorldView, IsPlain, StandsIn, variable_at, name_at, value_in, input_in, output_in, world_of}
 use Rattle.world.specs.declared.world.Variable.{Variable}
 
 -- the variable of one name is this, and all others stay
@@ -175,22 +179,18 @@ put_last vs held new x key v n same absent is put at =
     ∙ last_name vs key v
     ∙ ap Some is
 
--- a variable of this name stands in this slot
-abbrev pub Stands : Bytes → ℕ → List (Bytes × Variable) → Type 0
-Stands x k vs = (v : Variable) × (slice_get vs k ≡ Some (x, v)) × (variable_at x vs ≡ Some v)
-
 pair_at : (o : Option (Bytes × Variable)) (x : Bytes) (w : Option Variable) → option_map (λ e. e.0) o ≡ Some x → option_map (λ e. e.1) o ≡ w → (v : Variable) × (o ≡ Some (x, v)) × (w ≡ Some v)
 pair_at None x w name there = absurd (cc)
 pair_at (Some e) x w name there = let same : e.0 ≡ x = cc in (e.1, ap (λ z. Some (z, e.1)) same, sym there)
 
 -- the variable in a slot, where its name is the one that is looked for
-pub stands_there : (vs : List (Bytes × Variable)) (k : ℕ) (x y : Bytes) (v : Variable) → Some (y, v) ≡ slice_get vs k → variable_at y vs ≡ Some v → bytes_eq y x ≡ true → Stands x k vs
+pub stands_there : (vs : List (Bytes × Variable)) (k : ℕ) (x y : Bytes) (v : Variable) → Some (y, v) ≡ slice_get vs k → variable_at y vs ≡ Some v → bytes_eq y x ≡ true → StandsIn x k vs
 stands_there vs k x y v at found e =
     let same : y ≡ x = (bytes_eq-Decides y x).0 e in
     (v, sym at ∙ ap (λ z. Some (z, v)) same, ap (λ z. variable_at z vs) (sym same) ∙ found)
 
 -- the variable that a look-up finds
-pub stands_found : (vs : List (Bytes × Variable)) (x : Bytes) (r : Option ℕ) → r ≡ position (bytes_eq x) (keys_of vs) → IfSome r (λ k. slice_get (values_of vs) k ≡ variable_at x vs) → IfSome r (λ k. Stands x k vs)
+pub stands_found : (vs : List (Bytes × Variable)) (x : Bytes) (r : Option ℕ) → r ≡ position (bytes_eq x) (keys_of vs) → IfSome r (λ k. slice_get (values_of vs) k ≡ variable_at x vs) → IfSome r (λ k. StandsIn x k vs)
 stands_found vs x None place at = tt
 stands_found vs x (Some k) place at =
     let found = position-Some (bytes_eq x) (keys_of vs) k [] (sym place) in
@@ -200,12 +200,20 @@ stands_found vs x (Some k) place at =
     (sym (slice_get-map (λ e. e.1) vs k) ∙ at)
 
 -- the variable that stands in a slot is the one of that name
-pub held_there : (vs : List (Bytes × Variable)) (x : Bytes) (k : ℕ) (v : Variable) → Stands x k vs → Some v ≡ slice_get (values_of vs) k → variable_at x vs ≡ Some v
+pub held_there : (vs : List (Bytes × Variable)) (x : Bytes) (k : ℕ) (v : Variable) → StandsIn x k vs → Some v ≡ slice_get (values_of vs) k → variable_at x vs ≡ Some v
 held_there vs x k v (w, is, found) there = found ∙ sym (slice_get-map (λ e. e.1) vs k ∙ ap (λ o. option_map (λ e. e.1) o) is) ∙ sym there
 
 -- the variable in a slot takes another value
-pub put_in_slot : {S : Type 0} (m : IndexMap Bytes Variable S) (os : List (Object Value)) (fs : Functions) (ks : Keys) (lv : Level) (held : WorldView) (x : Bytes) (k : ℕ) (old v : Variable) (value : Value) → record { variables = m.entries; objects = os; functions = fs; keys = ks; level = lv } ≡ held → IsUnique bytes_eq m → Stands x k m.entries → Some old ≡ slice_get (values_of m.entries) k → v ≡ record old { value = value }
+pub put_in_slot : {S : Type 0} (m : IndexMap Bytes Variable S) (os : List (Object Value)) (fs : Functions) (ks : Keys) (lv : Level) (held : WorldView) (x : Bytes) (k : ℕ) (old v : Variable) (value : Value) → record { variables = m.entries; objects = os; functions = fs; keys = ks; level = lv } ≡ held → IsUnique bytes_eq m → StandsIn x k m.entries → Some old ≡ slice_get (values_of m.entries) k → v ≡ record old { value = value }
     → (io : Io) → world_of (record { variables = (with_value_at m k v).entries; objects = os; functions = fs; keys = ks; level = lv }) io ≡ set_var x (value_of value) (world_of held io)
 put_in_slot m os fs ks lv held x k old v value is unique stands there e io =
     put_there m.entries (with_value_at m k v).entries os fs ks lv held x old v value is e (held_there m.entries x k old stands there)
     ((updates-with_value_at m k v nat_list_eq_equiv unique x stands.0 stands.1).0) io
+
+-- ---- variables without units
+
+-- what is assigned to a variable that writes to none
+pub assigned_plain : (h new : WorldView) (n : target.Name) (k : ℕ) (v : MVal) → IsPlain n k h → ((x : Bytes) → StandsIn x k h.variables → (io : Io) → world_of new io ≡ set_var x v (world_of h io))
+    → (io : Io) → assign_op n v (world_of h io) ≡ Gives (record {}) (world_of new io)
+assigned_plain h new (target.Variable x) k v plain set io = ap (λ u. write_var u v (set_var x v (world_of h io))) plain.1 ∙ ap (λ w. Gives (record {}) w) (sym (set x plain.0 io))
+assigned_plain h new _ k v plain set io = absurd plain

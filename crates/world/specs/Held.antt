@@ -38,6 +38,10 @@ variable_at x vs = lookup (bytes_eq x) vs
 abbrev pub name_at : ℕ → List (Bytes × Variable) → Option Bytes
 name_at slot vs = slice_get (keys_of vs) slot
 
+-- a variable of this name stands in this slot
+abbrev pub StandsIn : Bytes → (slot : ℕ) → List (Bytes × Variable) → Type 0
+StandsIn x slot vs = (v : Variable) × (slice_get vs slot ≡ Some (x, v)) × (variable_at x vs ≡ Some v)
+
 -- what isn't there has the null string, and no unit
 abbrev pub value_in : Option Variable → MVal
 value_in None = Str []
@@ -50,6 +54,11 @@ input_in (Some v) = v.input
 abbrev pub output_in : Option Variable → Option ℕ
 output_in None = None
 output_in (Some v) = v.output
+
+-- the name is that of the variable in this slot, which writes to no unit
+abbrev pub IsPlain : target.Name → (slot : ℕ) → WorldView → Type 0
+IsPlain (target.Variable x) slot h = StandsIn x slot h.variables × (output_in (variable_at x h.variables) ≡ None)
+IsPlain _ slot h = ⊥
 
 -- the world that it is, with what stands on units
 abbrev pub world_of : WorldView → Io → MW

@@ -38,5 +38,5 @@ pub use fault::Fault;
 pub use functions::Function;
 pub use operators::{alt, cond, cursor, imm, indir};
 pub use value::Value;
-pub use world::World;
+pub use world::{NO_SLOT, World};
 pub use world_operators::{Begun, Span};

@@ -1,15 +1,19 @@
 //! The world of a run.
 
-ghost use Rattle.std.specs.Prelude.{◌≡◌, [], pos, Some, None, is_some, option_copied, slice_get};
-ghost use Rattle.std.specs.Prelude.{IfOk, IfSome, OnOk, OnErr, if◌then◌else◌};
+ghost use Rattle.std.specs.Prelude.{◌≡◌, [], pos, Some, None, is_some, option_copied};
+ghost use Rattle.std.specs.Prelude.{IfOk, IfSome, true, OnOk, OnErr, if◌then◌else◌};
+ghost use Rattle.model.specs.Deck.Target as target;
+ghost use Rattle.model.specs.Language.Conversions.{Gives};
 ghost use Rattle.model.specs.Language.Io.{Io};
+ghost use Rattle.model.specs.Language.Operators.{assign_op, fetch_op};
 ghost use Rattle.model.specs.Language.Values.{set_var};
 ghost use Rattle.model.specs.Language.Primitives.{set_reads, set_writes};
 ghost use Rattle.model.specs.Language.Keywords.{key_value};
 ghost use Rattle.model.specs.Laws.Agreement.{first_m};
 ghost use Rattle.model.specs.Laws.PrintedBefore.{after_w};
+ghost use Rattle.pattern_compiler.specs.View.{name_of};
 ghost use Rattle.world.specs.Values.{value_of};
-ghost use Rattle.world.specs.Held.{world_of, name_at, zero_in, variable_at, input_in, output_in};
+ghost use Rattle.world.specs.Held.{world_of, IsPlain, StandsIn, name_at, zero_in, variable_at, input_in, output_in};
 ghost use Rattle.world.specs.Held.{with_variable, pattern_variable, first_patterns, first_variables};
 ghost use Rattle.world.specs.declared.value.Value.TheVariants.{String};
 ghost use Rattle.world.specs.declared.world.Variable.{Variable};
@@ -20,13 +24,13 @@ use aggregates::Heap;
 use indexmap::IndexMap;
 use keywords::{KeyValue, Keywords};
 use model::{KeyId, Level};
-use pattern_compiler::{Basic, PatCode};
+use pattern_compiler::{Basic, Name, PatCode};
 use std::alloc::{AllocError, Global};
 use std::marker::Model;
 use strings::Text;
 
-/// Where a look-up begins that knows of no slot.
-pub(crate) const NO_SLOT: u32 = u32::MAX;
+/// The slot of a name whose slot isn't known.
+pub const NO_SLOT: u32 = u32::MAX;
 
 /// A variable that was assigned to, or that a unit is associated with.
 #[derive(Drop)]
@@ -212,9 +216,7 @@ impl World {
     #[inline]
     fn slot(&self, name: &Text, slot: u32) -> Option<usize>
         ensures there { is_some result ≡ is_some (variable_at name.now self.now.variables) }
-        ensures entry { IfSome result (λ at.
-            (v : Variable) × (slice_get self.now.variables at ≡ Some (name.now, v))
-            × (variable_at name.now self.now.variables ≡ Some v)) }
+        ensures entry { IfSome result (λ at. StandsIn name.now at self.now.variables) }
     {
         let slot = slot as usize;
         if let Some((key, _variable)) = self.variables.get_index(slot) {
@@ -236,6 +238,47 @@ impl World {
             }
         }
         self.variables.get(name)
+    }
+
+    /// The value of the variable in a slot, if it has this name and reads from no unit.
+    #[inline]
+    pub fn plain(&self, name: &Text, slot: u32) -> Option<&Value>
+        ensures { IfSome result (λ value. (io : Io)
+            → fetch_op (target.Variable name.now) (world_of self.now io)
+            ≡ Gives (value_of value.now) (world_of self.now io)) }
+    {
+        let (key, variable) = self.variables.get_index(slot as usize)?;
+        if variable.input.is_none() && key == name {
+            Some(&variable.value)
+        } else {
+            None
+        }
+    }
+
+    /// Whether the variable in a slot has this name and writes to no unit.
+    #[inline]
+    pub fn is_plain(&self, name: &Name, slot: u32) -> bool
+        ensures { result ≡ true → IsPlain (name_of name.now) slot self.now }
+    {
+        match (name, self.variables.get_index(slot as usize)) {
+            (Name::Variable(name), Some((key, variable))) => {
+                variable.output.is_none() && key == name
+            }
+            _ => false,
+        }
+    }
+
+    /// Gives the variable in a slot another value, and tells no unit.
+    #[inline]
+    pub fn set_plain(&mut self, slot: u32, value: Value)
+        ensures { (name : target.Name) → IsPlain name slot self.old → (io : Io)
+            → assign_op name (value_of value) (world_of self.old io)
+            ≡ Gives (record {}) (world_of self.new io) }
+    {
+        let Some(variable) = self.variables.get_index_mut(slot as usize) else {
+            return;
+        };
+        variable.set(value);
     }
 
     /// The unit that a variable reads from, unless `&INPUT` is 0.

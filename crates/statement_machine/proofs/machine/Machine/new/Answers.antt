@@ -5,20 +5,27 @@ use Rattle.loader.specs.Places.{offset_at}
 use Rattle.statement_machine.proofs.Flowing.{statement_begins, statement_stands}
 use Rattle.statement_machine.proofs.Running.{begun_is}
 use Rattle.statement_machine.proofs.WellFormed.{runnable}
+use Rattle.statement_machine.specs.declared.state.State.{State}
 use Rattle.statement_machine.proofs.machine.Machine.new.Goals as goal
 
 pub invariant_of-result : goal.invariant_of-result
 invariant_of-result c =
     let im = c.args.program.now in
-    let e = c.in_ok-new.ensures.code in
-    let p = c.in_ok-new.ensures.place in
+    let e = c.in_ok-run.ensures.code in
+    let rest = c.in_ok-enter_variables.ensures.rest in
+    let place = ap (λ (s : State). s.place) rest ∙ c.in_ok-run.ensures.place.0 in
+    let ops = ap (λ (s : State). s.operands.top) rest ∙ c.in_ok-run.ensures.place.1 in
+    let hs = ap (λ (s : State). s.handlers.top) rest ∙ c.in_ok-run.ensures.place.2 in
     let at = statement_begins im (runnable im c.start-place.ensures.loaded) im.entry c.start-place.result c.start-place.ensures.place in
-    (runnable im c.start-place.ensures.loaded, (rw e.1 tt, rw (e.0, e.1, p.0, p.1, p.2) (statement_stands im im.entry _ at)))
+    (runnable im c.start-place.ensures.loaded, (rw e.1 tt, rw (e.0, e.1, place, ops, hs) (statement_stands im im.entry _ at)))
 
 pub returns-clause-begun : goal.returns-clause-begun
 returns-clause-begun c = λ io.
     let im = c.args.program.now in
-    let e = c.in_ok-new.ensures.code in
-    let p = c.in_ok-new.ensures.place in
+    let e = c.in_ok-run.ensures.code in
+    let rest = c.in_ok-enter_variables.ensures.rest in
+    let place = ap (λ (s : State). s.place) rest ∙ c.in_ok-run.ensures.place.0 in
+    let ops = ap (λ (s : State). s.operands.top) rest ∙ c.in_ok-run.ensures.place.1 in
+    let hs = ap (λ (s : State). s.handlers.top) rest ∙ c.in_ok-run.ensures.place.2 in
     let at = statement_begins im (runnable im c.start-place.ensures.loaded) im.entry c.start-place.result c.start-place.ensures.place in
-    begun_is im _ c.in_ok-new.field-0 io at (ap (offset_at im.code) p.0) e.0 e.1 p.1 p.2 (c.in_ok-new.ensures.world io ∙ ap (λ l. after_w io.printed (first_m l io.left)) c.level.ensures)
+    begun_is im _ (record c.in_ok-run.run' { state = c.enter_variables.new.self }) io at (ap (offset_at im.code) place) e.0 e.1 ops hs (c.in_ok-enter_variables.ensures.unseen io ∙ c.in_ok-run.ensures.world io ∙ ap (λ l. after_w io.printed (first_m l io.left)) c.level.ensures)

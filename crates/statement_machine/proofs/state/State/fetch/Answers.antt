@@ -9,16 +9,16 @@ use Rattle.statement_machine.proofs.state.State.fetch.Goals as goal
 
 pub returns-clause-served : goal.returns-clause-served
 returns-clause-served g c =
-    served_for c.fetch-answer.ensures.served (c.gave.ensures.counts _ _)
-    (λ io io' x im fs. fetched im fs c.args.next c.args.self.now c.gave.new.self c.fetch-answer.new.self c.gave.result c.pop_name-name.new.operands c.pop_name-name.result
-    (answer_map (option_map value_of) c.fetch-answer.result)
-    (c.pop_name-name.ensures) (c.gave.ensures.left im fs) io io' x)
+    served_for c.fetch_at-answer.ensures.served (c.gave.ensures.counts _ _)
+    (λ io io' x im fs. fetched im fs c.args.next c.args.self.now c.gave.new.self c.fetch_at-answer.new.self c.gave.result c.pop_name-named.new.operands c.pop_name-named.result
+    (answer_map (option_map value_of) c.fetch_at-answer.result)
+    (c.pop_name-named.ensures) (c.gave.ensures.left im fs) io io' x)
 
 pub returns-clause-sound : goal.returns-clause-sound
 returns-clause-sound g c im fs h =
-    fetch_sound im fs c.args.next c.args.self.now c.gave.new.self c.fetch-answer.new.self c.gave.result c.pop_name-name.new.operands c.pop_name-name.result
-    (answer_map (option_map value_of) c.fetch-answer.result) h
-    (c.pop_name-name.ensures) (c.gave.ensures.left im fs)
+    fetch_sound im fs c.args.next c.args.self.now c.gave.new.self c.fetch_at-answer.new.self c.gave.result c.pop_name-named.new.operands c.pop_name-named.result
+    (answer_map (option_map value_of) c.fetch_at-answer.result) h
+    (c.pop_name-named.ensures) (c.gave.ensures.left im fs)
 
 pub returns-clause-quiet : goal.returns-clause-quiet
-returns-clause-quiet g c = quiet_ever (halted_by c.gave.result) _ _ c.fetch-answer.ensures.quiet
+returns-clause-quiet g c = quiet_ever (halted_by c.gave.result) _ _ c.fetch_at-answer.ensures.quiet

@@ -11,16 +11,16 @@ use Rattle.statement_machine.proofs.state.State.splice.Goals as goal
 
 pub returns-clause-served : goal.returns-clause-served
 returns-clause-served g c =
-    served_for c.splice-answer.ensures.served (c.went.ensures.counts _ _)
-    (λ io io' x im fs. spliced im fs c.args.next c.args.self.now c.went.new.self c.splice-answer.new.self c.went.result c.pop_name-name.new.operands c.pop_name-name.result
-    c.pop_value-value.result c.pop_span-span.result (done c.splice-answer.result)
-    (c.pop_value-value.ensures ∙ ap (λ (l : Stacked Operand). record l { top = operand.Value c.pop_value-value.result ∷ l.top }) (c.pop_span-span.ensures ∙ ap (λ (l : Stacked Operand). record l { top = operand.Span c.pop_span-span.result ∷ l.top }) c.pop_name-name.ensures)) (c.went.ensures.left im fs) io io' x)
+    served_for c.splice_at-answer.ensures.served (c.went.ensures.counts _ _)
+    (λ io io' x im fs. spliced im fs c.args.next c.args.self.now c.went.new.self c.splice_at-answer.new.self c.went.result c.pop_name-named.new.operands c.pop_name-named.result
+    c.pop_value-value.result c.pop_span-span.result (done c.splice_at-answer.result)
+    (c.pop_value-value.ensures ∙ ap (λ (l : Stacked Operand). record l { top = operand.Value c.pop_value-value.result ∷ l.top }) (c.pop_span-span.ensures ∙ ap (λ (l : Stacked Operand). record l { top = operand.Span c.pop_span-span.result ∷ l.top }) c.pop_name-named.ensures)) (c.went.ensures.left im fs) io io' x)
 
 pub returns-clause-sound : goal.returns-clause-sound
 returns-clause-sound g c im fs h =
-    splice_sound im fs c.args.next c.args.self.now c.went.new.self c.splice-answer.new.self c.went.result c.pop_name-name.new.operands c.pop_name-name.result
-    c.pop_value-value.result c.pop_span-span.result (done c.splice-answer.result) h
-    (c.pop_value-value.ensures ∙ ap (λ (l : Stacked Operand). record l { top = operand.Value c.pop_value-value.result ∷ l.top }) (c.pop_span-span.ensures ∙ ap (λ (l : Stacked Operand). record l { top = operand.Span c.pop_span-span.result ∷ l.top }) c.pop_name-name.ensures)) (c.went.ensures.left im fs)
+    splice_sound im fs c.args.next c.args.self.now c.went.new.self c.splice_at-answer.new.self c.went.result c.pop_name-named.new.operands c.pop_name-named.result
+    c.pop_value-value.result c.pop_span-span.result (done c.splice_at-answer.result) h
+    (c.pop_value-value.ensures ∙ ap (λ (l : Stacked Operand). record l { top = operand.Value c.pop_value-value.result ∷ l.top }) (c.pop_span-span.ensures ∙ ap (λ (l : Stacked Operand). record l { top = operand.Span c.pop_span-span.result ∷ l.top }) c.pop_name-named.ensures)) (c.went.ensures.left im fs)
 
 pub returns-clause-quiet : goal.returns-clause-quiet
-returns-clause-quiet g c = quiet_settled (halted_by c.went.result) _ _ _ c.went.ensures.stop c.splice-answer.ensures.quiet
+returns-clause-quiet g c = quiet_settled (halted_by c.went.result) _ _ _ c.went.ensures.stop c.splice_at-answer.ensures.quiet
