@@ -2,10 +2,10 @@
 
 use code_format::read_u32;
 use driver::{Told, report, run_with_card};
+use model::UnitFault;
 use std::alloc::Global;
 use std::fs::{self, Files};
 use std::io::{Print, Write};
-use model::UnitFault;
 use unit_io::MemUnits;
 
 /// How many steps a module may take.

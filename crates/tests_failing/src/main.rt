@@ -43,14 +43,9 @@ const ENDED: Answers = Answers {
 #[derive(Drop)]
 enum Words {
     /// The run of a deck of which this call fails.
-    Failing {
-        k: u64,
-        deck: String,
-    },
+    Failing { k: u64, deck: String },
     /// The run of each module of this file.
-    Each {
-        file: String,
-    },
+    Each { file: String },
 }
 
 fn read_words<R: Env + AllocGlobal>(rt: &R) -> Result<Words, Told<'static>> {
