@@ -3,7 +3,7 @@
 A crate offers its public types, its definitions in the files of specs/ that a contract of a public function reaches or
 that its page CALLING.md names, and the lemmas that the page names under `## Laws for other crates`. All definitions of
 `model` are offered, as they are what the contracts of all crates speak of; but no crate above the matcher names
-choices, and none above the module format how its parts are spelt.
+choices, and none above the loader how parts of a module are spelt.
 """
 
 import functools
@@ -21,7 +21,7 @@ PATH = re.compile(r"\bRattle\.(\w+)\.(specs|proofs)\.([\w.-]*\w)((?:\.\{[^}]*\}|
 # Definitions of how a layer works: no crate above it names them, though they stand in files of `model`.
 WITHIN = {
     "match_machine": ("Pattern/Steps", {"Note", "Thread", "Choice", "Move", "Act", "pattern_act"}),
-    "module_format": ("Module/Spelling", {"opcode", "instr", "pat_instr", "counted", "string", "code_bytes"}),
+    "loader": ("Module/Spelling", {"opcode", "instr", "pat_instr", "counted", "string", "code_bytes"}),
 }
 IMPORT = re.compile(r"^\s*(?:pub |ghost )*use ")
 EXPORT = re.compile(r"^pub use \w+::(?:\{([^}]*)\}|(\w+));", re.MULTILINE)
