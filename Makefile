@@ -18,13 +18,13 @@ BUILT := $(PROGRAM)/out/sno $(PROGRAM)/out/sno.by-rattle
 FAILING := crates/tests_failing/out/tests_failing
 # A part of the faults that `make refuse`, `failing`, `damage` and `deep` run whole.
 FAULTS := "tests/refuse --every 50 $(PROGRAM)/out/sno $(FAILING)" "tests/failing $(PROGRAM)/out/sno $(FAILING)" \
-	"tests/damage --every 900 $(PROGRAM)/out/sno" "tests/deep --part $(PROGRAM)/out/sno"
+	"tests/damage --every 90 $(PROGRAM)/out/sno $(FAILING)" "tests/deep --part $(PROGRAM)/out/sno"
 # What a proof of the program reads, folders too, so that a file that goes is noticed.
 PARTS = $(foreach crate,$(shell tools/below $(1) 2>/dev/null),$(foreach part,src specs proofs,crates/$(crate)/$(part)))
 SOURCES := $(shell find crates.txt $(wildcard $(call PARTS,sno)) 2>/dev/null)
 LISTER_SOURCES := $(shell find crates.txt $(wildcard $(call PARTS,sno_list)) 2>/dev/null)
 
-.PHONY: help run try sno list install uninstall test decks pages bound refuse failing damage deep wrong time check bench compare fmt clean toolchain program deck input
+.PHONY: help run try sno list install uninstall test decks pages bound ways refuse failing damage deep wrong time check bench compare fmt clean toolchain program deck input
 .DEFAULT_GOAL := help
 
 help: ## list the targets
@@ -64,7 +64,7 @@ build/sno: $(SOURCES) | program
 	@(cd $(PROGRAM) && echo END | ../../tools/progress "$(RT) run") >&2 || { echo "sno: not proved, or not built" >&2; exit 1; }
 	@cp $(PROGRAM)/out/sno build/sno.new && mv build/sno.new build/sno
 
-build/failing: $(SOURCES) crates/tests_failing/src/main.rt | program
+build/failing: $(SOURCES) $(wildcard crates/tests_failing/src/*.rt) | program
 	@(cd crates/tests_failing && ../../tools/progress "$(RT) run -- 0 data/deck.sno" >&2) || { echo "failing: not proved, or not built" >&2; exit 1; }
 	@cp crates/tests_failing/out/tests_failing build/failing
 
@@ -86,7 +86,7 @@ uninstall: ## [PREFIX=folder]: take away what install put there
 test: toolchain ## the gate: every proof from nothing, must-fail edits, tests, programs, decks (last line 'N passed, M failed')
 	@echo "test: proving every crate from nothing; this takes many minutes (all lines go to build/log)"
 	@mkdir -p build && touch build/began
-	@RT_JOBS=$${RT_JOBS:-$$(tools/jobs)} tools/progress "$(RT) ci" "tools/wrong --texts" "tests/docs $(PROGRAM)/out/sno $(LISTER)/out/sno_list" "tests/run $(BUILT)" "tests/pipe $(PROGRAM)/out/sno" "tests/bound --decks 100 $(PROGRAM)/out/sno" $(FAULTS)
+	@RT_JOBS=$${RT_JOBS:-$$(tools/jobs)} tools/progress "$(RT) ci" "tools/wrong --texts" "tests/docs $(PROGRAM)/out/sno $(LISTER)/out/sno_list" "tests/run $(BUILT)" "tests/pipe $(PROGRAM)/out/sno" "tests/bound --decks 100 $(PROGRAM)/out/sno" "tests/ways $(BUILT)" $(FAULTS)
 	@cp $(PROGRAM)/out/sno build/sno.new && touch -r build/began build/sno.new && mv build/sno.new build/sno
 
 decks: build/sno ## the decks of tests/ alone, on the proved program
@@ -98,14 +98,17 @@ pages: build/sno build/sno_list ## what the pages name and show, on the proved p
 bound: build/sno ## 2,000 random decks on the proved program and on the reference of tests/, with steps and rules
 	@tests/bound build/sno --decks 2000
 
+ways: build/sno ## 5,000 random decks of the whole language each way on the proved program, and on the reference
+	@tests/ways build/sno --decks 5000 --mangled 1000
+
 refuse: build/sno build/failing ## each growth of memory refused in turn, to the proved program on some hundred decks
 	@tests/refuse build/sno build/failing
 
 failing: build/sno build/failing ## each read and write failed in turn, on the proved program and on units that fail
 	@tests/failing build/sno build/failing
 
-damage: build/sno ## a million of some nine million damaged modules on the proved program
-	@tests/damage build/sno --every 8
+damage: build/sno build/failing ## some nine million damaged modules, run by the proved code
+	@tests/damage build/sno build/failing
 
 deep: build/sno ## deep and large decks on the proved program, with a small stack and little memory
 	@tests/deep build/sno
@@ -120,9 +123,14 @@ check: toolchain ## prove every crate over what earlier checks kept
 	@echo "check: proving every crate, lowest first"
 	@$(RT) all check
 
-bench: toolchain ## prove, build and run the benchmark programs
+ifdef INSTRUCTIONS
+bench: build/sno ## [INSTRUCTIONS=1]: prove, build and run the benchmark programs; or what a step costs, by valgrind
+	@bench/steps build/sno
+else
+bench: toolchain
 	@: $(if $(BENCHES),,$(error there are no benchmark programs yet: no crate crates/bench_*))
 	@for crate in $(BENCHES); do echo "bench: $$crate"; (cd $$crate && $(RT) run -- time < /dev/null) || exit 1; done
+endif
 
 compare: build/sno ## the workloads of bench/ on the proved program and on the others that are installed
 	@bench/compare build/sno

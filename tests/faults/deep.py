@@ -1,8 +1,8 @@
 """Runs deep and large decks with a small stack and with little memory.
 
-Modules are run with a stack of 256 KiB, on which nothing of a run recurses. Decks are compiled with 1 MiB, as brackets
-and marks within their limits lie on the stack of the compiler. Each case is a deck, how its run must end, and how much
-memory its compilation and run may take at most.
+Decks are compiled and modules are run with a stack of 256 KiB. Nothing of a run recurses; of a compilation brackets and
+operands do, within the limits of the language. Each case is a deck, how its run must end, and how much memory its
+compilation and run may take at most.
 Large decks are compiled in three sizes, to see that the time grows no faster than the deck. The last line is
 `N passed, M failed`.
 """
@@ -18,8 +18,8 @@ import typing
 from .cases import content
 from .refuse import PROGRAM
 
-# The stack of a compilation, and that of a run.
-STACK_TO_COMPILE, STACK_TO_RUN = 1 << 20, 256 << 10
+# The stack of a compilation and of a run.
+STACK = 256 << 10
 SECONDS = 120
 # How many megabytes a compilation or a run of one statement or loop takes at most, if nothing else is said.
 MEGABYTES = 400
@@ -69,7 +69,7 @@ def ran(program, words, folder):
             os.dup2(os.open("/dev/null", os.O_RDONLY), 0)
             os.dup2(files["out"], 1)
             os.dup2(files["told"], 2)
-            limit(STACK_TO_COMPILE if words[0] == "compile" else STACK_TO_RUN)
+            limit(STACK)
             os.execv(program, [str(program), *words])
         finally:
             os._exit(125)
@@ -187,6 +187,13 @@ def trees():
     yield Case("16 marks before each of 64 brackets", *marks)
     calls = printed(("-" * 16 + "SIZE(") * 64 + "'ABC'" + ")" * 64, "1")
     yield Case("16 marks before each of 64 calls", *calls)
+    before = "1 1 + 1 / 1 * 1 ** " + "-" * 16 + "("
+    yield Case("operators of each grade before each of 64 brackets", *printed(before * 64 + "1" + ")" * 64, "12"))
+    row = " ".join(["A"] * 1_990)
+    yield Case("1,990 names in a row", " A = 'B'\n" + on_cards(" OUTPUT = " + row), "B" * 1_990 + "\n")
+    deepest = ("-" * 16 + "(") * 64 + " ".join(["A"] * 1_400) + ")" * 64
+    yield Case("1,400 names in a row within 64 brackets with marks", *printed(deepest, "0"))
+    yield Case("a row of names that isn't closed", on_cards(" OUTPUT = (" + row), told="statement 1 P1\n", status=3)
     yield Case("a sum of 950 parts", *printed("1" + " + 1" * 949, "950"))
     yield Case("a power of 790 parts", *printed("1" + " ** 1" * 789, "1"))
     yield Case("a string of 980 parts", *printed(" ".join(["'A'"] * 980), "A" * 980))
@@ -234,10 +241,10 @@ def of_case(program, case, folder):
 
 # Statements of large decks, and how many megabytes half a million of them take at most.
 LARGE = {
-    "assignments of a string": (lambda n: " X = 'AAAAAAAAAAAAAAAAAAAAAAAA'\n", 450),
+    "assignments of a string": (lambda n: " X = 'AAAAAAAAAAAAAAAAAAAAAAAA'\n", 320),
     "labels and gotos": (lambda n: f"L{n:06} A{n:06} = B :(L{n:06})\n", 500),
     "names of their own": (lambda n: f" NAME{n:06} = .OTHER{n:06} N\n", 560),
-    "patterns": (lambda n: f" X ('A' | B{n:06} . C) LEN(1)\n", 840),
+    "patterns": (lambda n: f" X ('A' | B{n:06} . C) LEN(1)\n", 800),
 }
 
 

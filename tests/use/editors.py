@@ -260,7 +260,7 @@ endfunction
 for file in readfile($FILES)
   execute 'edit ++enc=latin1 ++ff=unix' fnameescape(file)
   setlocal filetype=snobol4 noswapfile
-  call writefile([file] + map(range(1, line('$')), 's:Row(v:val)') + ['.'], $OUT, 'a')
+  call writefile([file] + map(range(1, line('$')), 's:Row(v:val)') + ['.'], $OUT, 'aS')
   bwipeout!
 endfor
 """

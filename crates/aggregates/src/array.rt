@@ -1,13 +1,13 @@
 //! An array: its dimensions, and its elements side by side.
 
-ghost use Rattle.std.specs.Prelude.{◌≡◌, ◌<◌, ◌≤◌, ◌^◌, IfOk, Some, replicate, slice_get, length, false};
+ghost use Rattle.std.specs.Prelude.{◌≡◌, ◌<◌, ◌≤◌, ◌^◌, ◌∷◌, [], IfOk, Some, replicate, slice_get, length, false};
 ghost use Rattle.std.specs.Option.{option_copied};
 ghost use Rattle.model.specs.Language.Aggregates.{place_from};
 ghost use Rattle.model.specs.Language.Prototypes.{elements_in};
 ghost use Rattle.model.specs.Language.Operators.{with_item};
 ghost use Rattle.aggregates.specs.Objects.{if_stored};
 
-use crate::bounds::{Bounds, place_of};
+use crate::bounds::{Bounds, place_of, place_of_one};
 use crate::element::Element;
 use crate::items::{copied, put, repeated};
 use std::alloc::{AllocError, Global};
@@ -90,6 +90,13 @@ impl<V: Element> Array<V> {
         ensures { result ≡ place_from 0 self.now.0 subscripts.now }
     {
         place_of(&self.bounds, subscripts)
+    }
+
+    /// The place of the element with this subscript alone.
+    pub(crate) fn place_of_one(&self, subscript: i64) -> Option<usize>
+        ensures { result ≡ place_from 0 self.now.0 (subscript ∷ []) }
+    {
+        place_of_one(&self.bounds, subscript)
     }
 
     /// Another element at a place, if there is one.

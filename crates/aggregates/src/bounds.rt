@@ -1,6 +1,6 @@
 //! The dimensions of arrays.
 
-ghost use Rattle.std.specs.Prelude.{◌≡◌, ◌<◌, ◌-◌, ◌^◌, min, Some, pos, ◌<ℤ◌, nat_abs, IfSome};
+ghost use Rattle.std.specs.Prelude.{◌≡◌, ◌<◌, ◌-◌, ◌^◌, ◌∷◌, [], min, Some, pos, ◌<ℤ◌, nat_abs, IfSome};
 ghost use Rattle.model.specs.Language.Aggregates.{place_from};
 ghost use Rattle.model.specs.Language.Prototypes.{bounds_from, elements_in, are_bounds};
 ghost use Rattle.aggregates.specs.Bounds.{offset_in};
@@ -115,4 +115,18 @@ pub(crate) fn place_of(bounds: &[Bounds], subscripts: &[i64]) -> Option<usize>
         place = place * dimension.count() + offset as usize;
     }
     Some(place)
+}
+
+/// The place of the element with this subscript, where there is no other one. Takes no memory.
+#[tactic(auto, using(crate::proofs::Subscripts::one_place, crate::proofs::Subscripts::no_one_place))]
+pub(crate) fn place_of_one(bounds: &[Bounds], subscript: i64) -> Option<usize>
+    ensures { result ≡ place_from 0 bounds.now (subscript ∷ []) }
+{
+    let [dimension] = bounds else {
+        return None;
+    };
+    match dimension.offset(subscript) {
+        Some(offset) => Some(offset as usize),
+        None => None,
+    }
 }

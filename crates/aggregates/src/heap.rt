@@ -93,6 +93,16 @@ impl<V: Element> Heap<V> {
         }
     }
 
+    /// The place of an array's element, by its only subscript. Takes no memory.
+    pub fn place_of_one(&self, object: usize, subscript: i64) -> Option<usize>
+        ensures { result ≡ place_in (subscript ∷ []) (slice_get self.now object) }
+    {
+        match self.object(object) {
+            Some(Object::Array(array)) => array.place_of_one(subscript),
+            _ => None,
+        }
+    }
+
     /// The place of a record's field, by its name. Takes no memory.
     pub fn field(&self, object: usize, name: &Text) -> Option<usize>
         ensures { result ≡ field_in name.now (slice_get self.now object) }

@@ -76,7 +76,7 @@ fn deck_of(alloc: Global, kind: Loop, turns: u32) -> Result<Vec<u8>, BenchError>
 }
 
 /// Runs a machine to its normal end, so many steps at a time, and counts the steps in such parts.
-fn run_to_end(machine: &mut Machine<'_>, units: &mut MemUnits, part: u64) -> Option<u64> {
+fn run_to_end(machine: &mut Machine<'_, '_>, units: &mut MemUnits, part: u64) -> Option<u64> {
     let mut steps = part;
     for _ in 0..u64::MAX {
         match machine.run(units, part) {

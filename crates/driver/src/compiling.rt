@@ -12,7 +12,7 @@ use card_reader::read_deck;
 use codegen::generate;
 use model::{CardFault, CardRule, DeckFault, Program};
 use module_format::write_image;
-use parser::parse_deck;
+use parser::{let_go, parse_deck};
 use std::alloc::Global;
 
 impl From<CardFault> for Refusal {
@@ -59,6 +59,7 @@ pub fn compile_deck(alloc: Global, deck: &[u8]) -> Result<Vec<u8>, Refusal>
 {
     let program = read_program(alloc, deck)?;
     let image = generate(alloc, &program)?;
+    let_go(alloc, program);
     let module = write_image(alloc, &image)?;
     Ok(module)
 }

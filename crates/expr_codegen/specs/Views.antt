@@ -48,3 +48,10 @@ element x args n = with_string op.Var x >> one op.Fetch >> arguments args >> one
 -- a call with n arguments
 abbrev pub called : Bool → Bytes → Args → ℕ → Part
 called wants f args n = arguments args >> call_of wants f n
+
+-- the values of a variable and of an element
+abbrev pub fetched : Bytes → Part
+fetched x = with_string op.Var x >> one op.Fetch
+
+abbrev pub fetched_element : Bytes → Args → ℕ → Part
+fetched_element x args n = element x args n >> one op.Fetch

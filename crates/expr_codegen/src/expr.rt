@@ -27,18 +27,12 @@ pub fn value<'a>(alloc: Global, g: &mut Generator<'a>, e: &'a Expr) -> Result<()
     ensures extends { Extends (gen_of g.old) (gen_of g.new) }
 {
     match e {
-        Expr::Name(x) => {
-            variable(alloc, g, x)?;
-            g.put(Instr::Fetch)
-        }
+        Expr::Name(x) => fetched(alloc, g, x),
         Expr::Integer(z) => g.put(Instr::Int(*z)),
         Expr::Literal(s) => literal(alloc, g, s),
         Expr::Keyword(k) => keyword(g, k),
         Expr::Call(f, args) => called(alloc, g, f, args, false),
-        Expr::Reference(x, args) => {
-            element(alloc, g, x, args)?;
-            g.put(Instr::Fetch)
-        }
+        Expr::Reference(x, args) => fetched_element(alloc, g, x, args),
         Expr::Unary(op, x) => applied(alloc, g, *op, x),
         Expr::Binary(op, x, y) => combined(alloc, g, *op, x, y),
     }
@@ -63,8 +57,45 @@ pub fn name<'a>(alloc: Global, g: &mut Generator<'a>, e: &'a Expr) -> Result<(),
     }
 }
 
+// Puts the code for a variable's value.
+#[inline(never)]
+fn fetched<'a>(alloc: Global, g: &mut Generator<'a>, x: &'a [u8]) -> Result<(), AllocError>
+    requires { size (gen_of g.old) + 7 < 2 ^ 31 }
+    ensures emits { OnOk result
+        (Emits (views.fetched x.now) (gen_of g.old) (gen_of g.new)) }
+    ensures size { OnOk result (AddsAtMost 7 (gen_of g.old) (gen_of g.new)) }
+    ensures extends { Extends (gen_of g.old) (gen_of g.new) }
+{
+    variable(alloc, g, x)?;
+    g.put(Instr::Fetch)
+}
+
+// Puts the code for the value of a reference.
+#[cycle(tree)]
+#[inline(never)]
+fn fetched_element<'a>(
+    alloc: Global,
+    g: &mut Generator<'a>,
+    x: &'a [u8],
+    args: &'a [Argument],
+) -> Result<(), AllocError>
+    requires countable { AllCountable (args_of args.now) }
+    requires few { length args.now ≤ 65535 }
+    requires room { size (gen_of g.old) + 9 * of_args (args_of args.now) + 11 < 2 ^ 31 }
+    ensures emits { OnOk result
+        (Emits (views.fetched_element x.now (args_of args.now) (length args.now)) (gen_of g.old)
+        (gen_of g.new)) }
+    ensures size { OnOk result
+        (AddsAtMost (9 * of_args (args_of args.now) + 11) (gen_of g.old) (gen_of g.new)) }
+    ensures extends { Extends (gen_of g.old) (gen_of g.new) }
+{
+    element(alloc, g, x, args)?;
+    g.put(Instr::Fetch)
+}
+
 // Puts the code for the name that a unary operator and its operand give.
 #[cycle(tree)]
+#[inline(never)]
 fn applied_name<'a>(
     alloc: Global,
     g: &mut Generator<'a>,
@@ -90,6 +121,7 @@ fn applied_name<'a>(
 
 // Puts the code for the value of a unary operator and its operand.
 #[cycle(tree)]
+#[inline(never)]
 fn applied<'a>(
     alloc: Global,
     g: &mut Generator<'a>,
@@ -113,11 +145,7 @@ fn applied<'a>(
             name(alloc, g, x)?;
             g.put(Instr::Cursor)
         }
-        Unary::Indirect => {
-            value(alloc, g, x)?;
-            g.put(Instr::Indir)?;
-            g.put(Instr::Fetch)
-        }
+        Unary::Indirect => indirect(alloc, g, x),
         Unary::Unevaluated => g.defer(x),
         Unary::Plus => {
             value(alloc, g, x)?;
@@ -127,17 +155,48 @@ fn applied<'a>(
             value(alloc, g, x)?;
             g.put(Instr::Sign(SignOp::Minus))
         }
-        Unary::Interrogate => {
-            value(alloc, g, x)?;
-            g.put(Instr::Drop)?;
-            g.put(Instr::Null)
-        }
+        Unary::Interrogate => interrogated(alloc, g, x),
         Unary::Negate => negated(alloc, g, x),
     }
 }
 
+// Puts the code for the value of `$` and its operand.
+#[cycle(tree)]
+#[inline(never)]
+fn indirect<'a>(alloc: Global, g: &mut Generator<'a>, x: &'a Expr) -> Result<(), AllocError>
+    requires countable { Countable (expr_of x.now) }
+    requires room { size (gen_of g.old) + 9 * of_expr (expr_of x.now) + 9 < 2 ^ 31 }
+    ensures emits { OnOk result
+        (Emits (code.value (Apply u.Indirect (expr_of x.now))) (gen_of g.old) (gen_of g.new)) }
+    ensures size { OnOk result
+        (AddsAtMost (9 * of_expr (expr_of x.now) + 9) (gen_of g.old) (gen_of g.new)) }
+    ensures extends { Extends (gen_of g.old) (gen_of g.new) }
+{
+    value(alloc, g, x)?;
+    g.put(Instr::Indir)?;
+    g.put(Instr::Fetch)
+}
+
+// Puts the code for the value of `?` and its operand.
+#[cycle(tree)]
+#[inline(never)]
+fn interrogated<'a>(alloc: Global, g: &mut Generator<'a>, x: &'a Expr) -> Result<(), AllocError>
+    requires countable { Countable (expr_of x.now) }
+    requires room { size (gen_of g.old) + 9 * of_expr (expr_of x.now) + 9 < 2 ^ 31 }
+    ensures emits { OnOk result
+        (Emits (code.value (Apply u.Interrogate (expr_of x.now))) (gen_of g.old) (gen_of g.new)) }
+    ensures size { OnOk result
+        (AddsAtMost (9 * of_expr (expr_of x.now) + 9) (gen_of g.old) (gen_of g.new)) }
+    ensures extends { Extends (gen_of g.old) (gen_of g.new) }
+{
+    value(alloc, g, x)?;
+    g.put(Instr::Drop)?;
+    g.put(Instr::Null)
+}
+
 // Puts the code for the value of `~` and its operand.
 #[cycle(tree)]
+#[inline(never)]
 fn negated<'a>(alloc: Global, g: &mut Generator<'a>, x: &'a Expr) -> Result<(), AllocError>
     requires countable { Countable (expr_of x.now) }
     requires room { size (gen_of g.old) + 9 * of_expr (expr_of x.now) + 9 < 2 ^ 31 }
@@ -161,6 +220,7 @@ fn negated<'a>(alloc: Global, g: &mut Generator<'a>, x: &'a Expr) -> Result<(), 
 
 // Puts the code for the value of a binary operator and its operands.
 #[cycle(tree)]
+#[inline(never)]
 fn combined<'a>(
     alloc: Global,
     g: &mut Generator<'a>,
@@ -211,6 +271,7 @@ fn wanted<'a>(
 
 // Puts the code of a call.
 #[cycle(tree)]
+#[inline(never)]
 fn called<'a>(
     alloc: Global,
     g: &mut Generator<'a>,
@@ -235,6 +296,7 @@ fn called<'a>(
 
 // Puts the code for the name of a reference.
 #[cycle(tree)]
+#[inline(never)]
 fn element<'a>(
     alloc: Global,
     g: &mut Generator<'a>,
@@ -260,6 +322,7 @@ fn element<'a>(
 
 // Puts the code of arguments, one after another.
 #[cycle(tree)]
+#[inline(never)]
 fn arguments<'a>(
     alloc: Global,
     g: &mut Generator<'a>,

@@ -12,6 +12,7 @@ use model::{Instr, KeyId, PrimId};
 use std::alloc::{AllocError, Global};
 
 /// Puts a variable's name.
+#[inline(never)]
 pub fn variable<'a>(alloc: Global, g: &mut Generator<'a>, name: &[u8]) -> Result<(), AllocError>
     requires { size (gen_of g.old) + 6 < 2 ^ 31 }
     ensures emits { OnOk result
@@ -24,6 +25,7 @@ pub fn variable<'a>(alloc: Global, g: &mut Generator<'a>, name: &[u8]) -> Result
 }
 
 /// Puts a literal.
+#[inline(never)]
 pub fn literal<'a>(alloc: Global, g: &mut Generator<'a>, text: &[u8]) -> Result<(), AllocError>
     requires { size (gen_of g.old) + 6 < 2 ^ 31 }
     ensures emits { OnOk result
@@ -36,6 +38,7 @@ pub fn literal<'a>(alloc: Global, g: &mut Generator<'a>, text: &[u8]) -> Result<
 }
 
 /// Puts a keyword's value.
+#[inline(never)]
 pub fn keyword<'a>(g: &mut Generator<'a>, name: &[u8]) -> Result<(), AllocError>
     requires { size (gen_of g.old) + 2 < 2 ^ 31 }
     ensures emits { OnOk result

@@ -35,9 +35,9 @@ drop_one (i ∷ is) (suc k) d lt =
     let e : suc k + 1 ≡ suc (k + 1) = omega arith in
     drop_one is k d (omega (arith, lt)) ∙ ap (λ n. get_or is k d ∷ drop n (i ∷ is)) (sym e)
 
-drop_done : (is : List Instr) (k : ℕ) → length is ≡ k → drop k is ≡ []
+drop_done : (is : List Instr) (k : ℕ) → length is ≤ k → drop k is ≡ []
 drop_done [] zero e = refl
-drop_done [] (suc k) e = absurd (omega (arith, e))
+drop_done [] (suc k) e = refl
 drop_done (i ∷ is) zero e = absurd (omega (arith, e))
 drop_done (i ∷ is) (suc k) e = drop_done is k (omega (arith, e))
 
@@ -51,6 +51,12 @@ pub record Walked (im : Image) (ns : List Node) (m : ℕ → Option Mark) (c : O
   pub told : Told im ns m c o
   pub clear : (y : ℕ) → y < o → BreaksFlow im y → ⊥
   pub distinct : Distinct ns
+
+-- the same, where these instructions are left
+pub record WalkedTo (im : Image) (left : List Instr) (ns : List Node) (m : ℕ → Option Mark) (c : Option Shape) (o : ℕ) : Type 0 where
+  pub place : ℕ
+  pub code : drop place im.code ≡ left
+  pub walked : Walked im ns m c place o
 
 begins_known : (im : Image) (y : ℕ) (t : flow.Shape) → Known im 0 y t → flow.Begins im y t
 begins_known im y t (inl h) = h
@@ -77,7 +83,7 @@ walk_starts im ns m e h = record {
         (tells_seeded ns none_twice (empty_shape Evaluation) flow.asked (empty_is ns Evaluation) im.expressions _ _
         (tells_seeded ns none_twice (empty_shape Goto) flow.bare (empty_is ns Goto) im.statements (λ z t. ⊥) (λ z. None) (λ z t x. x)) y))
 
-pub walk_ends : (im : Image) (ns : List Node) (m : ℕ → Option Mark) (c : Option Shape) (k o : ℕ) → Walked im ns m c k o → length im.code ≡ k → IsLeast (BreaksFlow im) None
+pub walk_ends : (im : Image) (ns : List Node) (m : ℕ → Option Mark) (c : Option Shape) (k o : ℕ) → Walked im ns m c k o → length im.code ≤ k → IsLeast (BreaksFlow im) None
 walk_ends im ns m c k o w e = λ y b.
     let f = fetch_lies 0 im.code y b.0 b.1 b.2 in
     let a = w.stands.whole in
@@ -177,15 +183,6 @@ module _ (im : Image) (ns : List Node) (m : ℕ → Option Mark) (c : Option Sha
 
     pub walk_stops : (fine : Bool) → fine ≡ false → Stepped ns more m m' c' o (rule_of i) (met c (m o)) fine → IsLeast (BreaksFlow im) (Some o)
     walk_stops fine f h = stop_by (met c (m o)) here (subst (λ x. Stepped ns more m m' c' o (rule_of i) (met c (m o)) x) f h)
-
--- an item of what the code is
-pub item_at : (is js : List Instr) (k : ℕ) (d : Instr) → js ≡ is → k < length js → get_or js k d ≡ get_or is k (get_or js k d)
-item_at is js k d e lt = any_item js k d (get_or js k d) lt ∙ ap (λ l. get_or l k (get_or js k d)) e
-  where
-    any_item : (is : List Instr) (k : ℕ) (d e : Instr) → k < length is → get_or is k d ≡ get_or is k e
-    any_item [] k d e lt = absurd (omega (arith, lt))
-    any_item (i ∷ is) zero d e lt = refl
-    any_item (i ∷ is) (suc k) d e lt = any_item is k d e (omega (arith, lt))
 
 pub code_few : (im : Image) → length (code_bytes im.code) ≤ 1073741824 → code_size im.code ≤ 2 ^ 30
 code_few im h = let e = code_long im.code in omega (arith, e, h)

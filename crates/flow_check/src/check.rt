@@ -16,7 +16,8 @@ use crate::marks::{Mark, Marks};
 use crate::pool::Pool;
 use crate::rules::{Rule, rule_for};
 use crate::shapes::{Mode, Shape};
-use model::{Image, Instr};
+use model::Instr;
+use module_format::ImageView;
 use std::alloc::{AllocError, Global};
 
 /// Marks where statements or expressions begin.
@@ -31,19 +32,15 @@ fn seed(marks: &mut Marks, offsets: &[u32], shape: Shape) -> Result<(), AllocErr
 }
 
 /// The marks of where the code can begin.
-fn roots(alloc: Global, image: &Image) -> Result<Marks, AllocError>
+fn roots(alloc: Global, image: &ImageView<'_>) -> Result<Marks, AllocError>
     ensures { IfOk result (λ m.
         (y : ℕ) → marked m y
         ≡ seeded image.now.expressions (empty_shape Evaluation)
         (seeded image.now.statements (empty_shape Goto) (λ _. None)) y) }
 {
     let mut marks = Marks::new(alloc);
-    seed(&mut marks, image.statements.as_slice(), empty(Mode::Goto))?;
-    seed(
-        &mut marks,
-        image.expressions.as_slice(),
-        empty(Mode::Evaluation),
-    )?;
+    seed(&mut marks, image.statements(), empty(Mode::Goto))?;
+    seed(&mut marks, image.expressions(), empty(Mode::Evaluation))?;
     Ok(marks)
 }
 
@@ -103,7 +100,7 @@ fn step(walk: &mut Walk, at: u32, instr: Instr) -> Result<bool, AllocError>
 
 /// The least offset of an instruction that breaks the flow: one that lacks what it asks, or is reached in two ways that
 /// differ. One walk over the code in order, in time linear in its bytes.
-pub fn check_flow(alloc: Global, image: &Image) -> Result<Option<u32>, AllocError>
+pub fn check_flow(alloc: Global, image: &ImageView<'_>) -> Result<Option<u32>, AllocError>
     requires { IsImage image.now }
     ensures least { IfOk result (λ flow. IsLeast (BreaksFlow image.now) flow) }
 {
@@ -114,9 +111,8 @@ pub fn check_flow(alloc: Global, image: &Image) -> Result<Option<u32>, AllocErro
         carried: None,
     };
     let mut at = 0;
-    let code = image.code.as_slice();
-    for instr in code {
-        let fine = step(&mut walk, at, *instr)?;
+    for instr in image.code() {
+        let fine = step(&mut walk, at, instr)?;
         if !fine {
             return Ok(Some(at));
         }

@@ -38,6 +38,7 @@ impl<T: Drop> Stack<T> {
     }
 
     /// Puts one on.
+    #[inline(always)]
     #[tactic(auto, using(crate::proofs::Stacks::put_on))]
     pub fn push(&mut self, item: T) -> Result<(), AllocError>
         ensures ok { OnOk result (self.new ≡ record self.old { top = item ∷ self.old.top }) }
@@ -49,6 +50,7 @@ impl<T: Drop> Stack<T> {
     }
 
     /// Another one in the place of the newest.
+    #[inline(always)]
     pub fn set_top(&mut self, item: T)
         requires { 0 < length self.old.top }
         ensures { self.new ≡ record self.old { top = item ∷ drop 1 self.old.top } }
@@ -80,6 +82,7 @@ impl<T: Drop> Stack<T> {
     }
 
     /// The one under so many, if there is one of the code that runs.
+    #[inline(always)]
     pub fn get(&self, depth: usize) -> Option<&T>
         ensures { option_copied result ≡ slice_get self.now.top depth }
     {

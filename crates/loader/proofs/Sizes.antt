@@ -1,5 +1,5 @@
 -- How many bytes the tables have.
-use Rattle.std.proofs.Common.{◌≡◌, ℕ, zero, suc, ◌+◌, ◌*◌, ◌^◌, ◌<◌, ◌≤◌, List, [], ◌∷◌, ◌++◌, length, map, take, get_or, arith}
+use Rattle.std.proofs.Common.{◌≡◌, ℕ, zero, suc, ◌+◌, ◌*◌, ◌^◌, ◌<◌, ◌≤◌, List, [], ◌∷◌, ◌++◌, length, map, take, get_or, arith, Bor, subst, refl}
 use Rattle.std.specs.List.{sum}
 use Rattle.std.proofs.lemmas.List.Sums.{sum_by-cons}
 use Rattle.model.specs.declared.format.Version.{Version}
@@ -89,3 +89,12 @@ places_short v im is =
       patterns = omega (arith, e, ss, cs, ps, is.labels.count, is.statements.count, is.expressions.count);
       code = omega (arith, e, ss, cs, ps, is.labels.count, is.statements.count, is.expressions.count);
     }
+
+-- a string at a place, of the slices that hold the strings
+pub string_here : (bs : List (Bor (List ℕ))) (ss : List (List ℕ)) (k : ℕ) (d : Bor (List ℕ)) → map (λ b. b.now) bs ≡ ss → k < length bs → (k < length ss) × (get_or ss k d.now ≡ (get_or bs k d).now)
+string_here bs ss k d e lt = subst (λ (xs : List (List ℕ)). (k < length xs) × (get_or xs k d.now ≡ (get_or bs k d).now)) e (here bs k lt)
+  where
+    here : (bs : List (Bor (List ℕ))) (k : ℕ) → k < length bs → (k < length (map (λ b. b.now) bs)) × (get_or (map (λ b. b.now) bs) k d.now ≡ (get_or bs k d).now)
+    here [] k lt = absurd (omega (arith, lt))
+    here (b ∷ bs) zero lt = (omega arith, refl)
+    here (b ∷ bs) (suc k) lt = let h = here bs k (omega (arith, lt)) in (omega (arith, h.0), h.1)

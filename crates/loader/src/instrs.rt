@@ -11,10 +11,11 @@ ghost use Rattle.loader.specs.Parts.{code_fault};
 
 use crate::code::PlacedCode;
 use crate::names::{is_name, is_statement, is_string};
-use model::{Image, Instr, ModuleFault, ModuleRule};
+use model::{Instr, ModuleFault, ModuleRule};
+use module_format::ImageView;
 
 // Whether an instruction's numbers are there and allowed.
-fn indices_fit(image: &Image, instr: Instr) -> bool
+fn indices_fit(image: &ImageView<'_>, instr: Instr) -> bool
     ensures { result ≡ indices_fit image.now instr }
 {
     match instr {
@@ -22,9 +23,9 @@ fn indices_fit(image: &Image, instr: Instr) -> bool
         Instr::Str(k) => is_string(image, k),
         Instr::Var(k) | Instr::CallV(k, _) | Instr::CallN(k, _) => is_name(image, k),
         Instr::KeySet(k) => !k.is_protected(),
-        Instr::Expr(k) => (k as usize) < image.expressions.as_slice().len(),
+        Instr::Expr(k) => (k as usize) < image.expressions().len(),
         Instr::PrimV(p, n) | Instr::PrimN(p, n) => n as usize <= p.most_arguments(),
-        Instr::Pat(k) => (k as usize) < image.patterns.as_slice().len(),
+        Instr::Pat(k) => (k as usize) < image.patterns().len(),
         _ => true,
     }
 }
@@ -45,14 +46,14 @@ fn is_target(placed: &PlacedCode, at: u32, target: u32) -> bool
 }
 
 // Whether an instruction's targets and its own place are as they must be.
-fn place_fits(image: &Image, placed: &PlacedCode, at: u32, instr: Instr) -> bool
+fn place_fits(image: &ImageView<'_>, placed: &PlacedCode, at: u32, instr: Instr) -> bool
     requires spelt { IsImage image.now }
     requires placed { placed.now ≡ image.now.code }
     ensures { result ≡ place_fits image.now at instr }
 {
     match instr {
         Instr::Begin(target) => {
-            is_target(placed, at, target) && has_statement(image.statements.as_slice(), at)
+            is_target(placed, at, target) && has_statement(image.statements(), at)
         }
         Instr::Try(target) => is_target(placed, at, target),
         _ => true,
@@ -76,10 +77,10 @@ fn is_last_instr(instr: Instr) -> bool
 }
 
 // Whether the last statement begins at an offset.
-fn begins_last(image: &Image, at: u32) -> bool
+fn begins_last(image: &ImageView<'_>, at: u32) -> bool
     ensures { result ≡ begins_last image.now at }
 {
-    match image.statements.as_slice().last() {
+    match image.statements().last() {
         Some(last) => *last == at,
         None => false,
     }
@@ -87,7 +88,7 @@ fn begins_last(image: &Image, at: u32) -> bool
 
 // The rule that the instruction at an offset breaks, in code of so many bytes.
 fn instr_rule(
-    image: &Image,
+    image: &ImageView<'_>,
     placed: &PlacedCode,
     at: u32,
     next: u32,
@@ -114,20 +115,23 @@ fn instr_rule(
 
 // How many bytes the code has.
 #[tactic(auto, using(crate::proofs::Spelt::short))]
-fn size_of(image: &Image) -> u32
+fn size_of(image: &ImageView<'_>) -> u32
     requires { IsImage image.now }
     ensures { result ≡ code_size image.now.code }
 {
-    let code = image.code.as_slice();
     let mut size = 0;
-    for instr in code {
+    for instr in image.code() {
         size += instr.size();
     }
     size
 }
 
 /// The first fault of the instructions of the code, which begins at a place.
-pub(crate) fn code_fault(image: &Image, placed: &PlacedCode, place: usize) -> Option<ModuleFault>
+pub(crate) fn code_fault(
+    image: &ImageView<'_>,
+    placed: &PlacedCode,
+    place: usize,
+) -> Option<ModuleFault>
     requires spelt { IsImage image.now }
     requires placed { placed.now ≡ image.now.code }
     requires there { place + most_code < 2 ^ 60 }
@@ -135,10 +139,9 @@ pub(crate) fn code_fault(image: &Image, placed: &PlacedCode, place: usize) -> Op
 {
     let size = size_of(image);
     let mut at = 0;
-    let code = image.code.as_slice();
-    for instr in code {
+    for instr in image.code() {
         let next = at + instr.size();
-        if let Some(rule) = instr_rule(image, placed, at, next, size, *instr) {
+        if let Some(rule) = instr_rule(image, placed, at, next, size, instr) {
             return Some(ModuleFault {
                 offset: place + at as usize,
                 rule,

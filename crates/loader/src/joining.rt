@@ -12,14 +12,15 @@ use crate::patterns::patterns_fault;
 use crate::places::{code_offset, places_of};
 use crate::tables::{entry_fault, expression_fault, statement_fault};
 use flow_check::check_flow;
-use model::{Image, ModuleFault, ModuleRule, Version};
+use model::{ModuleFault, ModuleRule, Version};
+use module_format::ImageView;
 use std::alloc::{AllocError, Global};
 
 // The first fault of the parts.
 fn part_fault(
     alloc: Global,
     version: Version,
-    image: &Image,
+    image: &ImageView<'_>,
     placed: &PlacedCode,
 ) -> Result<Option<ModuleFault>, AllocError>
     requires spelt { IsImage image.now }
@@ -62,7 +63,7 @@ fn lesser(first: Option<ModuleFault>, second: Option<ModuleFault>) -> Option<Mod
 }
 
 // The fault of the flow at an offset of the code.
-fn flow_fault(version: Version, image: &Image, flow: Option<u32>) -> Option<ModuleFault>
+fn flow_fault(version: Version, image: &ImageView<'_>, flow: Option<u32>) -> Option<ModuleFault>
     requires { IsImage image.now }
     ensures { result ≡ flow_fault version image.now flow }
 {
@@ -77,7 +78,7 @@ fn flow_fault(version: Version, image: &Image, flow: Option<u32>) -> Option<Modu
 pub(crate) fn fault_of(
     alloc: Global,
     version: Version,
-    image: &Image,
+    image: &ImageView<'_>,
     placed: &PlacedCode,
 ) -> Result<Option<ModuleFault>, AllocError>
     requires spelt { IsImage image.now }

@@ -1,7 +1,7 @@
 //! The table of labels.
 
 ghost use Rattle.std.specs.Prelude.{◌≡◌, ◌<◌, ◌+◌, ◌*◌, ◌^◌, ◌&&◌, List, ℕ, None, IfOk, length};
-ghost use Rattle.std.specs.Prelude.{option_copied, slice_get};
+ghost use Rattle.std.specs.Prelude.{slice_get};
 ghost use Rattle.std.specs.Str.{bytes_eq};
 ghost use Rattle.std.specs.HashMap.{get_by};
 ghost use Rattle.model.specs.Module.Images.{statement_labelled};
@@ -11,24 +11,23 @@ ghost use Rattle.loader.specs.Parts.{label_fault};
 
 use crate::names::{is_label_name, is_statement};
 use indexmap::{IndexMap, IndexSet};
-use model::{Bytes, Image, Label, ModuleFault, ModuleRule};
+use model::{Label, ModuleFault, ModuleRule};
+use module_format::ImageView;
 use std::alloc::{AllocError, Global};
 
 // Whether a label has a name, a statement, and a string that none before it has.
-fn is_label(image: &Image, label: Label, is_new: bool) -> bool
+fn is_label(image: &ImageView<'_>, label: Label, is_new: bool) -> bool
     ensures { result ≡ is_label_name
         (slice_get image.now.strings label.string) && is_statement image.now label.statement &&
         is_new }
 {
-    is_label_name(image.strings.as_slice().get(label.string as usize))
-        && is_statement(image, label.statement)
-        && is_new
+    is_label_name(image.string(label.string)) && is_statement(image, label.statement) && is_new
 }
 
 /// The first fault of the labels, which begin at a place.
 pub(crate) fn label_fault(
     alloc: Global,
-    image: &Image,
+    image: &ImageView<'_>,
     place: usize,
 ) -> Result<Option<ModuleFault>, AllocError>
     requires spelt { IsImage image.now }
@@ -37,7 +36,7 @@ pub(crate) fn label_fault(
 {
     let mut seen = IndexSet::new(alloc);
     let mut offset = place;
-    let labels = image.labels.as_slice();
+    let labels = image.labels();
     for label in labels {
         let is_new = seen.insert(label.string)?;
         if !is_label(image, *label, is_new) {
@@ -51,30 +50,23 @@ pub(crate) fn label_fault(
     Ok(None)
 }
 
-// The string of this number.
-fn string_of(strings: &[Bytes], number: u32) -> Option<&Bytes>
-    ensures { option_copied result ≡ slice_get strings.now number }
-{
-    strings.get(number as usize)
-}
-
-/// The statement of each label by its name.
-pub(crate) fn label_map(
+/// The statement of each label by its name, which is a slice of the module's bytes.
+pub(crate) fn label_map<'a>(
     alloc: Global,
-    strings: &[Bytes],
-    labels: &[Label],
-) -> Result<IndexMap<Vec<u8>, u32>, AllocError>
+    image: &ImageView<'a>,
+) -> Result<IndexMap<&'a [u8], u32>, AllocError>
     ensures { IfOk result (λ found.
-        (name : List ℕ) → get_by (λ k. bytes_eq name k.items) found
-        ≡ statement_labelled strings.now labels.now name None) }
+        (name : List ℕ) → get_by (λ k. bytes_eq name k.now) found
+        ≡ statement_labelled image.now.strings image.now.labels name None) }
 {
+    let labels = image.labels();
     let mut found = IndexMap::new(alloc);
     let mut left = labels.len();
     while left > 0 {
         left -= 1;
-        let label = &labels[left];
-        if let Some(name) = string_of(strings, label.string) {
-            found.insert(Vec::from_slice(alloc, name.as_slice())?, label.statement)?;
+        let label = labels[left];
+        if let Some(name) = image.string(label.string) {
+            found.insert(name, label.statement)?;
         }
     }
     Ok(found)

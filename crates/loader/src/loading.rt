@@ -14,13 +14,16 @@ use crate::code::PlacedCode;
 use crate::joining::fault_of;
 use crate::module::Module;
 use model::{FormatFault, FormatRule, Image, LoadFault, Version};
-use module_format::{read_image, read_image_v1};
+use module_format::{ImageView, view_image, view_image_v1};
 use std::alloc::{AllocError, Global};
 
 // The module of an image, or why it is refused.
-fn judge(alloc: Global, image: Image) -> Result<Result<Module, LoadFault>, AllocError>
+fn judge<'a>(
+    alloc: Global,
+    image: ImageView<'a>,
+) -> Result<Result<Module<'a>, LoadFault>, AllocError>
     requires { IsImage image }
-    ensures { IfOk result (λ answer. IsChecked versions.Two image answer) }
+    ensures { IfOk result (λ answer. IsChecked versions.Two image.entry answer) }
 {
     let placed = PlacedCode::of(alloc, &image)?;
     match fault_of(alloc, Version::Two, &image, &placed)? {
@@ -29,10 +32,10 @@ fn judge(alloc: Global, image: Image) -> Result<Result<Module, LoadFault>, Alloc
     }
 }
 
-fn answer(alloc: Global, bytes: &[u8]) -> Result<Module, LoadFault>
+fn answer<'a>(alloc: Global, bytes: &'a [u8]) -> Result<Module<'a>, LoadFault>
     ensures { IsAnswerIn versions.Two bytes.now result }
 {
-    let image = match read_image(alloc, bytes) {
+    let image = match view_image(alloc, bytes) {
         Ok(image) => image,
         Err(fault) => return Err(LoadFault::Format(fault)),
     };
@@ -46,8 +49,8 @@ fn answer(alloc: Global, bytes: &[u8]) -> Result<Module, LoadFault>
 }
 
 /// The module that bytes spell, or why it is refused: the first format fault, or else the least fault of the
-/// conditions. Where a growth was refused that is told in place of any other answer.
-pub fn load(alloc: Global, bytes: &[u8]) -> Result<Module, LoadFault>
+/// conditions. Where a growth was refused that is told in place of any other answer. The module borrows the bytes.
+pub fn load<'a>(alloc: Global, bytes: &'a [u8]) -> Result<Module<'a>, LoadFault>
     ensures exact { IsAnswer bytes.now result }
     ensures loaded { IfOk result (λ m. (read_image bytes.now ≡ Ok m) × IsLoaded m) }
     ensures accepted { (m : Image) → read_image bytes.now ≡ Ok m → IsLoaded m
@@ -57,21 +60,21 @@ pub fn load(alloc: Global, bytes: &[u8]) -> Result<Module, LoadFault>
 }
 
 // An image that version 1 spells, or why it is refused.
-fn check(alloc: Global, image: Image) -> Result<Result<Image, LoadFault>, AllocError>
+fn check(alloc: Global, image: ImageView<'_>) -> Result<Result<Image, LoadFault>, AllocError>
     requires { IsImage image }
-    ensures { IfOk result (λ answer. IsChecked versions.One image answer) }
+    ensures { IfOk result (λ answer. IsChecked versions.One image.entry answer) }
 {
     let placed = PlacedCode::of(alloc, &image)?;
     match fault_of(alloc, Version::One, &image, &placed)? {
         Some(fault) => Ok(Err(LoadFault::Module(fault))),
-        None => Ok(Ok(image)),
+        None => Ok(Ok(image.into_image(alloc)?)),
     }
 }
 
 fn older_answer(alloc: Global, bytes: &[u8]) -> Result<Image, LoadFault>
     ensures { IsAnswerIn versions.One bytes.now result }
 {
-    let image = match read_image_v1(alloc, bytes) {
+    let image = match view_image_v1(alloc, bytes) {
         Ok(image) => image,
         Err(fault) => return Err(LoadFault::Format(fault)),
     };

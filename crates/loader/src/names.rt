@@ -5,7 +5,8 @@ ghost use Rattle.model.specs.Language.Programs.{end_label};
 ghost use Rattle.model.specs.Module.WellFormed.{is_label_name, is_nonnull_string, is_nonnull};
 ghost use Rattle.model.specs.Module.WellFormed.{is_statement, is_string, unless};
 
-use model::{Bytes, Image, ModuleRule, ReturnKind};
+use model::{ModuleRule, ReturnKind};
+use module_format::ImageView;
 
 /// The rule, unless it is kept.
 pub(crate) fn rule(broken: ModuleRule, kept: bool) -> Option<ModuleRule>
@@ -15,33 +16,33 @@ pub(crate) fn rule(broken: ModuleRule, kept: bool) -> Option<ModuleRule>
 }
 
 /// Whether there is a statement of this number.
-pub(crate) fn is_statement(image: &Image, number: u32) -> bool
+pub(crate) fn is_statement(image: &ImageView<'_>, number: u32) -> bool
     ensures { result ≡ is_statement image.now number }
 {
-    number > 0 && number as usize <= image.statements.as_slice().len()
+    number > 0 && number as usize <= image.statements().len()
 }
 
 /// Whether there is a string of this number.
-pub(crate) fn is_string(image: &Image, number: u32) -> bool
+pub(crate) fn is_string(image: &ImageView<'_>, number: u32) -> bool
     ensures { result ≡ is_string image.now number }
 {
-    (number as usize) < image.strings.as_slice().len()
+    (number as usize) < image.strings().len()
 }
 
-fn is_nonnull(string: Option<&Bytes>) -> bool
+fn is_nonnull(string: Option<&[u8]>) -> bool
     ensures { result ≡ is_nonnull (option_copied string.entry) }
 {
     match string {
-        Some(bytes) => !bytes.as_slice().is_empty(),
+        Some(bytes) => !bytes.is_empty(),
         None => false,
     }
 }
 
 /// Whether the string of this number is a name.
-pub(crate) fn is_name(image: &Image, number: u32) -> bool
+pub(crate) fn is_name(image: &ImageView<'_>, number: u32) -> bool
     ensures { result ≡ is_nonnull_string image.now number }
 {
-    is_nonnull(image.strings.as_slice().get(number as usize))
+    is_nonnull(image.string(number))
 }
 
 const END: [u8; 3] = *b"END";
@@ -54,14 +55,11 @@ pub(crate) fn is_end(name: &[u8]) -> bool
 }
 
 /// Whether a string may be the name of a label.
-pub(crate) fn is_label_name(string: Option<&Bytes>) -> bool
+pub(crate) fn is_label_name(string: Option<&[u8]>) -> bool
     ensures { result ≡ is_label_name (option_copied string.entry) }
 {
     match string {
-        Some(bytes) => {
-            let name = bytes.as_slice();
-            !name.is_empty() && !is_end(name) && ReturnKind::named(name).is_none()
-        }
+        Some(name) => { !name.is_empty() && !is_end(name) && ReturnKind::named(name).is_none() }
         None => false,
     }
 }

@@ -9,7 +9,8 @@ ghost use Rattle.loader.specs.Parts.{patterns_fault};
 
 use crate::names::{is_name, is_string, rule};
 use crate::places::{pat_bytes, pattern_bytes};
-use model::{Image, ModuleFault, ModuleRule, PatInstr};
+use model::{ModuleFault, ModuleRule, PatInstr};
+use module_format::ImageView;
 
 // Whether a jump from a place leads to an instruction of a pattern of so many, or to its end.
 fn is_jump(len: usize, place: usize, distance: i32) -> bool
@@ -28,7 +29,7 @@ fn is_jump(len: usize, place: usize, distance: i32) -> bool
 const MOST_INTEGER: u64 = i64::MAX as u64;
 
 // The rule that the instruction at a place of a pattern breaks.
-fn pat_rule(image: &Image, pattern: &[PatInstr], place: usize) -> Option<ModuleRule>
+fn pat_rule(image: &ImageView<'_>, pattern: &[PatInstr], place: usize) -> Option<ModuleRule>
     requires within { place < length pattern.now }
     requires count { length pattern.now ≤ most }
     ensures { result ≡ pat_rule image.now (length pattern.now) (take place pattern.now)
@@ -51,7 +52,7 @@ fn pat_rule(image: &Image, pattern: &[PatInstr], place: usize) -> Option<ModuleR
 }
 
 // The first fault of a pattern, whose count stands at a place.
-fn pattern_fault(image: &Image, pattern: &[PatInstr], place: usize) -> Option<ModuleFault>
+fn pattern_fault(image: &ImageView<'_>, pattern: &[PatInstr], place: usize) -> Option<ModuleFault>
     requires count { length pattern.now ≤ most }
     requires there { place < 2 ^ 60 }
     ensures { result ≡ pattern_fault image.now [] place pattern.now }
@@ -67,13 +68,13 @@ fn pattern_fault(image: &Image, pattern: &[PatInstr], place: usize) -> Option<Mo
 }
 
 /// The first fault of the patterns, which begin at a place.
-pub(crate) fn patterns_fault(image: &Image, place: usize) -> Option<ModuleFault>
+pub(crate) fn patterns_fault(image: &ImageView<'_>, place: usize) -> Option<ModuleFault>
     requires spelt { IsImage image.now }
     requires there { place + sum (map pattern_bytes image.now.patterns) < 2 ^ 60 }
     ensures { result ≡ patterns_fault place image.now }
 {
     let mut offset = place;
-    let patterns = image.patterns.as_slice();
+    let patterns = image.patterns();
     for pattern in patterns {
         let fault = pattern_fault(image, pattern.as_slice(), offset);
         if fault.is_some() {

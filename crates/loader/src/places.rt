@@ -8,7 +8,8 @@ ghost use Rattle.model.specs.Module.WellFormed.{expressions_offset, labels_offse
 ghost use Rattle.model.specs.Module.WellFormed.{pat_bytes, pattern_bytes, patterns_offset};
 ghost use Rattle.model.specs.Module.WellFormed.{statements_offset, string_bytes};
 
-use model::{Bytes, Image, PatInstr, Seq, Version};
+use model::{PatInstr, Seq, Version};
+use module_format::ImageView;
 
 /// The offsets of the first entry of each table.
 #[derive(Clone, Copy)]
@@ -21,13 +22,14 @@ pub(crate) struct Places {
 }
 
 // How many bytes the strings have, with their lengths.
-fn strings_size(strings: &[Bytes]) -> usize
-    requires { IsTable StringFits strings.now }
-    ensures { result ≡ sum (map string_bytes strings.now) }
+fn strings_size(image: &ImageView<'_>) -> usize
+    requires { IsTable StringFits image.now.strings }
+    ensures { result ≡ sum (map string_bytes image.now.strings) }
 {
     let mut size = 0;
+    let strings = image.strings();
     for string in strings {
-        size += 4 + string.as_slice().len();
+        size += 4 + string.len();
     }
     size
 }
@@ -81,19 +83,19 @@ pub(crate) fn entry_at(version: Version) -> usize
 }
 
 // How many bytes the cards have.
-fn cards_size(version: Version, image: &Image) -> usize
+fn cards_size(version: Version, image: &ImageView<'_>) -> usize
     requires { IsImage image.now }
     ensures { result ≡ cards_bytes version image.now }
 {
     match version {
         Version::One => 0,
-        Version::Two => 4 * image.statements.as_slice().len(),
+        Version::Two => 4 * image.statements().len(),
     }
 }
 
 /// Where the parts of an image stand once it is spelt in a version of the format.
 #[tactic(auto, using(crate::proofs::Sizes::places_short))]
-pub(crate) fn places_of(version: Version, image: &Image) -> Places
+pub(crate) fn places_of(version: Version, image: &ImageView<'_>) -> Places
     requires { IsImage image.now }
     ensures labels { result.labels ≡ labels_offset version image.now }
     ensures statements { result.statements ≡ statements_offset version image.now }
@@ -101,12 +103,12 @@ pub(crate) fn places_of(version: Version, image: &Image) -> Places
     ensures patterns { result.patterns ≡ patterns_offset version image.now }
     ensures code { result.code ≡ code_offset version image.now }
 {
-    let labels = entry_at(version) + 4 + 4 + strings_size(image.strings.as_slice()) + 4;
-    let statements = labels + 8 * image.labels.as_slice().len() + 4;
+    let labels = entry_at(version) + 4 + 4 + strings_size(image) + 4;
+    let statements = labels + 8 * image.labels().len() + 4;
     let cards = cards_size(version, image);
-    let expressions = statements + 4 * image.statements.as_slice().len() + cards + 4;
-    let patterns = expressions + 4 * image.expressions.as_slice().len() + 4;
-    let code = patterns + patterns_size(image.patterns.as_slice()) + 4;
+    let expressions = statements + 4 * image.statements().len() + cards + 4;
+    let patterns = expressions + 4 * image.expressions().len() + 4;
+    let code = patterns + patterns_size(image.patterns()) + 4;
     Places {
         labels,
         statements,
@@ -117,7 +119,7 @@ pub(crate) fn places_of(version: Version, image: &Image) -> Places
 }
 
 /// Where an offset of the code stands in the module.
-pub(crate) fn code_offset(version: Version, image: &Image, at: u32) -> usize
+pub(crate) fn code_offset(version: Version, image: &ImageView<'_>, at: u32) -> usize
     requires { IsImage image.now }
     ensures { result ≡ code_offset version image.now + at }
 {

@@ -11,13 +11,14 @@ ghost use Rattle.loader.specs.Parts.{entry_fault, expression_fault, statement_fa
 use crate::code::PlacedCode;
 use crate::names::{is_statement, rule};
 use crate::places::entry_at;
-use model::{Image, ModuleFault, ModuleRule, Version};
+use model::{ModuleFault, ModuleRule, Version};
+use module_format::ImageView;
 
 /// The fault of the entry.
-pub(crate) fn entry_fault(version: Version, image: &Image) -> Option<ModuleFault>
+pub(crate) fn entry_fault(version: Version, image: &ImageView<'_>) -> Option<ModuleFault>
     ensures { result ≡ entry_fault version image.now }
 {
-    if is_statement(image, image.entry) {
+    if is_statement(image, image.entry()) {
         return None;
     }
     Some(ModuleFault {
@@ -41,7 +42,7 @@ fn statement_rule(placed: &PlacedCode, is_last: bool, at: u32) -> Option<ModuleR
 
 /// The first fault of the statements, which begin at a place.
 pub(crate) fn statement_fault(
-    image: &Image,
+    image: &ImageView<'_>,
     placed: &PlacedCode,
     place: usize,
 ) -> Option<ModuleFault>
@@ -50,7 +51,7 @@ pub(crate) fn statement_fault(
     requires there { place + 4 * length image.now.statements < 2 ^ 60 }
     ensures { result ≡ statement_fault place image.now }
 {
-    let statements = image.statements.as_slice();
+    let statements = image.statements();
     let count = statements.len();
     let mut offset = place;
     for k in 0..count {
@@ -64,7 +65,7 @@ pub(crate) fn statement_fault(
 
 /// The first fault of the expressions, which begin at a place.
 pub(crate) fn expression_fault(
-    image: &Image,
+    image: &ImageView<'_>,
     placed: &PlacedCode,
     place: usize,
 ) -> Option<ModuleFault>
@@ -74,7 +75,7 @@ pub(crate) fn expression_fault(
     ensures { result ≡ expression_fault place image.now }
 {
     let mut offset = place;
-    let expressions = image.expressions.as_slice();
+    let expressions = image.expressions();
     for at in expressions {
         if !placed.begins(*at) {
             return Some(ModuleFault {

@@ -1,4 +1,5 @@
 pub mod Standing
+pub mod Choices
 pub mod Logs
 pub mod View
 pub mod Moved

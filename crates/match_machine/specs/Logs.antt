@@ -9,7 +9,7 @@ use Rattle.match_machine.specs.declared.event.Assignment.{Assignment}
 use Rattle.match_machine.specs.declared.trail.Note.{Note}
 use Rattle.match_machine.specs.declared.trail.Note.TheVariants as note
 use Rattle.match_machine.specs.declared.trail.Entry.{Entry}
-use Rattle.match_machine.specs.declared.trail.Choice.{Choice}
+use Rattle.match_machine.specs.Choices.{Choice}
 use Rattle.match_machine.specs.declared.trail.Trail.TheInside.{Inside}
 use Rattle.match_machine.specs.Standing.{Standing, Back}
 

@@ -35,6 +35,15 @@ abbrev pub from_end : ℕ → List Back → List Back
 from_end e [] = []
 from_end e (x ∷ xs) = record { kept = kept.Arb e; thread = x.thread } ∷ xs
 
+-- the notes of the newest choice
+abbrev pub top_notes : List Back → List s.Note
+top_notes [] = []
+top_notes (x ∷ xs) = x.thread.notes
+
+-- the newest of them is that of OPEN
+abbrev pub IsOpenAtBack : Standing → Type 0
+IsOpenAtBack st = (b : ℕ) × (ns : List s.Note) × (top_notes st.backs ≡ s.Opened b ∷ ns)
+
 -- the newest is that of an entered pattern
 abbrev pub inside : List s.Note → Bool
 inside (s.Left code q ∷ ns) = true

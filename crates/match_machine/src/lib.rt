@@ -12,6 +12,7 @@
 
 mod act;
 mod arbs;
+mod choice;
 mod ends;
 mod event;
 mod matcher;

@@ -1,16 +1,17 @@
 //! Where the attempt under way stands, and the choices that are gone back to.
 
-ghost use Rattle.std.specs.Prelude.{◌≡◌, ◌∷◌, ◌++◌, List, [], true, false, Bool, IfOk, IfSome, OnOk, OnErr};
+ghost use Rattle.std.specs.Prelude.{◌≡◌, ◌∷◌, ◌++◌, ℕ, List, [], true, false, Bool, IfOk, IfSome, OnOk, OnErr};
 ghost use Rattle.std.specs.Prelude.{MatchOption, length, reverse, take, Some, None, option_copied};
 ghost use Rattle.std.specs.Prelude.{if◌then◌else◌};
 ghost use Rattle.model.specs.Pattern.Steps as s;
 ghost use Rattle.model.specs.Pattern.Steps.{Code};
 ghost use Rattle.model.specs.Pattern.Patterns.{Pending};
 ghost use Rattle.match_machine.specs.Standing.{Standing, Back, inside, opened, unopened, fenced};
-ghost use Rattle.match_machine.specs.Standing.{unfenced, no_backs, oldest, IsAtArb, from_end};
+ghost use Rattle.match_machine.specs.Standing.{unfenced, no_backs, oldest, IsAtArb, IsOpenAtBack, from_end};
 ghost use Rattle.match_machine.specs.Logs.{assigned, pending_of, note_of, chain, entry_at, below_of, last_code};
 ghost use Rattle.match_machine.specs.Logs.{LeavesAll};
 
+use crate::choice::{Choice, Marks};
 use crate::event::Assignment;
 use crate::state::Kept;
 use pattern_compiler::PatCode;
@@ -31,19 +32,6 @@ pub enum Note {
 pub struct Entry {
     pub note: Note,
     pub below: usize,
-}
-
-/// What is gone back to, with the lengths that the logs are cut to.
-#[derive(Clone, Copy)]
-pub struct Choice {
-    pub kept: Kept,
-    pub place: usize,
-    pub cursor: usize,
-    /// The list of notes.
-    pub head: usize,
-    pub log: usize,
-    pub pending: usize,
-    pub codes: usize,
 }
 
 /// The attempt's code, its notes and its pending assignments, and the choices. Notes are only added: a list of notes is
@@ -254,20 +242,17 @@ impl Trail {
               } ∷ self.old.backs;
             }) }
     {
-        let (log, pending, codes) = (self.log.len(), self.pending.len(), self.codes.len());
         let (count, room) = (self.choices.len(), self.choices.capacity());
         if !self.stored || count >= room {
             return self.keep_growing(kept, place, cursor);
         }
-        self.choices.push(Choice {
-            kept,
-            place,
-            cursor,
+        let marks = Marks {
             head: self.head,
-            log,
-            pending,
-            codes,
-        })?;
+            log: self.log.len(),
+            pending: self.pending.len(),
+            codes: self.codes.len(),
+        };
+        self.choices.push(Choice::new(kept, place, cursor, marks)?)?;
         Ok(())
     }
 
@@ -291,15 +276,13 @@ impl Trail {
     {
         store(&self.code, self.stored, &mut self.codes)?;
         self.stored = true;
-        self.choices.push(Choice {
-            kept,
-            place,
-            cursor,
+        let marks = Marks {
             head: self.head,
             log: self.log.len(),
             pending: self.pending.len(),
             codes: self.codes.len(),
-        })?;
+        };
+        self.choices.push(Choice::new(kept, place, cursor, marks)?)?;
         Ok(())
     }
 
@@ -309,15 +292,29 @@ impl Trail {
         ensures { IfSome result (λ (place, end). IsAtArb self.now place end) }
     {
         let choice = self.choices.last()?;
-        match choice.kept {
+        match choice.kept() {
             Kept::Arb(end) => {
-                if self.stored && self.codes.len() <= choice.codes {
-                    Some((choice.place, end))
+                let codes = choice.marks().codes;
+                if self.stored && self.codes.len() <= codes {
+                    Some((choice.place(), end))
                 } else {
                     None
                 }
             }
             _ => None,
+        }
+    }
+
+    /// Whether the newest note of the newest choice is that of OPEN, where no note was added since.
+    pub fn is_open_at_back(&self) -> bool
+        ensures { result ≡ true → IsOpenAtBack self.now }
+    {
+        match self.choices.last() {
+            Some(choice) => {
+                let marks = choice.marks();
+                self.log.len() <= marks.log && is_opened_at(self.log.as_slice(), marks.head)
+            }
+            None => false,
         }
     }
 
@@ -327,10 +324,9 @@ impl Trail {
             (self.new ≡ record self.old { backs = from_end end self.old.backs }) }
     {
         if let Some(choice) = self.choices.pop() {
-            self.choices.push(Choice {
-                kept: Kept::Arb(end),
-                ..choice
-            })?;
+            let (place, cursor) = (choice.place(), choice.cursor());
+            let passed = Choice::new(Kept::Arb(end), place, cursor, choice.marks())?;
+            self.choices.push(passed)?;
         }
         Ok(())
     }
@@ -358,7 +354,7 @@ impl Trail {
         }
         match self.choices.pop() {
             Some(choice) => {
-                self.head = choice.head;
+                self.head = choice.marks().head;
                 Ok(Some(choice))
             }
             None => Ok(None),
@@ -384,11 +380,12 @@ impl Trail {
         match self.choices.pop() {
             Some(choice) => {
                 let stored = self.stored;
+                let marks = choice.marks();
                 self.stored = false;
-                self.head = choice.head;
-                self.log.truncate(choice.log);
-                cut_pending(&mut self.pending, choice.pending);
-                cut_codes(&mut self.code, stored, &mut self.codes, choice.codes)?;
+                self.head = marks.head;
+                self.log.truncate(marks.log);
+                cut_pending(&mut self.pending, marks.pending);
+                cut_codes(&mut self.code, stored, &mut self.codes, marks.codes)?;
                 self.stored = true;
                 Ok(Some(choice))
             }
@@ -420,6 +417,16 @@ fn opened_at(log: &[Entry], head: usize) -> Option<(usize, usize)>
     match entry.note {
         Note::Opened(cursor) => Some((cursor, list_below(head, entry.below))),
         Note::Fenced(_) | Note::Left(_, _) => None,
+    }
+}
+
+/// Whether the newest note is that of OPEN.
+fn is_opened_at(log: &[Entry], head: usize) -> bool
+    ensures { result ≡ true → (b : ℕ) × (ns : List s.Note) × (chain (reverse log.now) head ≡ s.Opened b ∷ ns) }
+{
+    match opened_at(log, head) {
+        Some(_found) => true,
+        None => false,
     }
 }
 
@@ -472,7 +479,10 @@ fn leaves_all(choices: &[Choice], log: usize, pending: usize, codes: usize) -> b
     ensures { result ≡ true → LeavesAll choices.now log pending codes }
 {
     match choices.last() {
-        Some(choice) => { log <= choice.log && pending <= choice.pending && codes <= choice.codes }
+        Some(choice) => {
+            let marks = choice.marks();
+            log <= marks.log && pending <= marks.pending && codes <= marks.codes
+        }
         None => false,
     }
 }

@@ -1,14 +1,14 @@
 //! The code: its length, and instructions that fill it.
 
-ghost use Rattle.std.specs.Prelude.{◌≡◌, ◌+◌, [], length};
+ghost use Rattle.std.specs.Prelude.{◌≡◌, ◌+◌, [], length, IfOk};
 ghost use Rattle.model.specs.declared.format.FormatRule.TheVariants.{UnknownInstruction};
-ghost use Rattle.model.specs.Module.Reading.{Finds, Gives, code_from, code_at, known_of};
+ghost use Rattle.model.specs.Module.Reading.{Finds, Reads, code_from, code_at, known_of};
+ghost use Rattle.module_format.specs.Views.{instrs_from};
 ghost use Rattle.model.specs.Module.Spelling.{is_of, is_of_one};
 
 use crate::fields::{MOST_CODE, read_bytes, read_count};
 use code_format::first_instr;
-use model::{FormatRule, Instr, Level, Miss, ReadError, Seq};
-use std::alloc::Global;
+use model::{FormatRule, Instr, Level, Miss};
 
 // Whether level 1 has an instruction.
 fn is_of_one(instr: Instr) -> bool
@@ -54,48 +54,38 @@ fn bad_instr(rest: &[u8], behind: &[u8]) -> Miss
     }
 }
 
-/// The instructions that the bytes are; `behind` is what stands after them. Each takes a byte at least, so there are at
-/// most as many as bytes.
-fn read_instrs(
-    alloc: Global,
-    level: Level,
-    n: u32,
-    bytes: &[u8],
-    behind: &[u8],
-) -> Result<Seq<Instr>, ReadError>
-    ensures { Gives (λ v. v) result (code_from level [] n behind.now bytes.now) }
+// How many instructions the bytes are; `behind` is what stands after them. Each takes a byte at least, so there are at
+// most as many as bytes.
+fn count_instrs(level: Level, n: u32, bytes: &[u8], behind: &[u8]) -> Result<usize, Miss>
+    ensures read { Reads (λ count. instrs_from count bytes.now) result
+        (code_from level [] n behind.now bytes.now) }
+    ensures count { IfOk result (λ count. length (instrs_from count bytes.now) ≡ count) }
 {
-    let mut items = Vec::new(alloc);
     let mut rest = bytes;
-    for _ in 0..n {
+    for count in 0..n {
         if rest.is_empty() {
-            return Ok(Seq::from_vec(items));
+            return Ok(count as usize);
         }
         match first_known(level, rest) {
-            Some((item, after)) => {
-                items.push(item)?;
-                rest = after;
-            }
-            None => return Err(ReadError::Fault(bad_instr(rest, behind))),
+            Some((_, after)) => rest = after,
+            None => return Err(bad_instr(rest, behind)),
         }
     }
     if rest.is_empty() {
-        return Ok(Seq::from_vec(items));
+        return Ok(n as usize);
     }
-    Err(ReadError::Fault(bad_instr(rest, behind)))
+    Err(bad_instr(rest, behind))
 }
 
-/// The code of a level, and the bytes behind it.
+/// The code of a level: how many instructions it has, and its bytes; and the bytes behind it.
 #[tactic(auto, unfolding(model::specs::Module::Reading::code_at))]
-pub(crate) fn read_code(
-    alloc: Global,
-    level: Level,
-    bytes: &[u8],
-) -> Result<(Seq<Instr>, &[u8]), ReadError>
-    ensures { Gives (λ x. (x.0, x.1.now)) result (code_at level bytes.now) }
+pub(crate) fn read_code(level: Level, bytes: &[u8]) -> Result<((usize, &[u8]), &[u8]), Miss>
+    ensures read { Reads (λ x. (instrs_from x.0.0 x.0.1.now, x.1.now)) result
+        (code_at level bytes.now) }
+    ensures count { IfOk result (λ x. length (instrs_from x.0.0 x.0.1.now) ≡ x.0.0) }
 {
     let (n, rest) = read_count(MOST_CODE, bytes)?;
     let (code, rest) = read_bytes(n as usize, rest)?;
-    let items = read_instrs(alloc, level, n, code, rest)?;
-    Ok((items, rest))
+    let count = count_instrs(level, n, code, rest)?;
+    Ok(((count, code), rest))
 }

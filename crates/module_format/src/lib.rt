@@ -1,7 +1,8 @@
 //! Modules as bytes: the one spelling of an image, and the image that bytes spell.
 //!
 //! `write_image(alloc, &image)` gives the bytes, `read_image(alloc, bytes)` the image or the first fault and its
-//! offset; `read_image_v1` reads what was written in version 1 of the format.
+//! offset; `view_image` the same without a copy of strings and code; `read_image_v1` and `view_image_v1` read what was
+//! written in version 1 of the format.
 //!
 //!     let bytes = write_image(alloc, &image)?;
 //!     let same = read_image(alloc, &bytes)?;
@@ -14,10 +15,14 @@
 
 mod code;
 mod fields;
+mod instrs;
 mod reading;
 mod strings;
 mod tables;
+mod view;
 mod writing;
 
-pub use reading::{read_image, read_image_v1};
+pub use instrs::Instrs;
+pub use reading::{read_image, read_image_v1, view_image, view_image_v1};
+pub use view::ImageView;
 pub use writing::write_image;

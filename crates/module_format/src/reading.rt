@@ -11,16 +11,17 @@ use crate::code::read_code;
 use crate::fields::{miss, past_magic, past_version, read_level};
 use crate::strings::read_strings;
 use crate::tables::{Expressions, Labels, Patterns, Statements, read_cards, read_table};
+use crate::view::ImageView;
 use code_format::read_u32;
 use model::{FormatFault, FormatRule, Image, ReadError, Version};
 use std::alloc::Global;
 
 #[tactic(auto, unfolding(model::specs::Module::Reading::image_at))]
-fn image_in_front(
+fn view_in_front<'a>(
     alloc: Global,
     version: Version,
-    bytes: &[u8],
-) -> Result<(Image, &[u8]), ReadError>
+    bytes: &'a [u8],
+) -> Result<(ImageView<'a>, &'a [u8]), ReadError>
     ensures { Gives (λ x. (x.0, x.1.now)) result (image_at version bytes.now) }
 {
     let rest = past_magic(bytes)?;
@@ -34,8 +35,8 @@ fn image_in_front(
     let (cards, rest) = read_cards(alloc, version, level, count, rest)?;
     let (expressions, rest) = read_table::<Expressions>(alloc, rest)?;
     let (patterns, rest) = read_table::<Patterns>(alloc, rest)?;
-    let (code, rest) = read_code(alloc, level, rest)?;
-    let image = Image {
+    let ((len, code), rest) = read_code(level, rest)?;
+    let image = ImageView {
         level,
         entry,
         strings,
@@ -44,36 +45,79 @@ fn image_in_front(
         cards,
         expressions,
         patterns,
+        len,
         code,
     };
     Ok((image, rest))
 }
 
 #[tactic(auto, unfolding(model::specs::Module::Reading::image_in))]
-fn whole_image(alloc: Global, version: Version, bytes: &[u8]) -> Result<Image, ReadError>
+fn whole_view<'a>(
+    alloc: Global,
+    version: Version,
+    bytes: &'a [u8],
+) -> Result<ImageView<'a>, ReadError>
     ensures { Gives (λ x. x) result (image_in version bytes.now) }
 {
-    let (image, rest) = image_in_front(alloc, version, bytes)?;
+    let (image, rest) = view_in_front(alloc, version, bytes)?;
     if !rest.is_empty() {
         return Err(ReadError::Fault(miss(FormatRule::TrailingBytes, rest)));
     }
     Ok(image)
 }
 
-fn answer(alloc: Global, version: Version, bytes: &[u8]) -> Result<Image, FormatFault>
+const NO_MEMORY: FormatFault = FormatFault {
+    offset: 0,
+    rule: FormatRule::Memory,
+};
+
+fn view_answer<'a>(
+    alloc: Global,
+    version: Version,
+    bytes: &'a [u8],
+) -> Result<ImageView<'a>, FormatFault>
     ensures { IsAnswer result (image_in version bytes.now) (length bytes.now) }
 {
-    match whole_image(alloc, version, bytes) {
+    match whole_view(alloc, version, bytes) {
         Ok(image) => Ok(image),
-        Err(ReadError::Memory) => Err(FormatFault {
-            offset: 0,
-            rule: FormatRule::Memory,
-        }),
+        Err(ReadError::Memory) => Err(NO_MEMORY),
         Err(ReadError::Fault(miss)) => Err(FormatFault {
             offset: bytes.len().saturating_sub(miss.left),
             rule: miss.rule,
         }),
     }
+}
+
+fn answer(alloc: Global, version: Version, bytes: &[u8]) -> Result<Image, FormatFault>
+    ensures { IsAnswer result (image_in version bytes.now) (length bytes.now) }
+{
+    let view = view_answer(alloc, version, bytes)?;
+    match view.into_image(alloc) {
+        Ok(image) => Ok(image),
+        Err(_) => Err(NO_MEMORY),
+    }
+}
+
+/// The image that the bytes spell, as slices of them, or the first fault and its offset. Where a growth was refused that
+/// is told in place of any other answer.
+pub fn view_image<'a>(alloc: Global, bytes: &'a [u8]) -> Result<ImageView<'a>, FormatFault>
+    ensures exact { IsAnswer result (read_image bytes.now) (length bytes.now) }
+    ensures found { IfOk result (λ m. IsImage m × (bytes.now ≡ spelling m)) }
+    ensures only { (m : Image) → IsImage m → bytes.now ≡ spelling m
+        → IsAnswer result (Ok m) (length bytes.now) }
+{
+    view_answer(alloc, Version::Two, bytes)
+}
+
+/// The same of bytes of version 1, which spell an image of level 1 and without cards.
+pub fn view_image_v1<'a>(alloc: Global, bytes: &'a [u8]) -> Result<ImageView<'a>, FormatFault>
+    ensures exact { IsAnswer result (image_in versions.One bytes.now) (length bytes.now) }
+    ensures found { IfOk result (λ m.
+        IsImageIn versions.One m × (bytes.now ≡ spelling_in versions.One m)) }
+    ensures only { (m : Image) → IsImageIn versions.One m → bytes.now ≡ spelling_in versions.One m
+        → IsAnswer result (Ok m) (length bytes.now) }
+{
+    view_answer(alloc, Version::One, bytes)
 }
 
 /// The image that the bytes spell, or the first fault and its offset. Where a growth was refused that is told in place

@@ -1,12 +1,12 @@
 //! The table of strings, no two equal.
 
-ghost use Rattle.std.specs.Prelude.{◌≡◌};
+ghost use Rattle.std.specs.Prelude.{◌≡◌, map};
 ghost use Rattle.model.specs.Module.Reading.{Gives, Reads, table_at, string_at, text_at};
 
 use crate::fields::{MOST, miss, read_bytes, read_count};
 use code_format::read_u32;
 use indexmap::IndexSet;
-use model::{Bytes, FormatRule, Miss, ReadError, Seq};
+use model::{FormatRule, Miss, ReadError};
 use std::alloc::Global;
 
 /// The strings that stand in a table so far.
@@ -31,8 +31,11 @@ fn read_text(bytes: &[u8]) -> Result<(&[u8], &[u8]), Miss>
 
 /// The table of strings, and the bytes behind it.
 #[tactic(auto, unfolding(model::specs::Module::Reading::table_at))]
-pub(crate) fn read_strings(alloc: Global, bytes: &[u8]) -> Result<(Seq<Bytes>, &[u8]), ReadError>
-    ensures { Gives (λ x. (x.0, x.1.now)) result (table_at string_at bytes.now) }
+pub(crate) fn read_strings<'a>(
+    alloc: Global,
+    bytes: &'a [u8],
+) -> Result<(Vec<&'a [u8]>, &'a [u8]), ReadError>
+    ensures { Gives (λ x. (map (λ s. s.now) x.0.items, x.1.now)) result (table_at string_at bytes.now) }
 {
     let (n, after) = read_count(MOST, bytes)?;
     let mut items = Vec::new(alloc);
@@ -45,8 +48,8 @@ pub(crate) fn read_strings(alloc: Global, bytes: &[u8]) -> Result<(Seq<Bytes>, &
         if !seen.texts.insert(text)? {
             return Err(ReadError::Fault(miss(FormatRule::BadTable, rest)));
         }
-        items.push(Seq::from_vec(Vec::from_slice(alloc, text)?))?;
+        items.push(text)?;
         rest = behind;
     }
-    Ok((Seq::from_vec(items), rest))
+    Ok((items, rest))
 }

@@ -108,24 +108,28 @@ read_more rs next r ss i s h is n e so_far =
 pub all_read : {A B : Type 0} (f : A → B) (xs ys : List B) (left : List A) → left ≡ [] → xs ++ map f left ≡ ys → xs ≡ ys
 all_read f xs ys left e so_far = sym (append_nil xs) ∙ ap (λ l. xs ++ map f l) (sym e) ∙ so_far
 
--- one read less is left, and its tree is kept
-pub tree_more : (ts next : List trees.Stmt) (t : trees.Stmt) (left rest : List Read) (r : Read) (all : List Stmt) → left ≡ r ∷ rest → r.tree ≡ Ok t
-    → next ≡ ts ++ t ∷ [] → map stmt_of ts ++ trees_of (map result_read left) ≡ all → map stmt_of next ++ trees_of (map result_read rest) ≡ all
-tree_more ts next t left rest r all l is n so_far =
-    ap (λ xs. map stmt_of xs ++ trees_of (map result_read rest)) n
-    ∙ ap (λ xs. xs ++ trees_of (map result_read rest)) (map-append stmt_of ts (t ∷ []))
-    ∙ append_assoc (map stmt_of ts) (stmt_of t ∷ []) (trees_of (map result_read rest))
-    ∙ ap (λ x. map stmt_of ts ++ (tree_of_read (result_of x) ++ trees_of (map result_read rest))) (sym is)
-    ∙ ap (λ xs. map stmt_of ts ++ trees_of (map result_read xs)) (sym l) ∙ so_far
+-- one statement less is left, and its tree is kept
+pub tree_more : (ts next : List trees.Stmt) (t : trees.Stmt) (ss : List Statement) (i : ℕ) (s : Statement) (r : Read) (all : List Stmt) → i < length ss → s ≡ get_or ss i s
+    → result_read r ≡ numbered s → r.tree ≡ Ok t → next ≡ ts ++ t ∷ [] → map stmt_of ts ++ trees_of (map numbered (drop i ss)) ≡ all → map stmt_of next ++ trees_of (map numbered (drop (i + 1) ss)) ≡ all
+tree_more ts next t ss i s r all h at e is n so_far =
+    let left = trees_of (map numbered (drop (i + 1) ss)) in
+    ap (λ xs. map stmt_of xs ++ left) n
+    ∙ ap (λ xs. xs ++ left) (map-append stmt_of ts (t ∷ []))
+    ∙ append_assoc (map stmt_of ts) (stmt_of t ∷ []) left
+    ∙ ap (λ x. map stmt_of ts ++ (tree_of_read (result_of x) ++ left)) (sym is)
+    ∙ ap (λ x. map stmt_of ts ++ (tree_of_read x.1 ++ left)) (e ∙ ap numbered at)
+    ∙ ap (λ xs. map stmt_of ts ++ trees_of (map numbered xs)) (sym (drop_more ss i s h)) ∙ so_far
 
-pub no_tree_more : (ts : List trees.Stmt) (c : Cause) (left rest : List Read) (r : Read) (all : List Stmt) → left ≡ r ∷ rest → r.tree ≡ Err c
-    → map stmt_of ts ++ trees_of (map result_read left) ≡ all → map stmt_of ts ++ trees_of (map result_read rest) ≡ all
-no_tree_more ts c left rest r all l is so_far =
-    ap (λ x. map stmt_of ts ++ (tree_of_read (result_of x) ++ trees_of (map result_read rest))) (sym is)
-    ∙ ap (λ xs. map stmt_of ts ++ trees_of (map result_read xs)) (sym l) ∙ so_far
+pub no_tree_more : (ts : List trees.Stmt) (c : Cause) (ss : List Statement) (i : ℕ) (s : Statement) (r : Read) (all : List Stmt) → i < length ss → s ≡ get_or ss i s
+    → result_read r ≡ numbered s → r.tree ≡ Err c → map stmt_of ts ++ trees_of (map numbered (drop i ss)) ≡ all → map stmt_of ts ++ trees_of (map numbered (drop (i + 1) ss)) ≡ all
+no_tree_more ts c ss i s r all h at e is so_far =
+    let left = trees_of (map numbered (drop (i + 1) ss)) in
+    ap (λ x. map stmt_of ts ++ (tree_of_read (result_of x) ++ left)) (sym is)
+    ∙ ap (λ x. map stmt_of ts ++ (tree_of_read x.1 ++ left)) (e ∙ ap numbered at)
+    ∙ ap (λ xs. map stmt_of ts ++ trees_of (map numbered xs)) (sym (drop_more ss i s h)) ∙ so_far
 
-pub trees_end : (ts : List trees.Stmt) (left : List Read) (all : List Stmt) → left ≡ [] → map stmt_of ts ++ trees_of (map result_read left) ≡ all → map stmt_of ts ≡ all
-trees_end ts left all e so_far = sym (append_nil (map stmt_of ts)) ∙ ap (λ l. map stmt_of ts ++ trees_of (map result_read l)) (sym e) ∙ so_far
+pub trees_end : (ts : List trees.Stmt) (left : List Statement) (all : List Stmt) → left ≡ [] → map stmt_of ts ++ trees_of (map numbered left) ≡ all → map stmt_of ts ≡ all
+trees_end ts left all e so_far = sym (append_nil (map stmt_of ts)) ∙ ap (λ l. map stmt_of ts ++ trees_of (map numbered l)) (sym e) ∙ so_far
 
 -- the causes that are told so far, with one more
 pub told_more : (all : List Bytes) (rs : List Read) (i : ℕ) (r : Read) (fs next : List StmtFault) (c : Option Cause) (whole : List StmtFault) → i < length rs → r ≡ get_or rs i r

@@ -6,6 +6,8 @@
 //!     let deck = read_deck(alloc, bytes)?;
 //!     let program = parse_deck(alloc, &deck)?;
 //!
+//! `let_go(alloc, program)` lets go of the trees on a small stack, however deep they are.
+//!
 //! Promised: the trees exactly where the definitions accept the deck; else all faulty statements in order, each with
 //! its least cause, L1 to L5 or P1 to P6. Want of memory is an answer of its own.
 #![tactic(auto)]
@@ -23,7 +25,7 @@ mod rules;
 mod statements;
 
 use crate::faults::faults;
-use crate::reading::{cards, read_all, trees};
+use crate::reading::{cards, let_reads_go, read_all, trees};
 use model::{Deck, DeckFault, Program, Seq, StmtFault};
 use std::alloc::{AllocError, Global};
 
@@ -33,10 +35,12 @@ fn parse(alloc: Global, deck: &Deck) -> Result<Result<Program, Seq<StmtFault>>, 
 {
     let reads = read_all(alloc, deck.statements.as_slice())?;
     let faults = faults(alloc, &reads)?;
+    // Only one set of trees is held at a time.
+    let_reads_go(alloc, reads);
     if !faults.as_slice().is_empty() {
         return Ok(Err(faults));
     }
-    let statements = trees(alloc, reads)?;
+    let statements = trees(alloc, deck.statements.as_slice())?;
     let cards = cards(alloc, deck.statements.as_slice())?;
     Ok(Ok(Program { statements, cards }))
 }
@@ -55,5 +59,12 @@ pub fn parse_deck(alloc: Global, deck: &Deck) -> Result<Program, DeckFault>
         Ok(Ok(program)) => Ok(program),
         Ok(Err(faults)) => Err(DeckFault::Faulty(faults)),
         Err(_) => Err(DeckFault::Memory),
+    }
+}
+
+/// Lets go of a program, whose trees may be deep, on a small stack.
+pub fn let_go(alloc: Global, program: Program) {
+    for statement in program.statements {
+        stmt_parser::let_go(alloc, statement);
     }
 }

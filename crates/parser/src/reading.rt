@@ -8,7 +8,7 @@ ghost use Rattle.parser.specs.Reads.{IsRead, numbered, result_read, trees_of};
 use lexer::lex;
 use model::{Cause, Seq, Statement, Stmt};
 use std::alloc::{AllocError, Global};
-use stmt_parser::parse_statement;
+use stmt_parser::{let_go, parse_statement};
 
 /// What is read of a statement.
 #[derive(Drop)]
@@ -48,12 +48,22 @@ pub(crate) fn read_all(alloc: Global, statements: &[Statement]) -> Result<Vec<Re
     Ok(reads)
 }
 
-/// The trees of those that have one.
-pub(crate) fn trees(alloc: Global, reads: Vec<Read>) -> Result<Vec<Stmt>, AllocError>
-    ensures { IfOk result (λ ts. map stmt_of ts.items ≡ trees_of (map result_read reads.items)) }
-{
-    let mut trees = Vec::new(alloc);
+/// Lets go of what was read.
+pub(crate) fn let_reads_go(alloc: Global, reads: Vec<Read>) {
     for read in reads {
+        if let Ok(tree) = read.tree {
+            let_go(alloc, tree);
+        }
+    }
+}
+
+/// The trees of those that have one, read anew.
+pub(crate) fn trees(alloc: Global, statements: &[Statement]) -> Result<Vec<Stmt>, AllocError>
+    ensures { IfOk result (λ ts. map stmt_of ts.items ≡ trees_of (map numbered statements.now)) }
+{
+    let mut trees = Vec::with_capacity(alloc, statements.len())?;
+    for statement in statements {
+        let read = read_statement(alloc, statement)?;
         let Ok(tree) = read.tree else {
             continue;
         };

@@ -42,6 +42,7 @@ impl Kept {
 
 /// Whether a function of this name takes so many arguments.
 #[tactic(auto, using(model::proofs::Decks::ArgumentLists::count_is))]
+#[inline(never)]
 fn takes(name: &[u8], arguments: &[Argument]) -> bool
     ensures { result ≡ faults.at_most (prim_named name.now) (faults.count (args_of arguments.now)) }
 {
@@ -52,6 +53,7 @@ fn takes(name: &[u8], arguments: &[Argument]) -> bool
 }
 
 /// Whether an assignment can be made to the expression.
+#[inline(never)]
 pub(crate) fn is_target(expr: &Expr) -> bool
     ensures { result ≡ faults.is_target (expr_of expr.now) }
 {
@@ -63,6 +65,7 @@ pub(crate) fn is_target(expr: &Expr) -> bool
 }
 
 /// What the expression itself keeps, apart from its parts.
+#[inline(never)]
 fn itself(expr: &Expr) -> Kept
     ensures calls { result.calls ≡ faults.call_fits (expr_of expr.now) }
     ensures keywords { result.keywords ≡ faults.keyword_known (expr_of expr.now) }
@@ -108,6 +111,7 @@ fn argument_keeps(argument: &Argument) -> Kept
 }
 
 #[cycle(keeps)]
+#[inline(never)]
 fn all_keep(arguments: &[Argument]) -> Kept
     ensures { AllKeep result (args_of arguments.now) }
 {

@@ -6,7 +6,7 @@ use Rattle.std.specs.List.{prefix_len, list_any}
 use Rattle.std.specs.Option.{IfSome}
 use Rattle.std.proofs.lemmas.List.FromFn.{get_or-map-range_with_len}
 use Rattle.std.proofs.lemmas.List.Sums.{prefix_len_is, prefix_len-le-length}
-use Rattle.memchr.specs.Find.{IsFirstByte, is_byte}
+use Rattle.memchr.specs.Find.{IsFirstByte, is_byte, is_byte2, is_byte3}
 use Rattle.model.specs.Pattern.BasicEnds.{is_in_set}
 use Rattle.model.specs.Language.Strings.{has, flags_of, break_to}
 
@@ -52,22 +52,29 @@ first_of_table w xs flags o e bytes h =
     let none : 0 + before ≡ before = omega arith in
     stops_at (0 + before) (length xs) o within h ∙ none ∙ break_by_flags w xs flags e bytes
 
-differs : (a b : ℕ) → ¬ ((b == a) ≡ true) → not (is_in_set (a ∷ []) b) ≡ true
-differs a b ne = grind (arith, nat_tests, ne)
+not_when_fails : (b : Bool) → ¬ (b ≡ true) → not b ≡ true
+not_when_fails true h = absurd (h refl)
+not_when_fails false h = refl
 
-agrees : (a b : ℕ) → (b == a) ≡ true → not (is_in_set (a ∷ []) b) ≡ false
-agrees a b e = grind (arith, nat_tests, e)
-
--- where a byte first stands, or the end
-pub first_of_byte : (a : ℕ) (xs : List ℕ) (o : Option ℕ) → IsFirstByte (is_byte a) xs o → number_or (length xs) o ≡ prefix_len (λ b. not (is_in_set (a ∷ []) b)) xs
-first_of_byte a xs (Some k) h =
-    sym (prefix_len_is (λ b. not (is_in_set (a ∷ []) b)) xs k 0 (omega (arith, h.0.high))
-    (λ j lt. differs a (get_or xs j 0) (h.0.before j (omega arith) lt))
-    (λ lt. agrees a (get_or xs k 0) h.1))
-first_of_byte a xs None h =
-    sym (prefix_len_is (λ b. not (is_in_set (a ∷ []) b)) xs (length xs) 0 (omega arith)
-    (λ j lt. differs a (get_or xs j 0) (h j (omega arith) lt))
+-- where a byte that passes a test first stands, or the end, if the test is whether it is in the set
+pub first_by : (w xs : List ℕ) (test : ℕ → Bool) (o : Option ℕ) → ((b : ℕ) → is_in_set w b ≡ test b) → IsFirstByte test xs o → number_or (length xs) o ≡ prefix_len (λ b. not (is_in_set w b)) xs
+first_by w xs test (Some k) same h =
+    sym (prefix_len_is (λ b. not (is_in_set w b)) xs k 0 (omega (arith, h.0.high))
+    (λ j lt. ap not (same (get_or xs j 0)) ∙ not_when_fails (test (get_or xs j 0)) (h.0.before j (omega arith) lt))
+    (λ lt. ap not (same (get_or xs k 0) ∙ h.1)))
+first_by w xs test None same h =
+    sym (prefix_len_is (λ b. not (is_in_set w b)) xs (length xs) 0 (omega arith)
+    (λ j lt. ap not (same (get_or xs j 0)) ∙ not_when_fails (test (get_or xs j 0)) (h j (omega arith) lt))
     (λ lt. absurd (omega arith)))
+
+pub is_one : (a b : ℕ) → is_in_set (a ∷ []) b ≡ is_byte a b
+is_one a b = grind (arith, nat_tests)
+
+pub is_one_of_two : (a a' b : ℕ) → is_in_set (a ∷ a' ∷ []) b ≡ is_byte2 a a' b
+is_one_of_two a a' b = grind (arith, nat_tests)
+
+pub is_one_of_three : (a a' a'' b : ℕ) → is_in_set (a ∷ a' ∷ a'' ∷ []) b ≡ is_byte3 a a' a'' b
+is_one_of_three a a' a'' b = grind (arith, nat_tests)
 
 pub at_some : {T : Type 0} (o : Option T) (t : T) (P : T → Type 0) → o ≡ Some t → IfSome o P → P t
 at_some o t P e h = subst (λ p. IfSome p P) e h

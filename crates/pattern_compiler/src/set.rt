@@ -5,7 +5,7 @@ ghost use Rattle.std.specs.List.{prefix_len};
 ghost use Rattle.model.specs.Pattern.BasicEnds.{is_in_set};
 ghost use Rattle.model.specs.Language.Strings.{flags_of};
 
-use memchr::memchr;
+use memchr::{memchr, memchr2, memchr3};
 use std::alloc::{AllocError, Global};
 use std::marker::Model;
 use std::rc::Rc;
@@ -79,12 +79,14 @@ impl Set {
         ensures value { result ≡ prefix_len (λ b. not (is_in_set self.now b)) bytes.now }
         ensures within { result ≤ length bytes.now }
     {
-        if let [byte] = self.text.as_slice() {
-            return break_at(bytes, *byte);
-        }
-        match &self.table {
-            Some(table) => break_by(bytes, table.as_ref()),
-            None => break_by(bytes, &ByteSet::of(self.text.as_slice())),
+        match self.text.as_slice() {
+            [byte] => break_at(bytes, *byte),
+            [first, second] => break_at_two(bytes, *first, *second),
+            [first, second, third] => break_at_three(bytes, *first, *second, *third),
+            many => match &self.table {
+                Some(table) => break_by(bytes, table.as_ref()),
+                None => break_by(bytes, &ByteSet::of(many)),
+            },
         }
     }
 }
@@ -116,6 +118,28 @@ pub fn break_at(bytes: &[u8], byte: u8) -> usize
     ensures within { result ≤ length bytes.now }
 {
     match memchr(byte, bytes) {
+        Some(end) => end,
+        None => bytes.len(),
+    }
+}
+
+// How many bytes come before the first that is one of two.
+fn break_at_two(bytes: &[u8], first: u8, second: u8) -> usize
+    ensures value { result ≡ prefix_len (λ b. not (is_in_set (first ∷ second ∷ []) b)) bytes.now }
+    ensures within { result ≤ length bytes.now }
+{
+    match memchr2(first, second, bytes) {
+        Some(end) => end,
+        None => bytes.len(),
+    }
+}
+
+// How many bytes come before the first that is one of three.
+fn break_at_three(bytes: &[u8], first: u8, second: u8, third: u8) -> usize
+    ensures value { result ≡ prefix_len (λ b. not (is_in_set (first ∷ second ∷ third ∷ []) b)) bytes.now }
+    ensures within { result ≤ length bytes.now }
+{
+    match memchr3(first, second, third, bytes) {
         Some(end) => end,
         None => bytes.len(),
     }

@@ -4,3 +4,4 @@ pub mod Arguments
 pub mod Called
 pub mod Associations
 pub mod Defined
+pub mod Tests

@@ -1,8 +1,11 @@
 -- What calls of primitives answer.
-use Rattle.std.specs.Prelude.{◌≡◌, ℕ, ℤ, map, Bool, true, false, not, int_le, int_lt, Result, Ok, Err}
+use Rattle.std.specs.Prelude.{◌≡◌, ℕ, ℤ, map, Bool, true, false, not, int_le, int_lt, Option, Some, None, Result, Ok, Err}
+use Rattle.model.specs.declared.run.ErrorCode.{ErrorCode}
+use Rattle.model.specs.declared.run.ErrorCode.TheVariants as error
 use Rattle.model.specs.declared.primitives.PrimId.{PrimId}
 use Rattle.model.specs.declared.primitives.PrimId.TheVariants as p
 use Rattle.model.specs.Language.Calls.{AValue, AName}
+use Rattle.model.specs.Language.Io.{Io}
 use Rattle.model.specs.Language.Conversions.{Op, Gives, Refuses, Faults}
 use Rattle.model.specs.Machine.Steps.{PCode, MVal, MW}
 use Rattle.model.specs.Language.Primitives.{Returns, Calls, int_same, returned}
@@ -10,6 +13,7 @@ use Rattle.model.specs.Language.Primitives as model
 use Rattle.pattern_compiler.specs.View.{name_of}
 use Rattle.world.specs.declared.fault.Fault.{Fault}
 use Rattle.world.specs.declared.fault.Fault.TheVariants as fault
+use Rattle.world.specs.Held.{WorldView, world_of}
 use Rattle.world.specs.Values.{value_of}
 use Rattle.primitives.specs.declared.outcome.Outcome.{Outcome}
 use Rattle.primitives.specs.declared.outcome.Outcome.TheVariants as outcome
@@ -38,6 +42,32 @@ ComesTo (Err (fault.Stop s)) w o = Unit {0}
 -- in each world, unless it stopped, a call answers as the operation does, which changes nothing
 abbrev pub AnswersAs : Result Outcome Fault → (MW → Op MW MVal) → Type 0
 AnswersAs r o = (w : MW) → ComesTo r w (returned (o w))
+
+-- primitives that say something of two values and take no memory for it
+abbrev pub is_test : PrimId → Bool
+is_test p.Eq = true
+is_test p.Ne = true
+is_test p.Lt = true
+is_test p.Le = true
+is_test p.Gt = true
+is_test p.Ge = true
+is_test p.Ident = true
+is_test p.Differ = true
+is_test _ = false
+
+-- what such a primitive comes to
+abbrev pub tested : Result Bool ErrorCode → MW → Op MW (model.Outcome PCode ℕ)
+tested (Ok b) w = returned (model.holds_if b w)
+tested (Err e) w = Faults e w
+
+-- whether two values are the same, or the error where that can't be asked
+abbrev pub SameOr : Result Bool ErrorCode → Option Bool → Type 0
+SameOr (Ok b) same = same ≡ Some b
+SameOr (Err e) same = (same ≡ None) × (e ≡ error.WrongType)
+
+-- unless it stopped, a call answers as the operation does, and its new world is what that leaves of the old one
+abbrev pub Changes : Result Outcome Fault → (MW → Op MW MVal) → (old new : WorldView) → Type 0
+Changes r o old new = (io : Io) → ComesTo r (world_of new io) (returned (o (world_of old io)))
 
 -- which integers a comparison holds of
 abbrev pub test_of : Comparison → ℤ → ℤ → Bool

@@ -1,13 +1,11 @@
 //! DEFINE.
 
 ghost use Rattle.std.specs.Prelude.{◌≡◌, OnErr};
-ghost use Rattle.model.specs.Language.Io.{Io};
-ghost use Rattle.model.specs.Language.Primitives.{to_entry_label, returned};
+ghost use Rattle.model.specs.Language.Primitives.{to_entry_label};
 ghost use Rattle.model.specs.declared.run.Stop.TheVariants.{NoMemory};
 ghost use Rattle.world.specs.Answers.{Converts, IfStopped};
-ghost use Rattle.world.specs.Held.{world_of};
 ghost use Rattle.world.specs.Values.{value_of};
-ghost use Rattle.primitives.specs.Answers.{ComesTo};
+ghost use Rattle.primitives.specs.Answers.{Changes};
 ghost use Rattle.primitives.specs.Calling.{define_row};
 
 use crate::outcome::Outcome;
@@ -35,9 +33,7 @@ pub(crate) fn define(
     label: &Value,
     world: &mut World,
 ) -> Result<Outcome, Fault>
-    ensures answer { (io : Io)
-        → ComesTo result (world_of world.new io)
-        (returned (define_row (value_of prototype.now) (value_of label.now) (world_of world.old io))) }
+    ensures answer { Changes result (define_row (value_of prototype.now) (value_of label.now)) world.old world.new }
     ensures stop { IfStopped result (λ stop. stop ≡ NoMemory) }
     ensures unchanged { OnErr result (world.new ≡ world.old) }
 {

@@ -5,6 +5,8 @@
 //!
 //!     let outcome = call_prim(alloc, PrimId::Size, &arguments, &mut world)?;
 //!
+//! `holds(id, first, second)` is a call of one that `is_test`: it says something of two values and takes no memory.
+//!
 //! Promised: each is its row of the table, `prim_op` of `model`; a call that gives an error or stops changes nothing.
 //! CALLING.md says how another primitive is added.
 #![tactic(auto)]
@@ -21,3 +23,4 @@ mod units;
 
 pub use call::call_prim;
 pub use outcome::Outcome;
+pub use predicates::{holds, is_test};

@@ -7,12 +7,12 @@ ghost use Rattle.model.specs.Language.Values.{Str, Int, Pat, TableOf};
 ghost use Rattle.model.specs.Language.Conversions.{Gives, conv, to_text, to_integer, to_pattern};
 ghost use Rattle.model.specs.Language.Prototypes.{array_prototype, type_prototype};
 ghost use Rattle.model.specs.Language.Aggregates.{new_object, array_op, copy_op, as_array};
-ghost use Rattle.model.specs.Language.Primitives.{returned, data_op, item_op, converted, or_fail};
+ghost use Rattle.model.specs.Language.Primitives.{data_op, item_op, converted, or_fail};
 ghost use Rattle.model.specs.declared.run.Stop.TheVariants.{NoMemory};
 ghost use Rattle.world.specs.Values.{value_of};
 ghost use Rattle.world.specs.Held.{world_of};
 ghost use Rattle.world.specs.Answers.{IfStopped};
-ghost use Rattle.primitives.specs.Answers.{AnswersAs, ComesTo};
+ghost use Rattle.primitives.specs.Answers.{AnswersAs, Changes, ComesTo};
 
 use crate::functions::type_name;
 use crate::outcome::Outcome;
@@ -28,10 +28,8 @@ pub(crate) fn array(
     value: &Value,
     world: &mut World,
 ) -> Result<Outcome, Fault>
-    ensures answer { (io : Io)
-        → ComesTo result (world_of world.new io)
-        (returned (conv (to_text (value_of prototype.now)) (world_of world.old io) (λ s.
-        array_op (array_prototype s) (value_of value.now) (world_of world.old io)))) }
+    ensures answer { Changes result (λ w. conv (to_text (value_of prototype.now)) w (λ s.
+        array_op (array_prototype s) (value_of value.now) w)) world.old world.new }
     ensures stop { IfStopped result (λ stop. stop ≡ NoMemory) }
     ensures unchanged { OnErr result (world.new ≡ world.old) }
 {
@@ -44,9 +42,7 @@ pub(crate) fn array(
 
 /// TABLE.
 pub(crate) fn table(alloc: Global, world: &mut World) -> Result<Outcome, Fault>
-    ensures answer { (io : Io)
-        → ComesTo result (world_of world.new io)
-        (returned (new_object (TableOf []) (world_of world.old io))) }
+    ensures answer { Changes result (new_object (TableOf [])) world.old world.new }
     ensures stop { IfStopped result (λ stop. stop ≡ NoMemory) }
     ensures unchanged { OnErr result (world.new ≡ world.old) }
 {
@@ -55,9 +51,7 @@ pub(crate) fn table(alloc: Global, world: &mut World) -> Result<Outcome, Fault>
 
 /// COPY.
 pub(crate) fn copy(alloc: Global, value: &Value, world: &mut World) -> Result<Outcome, Fault>
-    ensures answer { (io : Io)
-        → ComesTo result (world_of world.new io)
-        (returned (copy_op (value_of value.now) (world_of world.old io))) }
+    ensures answer { Changes result (copy_op (value_of value.now)) world.old world.new }
     ensures stop { IfStopped result (λ stop. stop ≡ NoMemory) }
     ensures unchanged { OnErr result (world.new ≡ world.old) }
 {
@@ -82,10 +76,8 @@ pub(crate) fn item(arguments: &[Value], world: &World) -> Result<Outcome, Fault>
 
 /// DATA.
 pub(crate) fn data(alloc: Global, prototype: &Value, world: &mut World) -> Result<Outcome, Fault>
-    ensures answer { (io : Io)
-        → ComesTo result (world_of world.new io)
-        (returned (conv (to_text (value_of prototype.now)) (world_of world.old io) (λ s.
-        data_op (type_prototype world.old.level s) (world_of world.old io)))) }
+    ensures answer { Changes result (λ w. conv (to_text (value_of prototype.now)) w (λ s.
+        data_op (type_prototype world.old.level s) w)) world.old world.new }
     ensures stop { IfStopped result (λ stop. stop ≡ NoMemory) }
     ensures unchanged { OnErr result (world.new ≡ world.old) }
 {
@@ -104,10 +96,8 @@ pub(crate) fn convert(
     type_name: &Value,
     world: &mut World,
 ) -> Result<Outcome, Fault>
-    ensures answer { (io : Io)
-        → ComesTo result (world_of world.new io)
-        (returned (conv (to_text (value_of type_name.now)) (world_of world.old io) (λ t.
-        converted codes_of (value_of value.now) t (world_of world.old io)))) }
+    ensures answer { Changes result (λ w. conv (to_text (value_of type_name.now)) w (λ t.
+        converted codes_of (value_of value.now) t w)) world.old world.new }
     ensures stop { IfStopped result (λ stop. stop ≡ NoMemory) }
     ensures unchanged { OnErr result (world.new ≡ world.old) }
 {
@@ -122,9 +112,7 @@ fn converted(
     wanted: &[u8],
     world: &mut World,
 ) -> Result<Outcome, Fault>
-    ensures answer { (io : Io)
-        → ComesTo result (world_of world.new io)
-        (returned (converted codes_of (value_of value.now) wanted.now (world_of world.old io))) }
+    ensures answer { Changes result (converted codes_of (value_of value.now) wanted.now) world.old world.new }
     ensures stop { IfStopped result (λ stop. stop ≡ NoMemory) }
     ensures unchanged { OnErr result (world.new ≡ world.old) }
 {
@@ -183,9 +171,7 @@ fn as_pattern(alloc: Global, value: &Value) -> Result<Outcome, Fault>
 
 // The array of a table's rows, or failure.
 fn as_array(alloc: Global, value: &Value, world: &mut World) -> Result<Outcome, Fault>
-    ensures answer { (io : Io)
-        → ComesTo result (world_of world.new io)
-        (returned (as_array (value_of value.now) (world_of world.old io))) }
+    ensures answer { Changes result (as_array (value_of value.now)) world.old world.new }
     ensures stop { IfStopped result (λ stop. stop ≡ NoMemory) }
     ensures unchanged { OnErr result (world.new ≡ world.old) }
 {

@@ -1,17 +1,18 @@
 //! The primitives that hold or fail.
 
-ghost use Rattle.std.specs.Prelude.{◌≡◌, not};
-ghost use Rattle.model.specs.Machine.Steps.{MW};
-ghost use Rattle.model.specs.Language.Primitives.{returned, compare_op, lgt_op, same_op, same_value};
+ghost use Rattle.std.specs.Prelude.{◌≡◌, List, not, true};
+ghost use Rattle.model.specs.Machine.Steps.{MVal, MW, codes_of};
+ghost use Rattle.model.specs.Language.Calls.{arg_at};
+ghost use Rattle.model.specs.Language.Primitives.{prim_op, returned, compare_op, lgt_op, same_op, same_value};
 ghost use Rattle.model.specs.Language.Primitives.{same_name, is_integer, holds_if, comes_after};
 ghost use Rattle.model.specs.declared.run.Stop.TheVariants.{NoMemory};
 ghost use Rattle.pattern_compiler.specs.View.{name_of};
 ghost use Rattle.world.specs.Values.{value_of};
 ghost use Rattle.world.specs.Answers.{IfStopped};
-ghost use Rattle.primitives.specs.Answers.{AnswersAs, ComesTo, test_of};
+ghost use Rattle.primitives.specs.Answers.{AnswersAs, ComesTo, SameOr, is_test, test_of, tested};
 
 use crate::outcome::Outcome;
-use model::ErrorCode;
+use model::{ErrorCode, PrimId};
 use pattern_compiler::Name;
 use std::alloc::Global;
 use world::{Fault, Value};
@@ -42,6 +43,53 @@ impl Comparison {
     }
 }
 
+/// Whether a primitive says something of two values and takes no memory for it.
+pub fn is_test(id: PrimId) -> bool
+    ensures { result ≡ is_test id }
+{
+    matches!(
+        id,
+        PrimId::Eq
+            | PrimId::Ne
+            | PrimId::Lt
+            | PrimId::Le
+            | PrimId::Gt
+            | PrimId::Ge
+            | PrimId::Ident
+            | PrimId::Differ
+    )
+}
+
+/// Whether such a primitive holds of two values, which are its arguments. An absent argument is null.
+#[inline]
+pub fn holds(id: PrimId, first: &Value, second: &Value) -> Result<bool, ErrorCode>
+    requires { is_test id ≡ true }
+    ensures { (vs : List MVal) (w : MW) → arg_at vs 0 ≡ value_of first.now → arg_at vs 1 ≡ value_of second.now
+        → prim_op codes_of id vs w ≡ tested result w }
+{
+    match id {
+        PrimId::Eq => compares(Comparison::Eq, first, second),
+        PrimId::Ne => compares(Comparison::Ne, first, second),
+        PrimId::Lt => compares(Comparison::Lt, first, second),
+        PrimId::Le => compares(Comparison::Le, first, second),
+        PrimId::Gt => compares(Comparison::Gt, first, second),
+        PrimId::Ge => compares(Comparison::Ge, first, second),
+        PrimId::Ident => same(first, second),
+        PrimId::Differ => Ok(!same(first, second)?),
+        _ => unreachable!(),
+    }
+}
+
+// Whether a comparison holds of two values.
+#[inline]
+fn compares(test: Comparison, left: &Value, right: &Value) -> Result<bool, ErrorCode>
+    ensures { (w : MW) → returned (compare_op (test_of test) (value_of left.now) (value_of right.now) w) ≡ tested result w }
+{
+    let i = left.to_int()?;
+    let j = right.to_int()?;
+    Ok(test.holds(i, j))
+}
+
 /// EQ, NE, LT, LE, GT and GE.
 pub(crate) fn compare(test: Comparison, left: &Value, right: &Value) -> Result<Outcome, Fault>
     ensures answer { (w : MW)
@@ -49,9 +97,7 @@ pub(crate) fn compare(test: Comparison, left: &Value, right: &Value) -> Result<O
         (compare_op (test_of test) (value_of left.now) (value_of right.now) w)) }
     ensures stop { IfStopped result (λ stop. stop ≡ NoMemory) }
 {
-    let i = left.to_int()?;
-    let j = right.to_int()?;
-    Ok(Outcome::holds_if(test.holds(i, j)))
+    Ok(Outcome::holds_if(compares(test, left, right)?))
 }
 
 /// LGT.
@@ -76,10 +122,7 @@ pub(crate) fn ident(left: &Value, right: &Value) -> Result<Outcome, Fault>
         (same_op (λ b. b) (same_value (value_of left.now) (value_of right.now))) }
     ensures stop { IfStopped result (λ stop. stop ≡ NoMemory) }
 {
-    match same_value(left, right) {
-        Some(same) => Ok(Outcome::holds_if(same)),
-        None => Err(Fault::Error(ErrorCode::WrongType)),
-    }
+    Ok(Outcome::holds_if(same(left, right)?))
 }
 
 /// DIFFER.
@@ -88,10 +131,14 @@ pub(crate) fn differ(left: &Value, right: &Value) -> Result<Outcome, Fault>
         (same_op not (same_value (value_of left.now) (value_of right.now))) }
     ensures stop { IfStopped result (λ stop. stop ≡ NoMemory) }
 {
-    match same_value(left, right) {
-        Some(same) => Ok(Outcome::holds_if(!same)),
-        None => Err(Fault::Error(ErrorCode::WrongType)),
-    }
+    Ok(Outcome::holds_if(!same(left, right)?))
+}
+
+// The same, or the error that it can't be asked.
+fn same(left: &Value, right: &Value) -> Result<bool, ErrorCode>
+    ensures { SameOr result (same_value (value_of left.now) (value_of right.now)) }
+{
+    same_value(left, right).ok_or(ErrorCode::WrongType)
 }
 
 // Whether two values have one type and one content; of patterns and expressions it can't be asked.

@@ -1,13 +1,11 @@
 //! The primitives that associate variables with units.
 
 ghost use Rattle.std.specs.Prelude.{◌≡◌, OnErr};
-ghost use Rattle.model.specs.Language.Io.{Io};
-ghost use Rattle.model.specs.Language.Primitives.{returned, input_op, output_op, detach_op};
+ghost use Rattle.model.specs.Language.Primitives.{input_op, output_op, detach_op};
 ghost use Rattle.model.specs.declared.run.Stop.TheVariants.{NoMemory};
 ghost use Rattle.world.specs.Values.{value_of};
-ghost use Rattle.world.specs.Held.{world_of};
 ghost use Rattle.world.specs.Answers.{IfStopped, conv_of};
-ghost use Rattle.primitives.specs.Answers.{ComesTo};
+ghost use Rattle.primitives.specs.Answers.{Changes};
 ghost use Rattle.primitives.specs.Units.{unit_of};
 
 use crate::outcome::Outcome;
@@ -22,9 +20,7 @@ pub(crate) fn input(
     unit: &Value,
     world: &mut World,
 ) -> Result<Outcome, Fault>
-    ensures answer { (io : Io)
-        → ComesTo result (world_of world.new io)
-        (returned (input_op (value_of variable.now) (value_of unit.now) (world_of world.old io))) }
+    ensures answer { Changes result (input_op (value_of variable.now) (value_of unit.now)) world.old world.new }
     ensures stop { IfStopped result (λ stop. stop ≡ NoMemory) }
     ensures unchanged { OnErr result (world.new ≡ world.old) }
 {
@@ -41,9 +37,7 @@ pub(crate) fn output(
     unit: &Value,
     world: &mut World,
 ) -> Result<Outcome, Fault>
-    ensures answer { (io : Io)
-        → ComesTo result (world_of world.new io)
-        (returned (output_op (value_of variable.now) (value_of unit.now) (world_of world.old io))) }
+    ensures answer { Changes result (output_op (value_of variable.now) (value_of unit.now)) world.old world.new }
     ensures stop { IfStopped result (λ stop. stop ≡ NoMemory) }
     ensures unchanged { OnErr result (world.new ≡ world.old) }
 {
@@ -55,9 +49,7 @@ pub(crate) fn output(
 
 /// DETACH.
 pub(crate) fn detach(alloc: Global, variable: &Value, world: &mut World) -> Result<Outcome, Fault>
-    ensures answer { (io : Io)
-        → ComesTo result (world_of world.new io)
-        (returned (detach_op (value_of variable.now) (world_of world.old io))) }
+    ensures answer { Changes result (detach_op (value_of variable.now)) world.old world.new }
     ensures stop { IfStopped result (λ stop. stop ≡ NoMemory) }
     ensures unchanged { OnErr result (world.new ≡ world.old) }
 {

@@ -16,3 +16,4 @@ pub mod Telling
 pub mod WellFormed
 pub mod Named
 pub mod Printing
+pub mod Tests

@@ -1,8 +1,8 @@
 //! Names of elements of arrays and tables.
 
-ghost use Rattle.std.specs.Prelude.{◌≡◌, ℕ, List};
+ghost use Rattle.std.specs.Prelude.{◌≡◌, ◌∷◌, ℕ, List, []};
 ghost use Rattle.model.specs.Language.Io.{Io};
-ghost use Rattle.model.specs.Module.Flow.{takes};
+ghost use Rattle.model.specs.Module.Flow.{V, takes};
 ghost use Rattle.model.specs.declared.image.Image.{Image};
 ghost use Rattle.model.specs.declared.run.Stop.TheVariants.{NoMemory};
 ghost use Rattle.frames.specs.Kinds.{AreOnTop};
@@ -40,8 +40,22 @@ impl State {
             Named im fs next result self.new io (after im (Instr.Elem count) next fs self.old io) }
         ensures stop { IfStopped result (λ stop. stop ≡ NoMemory) }
     {
+        if count == 1 {
+            return self.item_of_one();
+        }
         pop_values(&mut self.operands, count as usize, &mut self.arguments)?;
         let base = pop_value(&mut self.operands);
         self.world.item(&base, self.arguments.as_slice())
+    }
+    // The element with one subscript, which needs no vector.
+    fn item_of_one(&mut self) -> Result<Option<Name>, Fault>
+        requires { AreOnTop (V ∷ V ∷ []) self.old.operands.top }
+        ensures named { (im : Image) (fs : List Frame) (next : ℕ) (io : Io) →
+            Named im fs next result self.new io (after im (Instr.Elem 1) next fs self.old io) }
+        ensures stop { IfStopped result (λ stop. stop ≡ NoMemory) }
+    {
+        let subscript = pop_value(&mut self.operands);
+        let base = pop_value(&mut self.operands);
+        self.world.item(&base, &[subscript])
     }
 }

@@ -39,6 +39,7 @@ impl State {
     }
 
     /// Puts on a value and goes on.
+    #[inline(always)]
     pub(crate) fn put(&mut self, value: Value, next: usize) -> Result<(), Exit>
         ensures left { (im : Image) (fs : List Frame) (io : Io) → Left im fs result self.new io
             (Run (offset_at im.code next) (OV (value_of value) ∷ operands_of self.old.operands.top)
@@ -67,6 +68,7 @@ impl State {
     }
 
     // Puts on a name with its slot and goes on.
+    #[inline(always)]
     fn put_named(&mut self, named: Named, next: usize) -> Result<(), Exit>
         ensures left { (im : Image) (fs : List Frame) (io : Io) → Left im fs result self.new io
             (Run (offset_at im.code next) (ON (name_of named.name) ∷ operands_of self.old.operands.top)

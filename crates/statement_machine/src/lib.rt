@@ -22,6 +22,7 @@ mod machine;
 mod matches;
 mod operators;
 mod patterns;
+mod predicates;
 mod resuming;
 mod run;
 mod slots;

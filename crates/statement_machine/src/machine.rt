@@ -23,13 +23,13 @@ use unit_io::Units;
 
 /// A run of a module.
 #[derive(Drop)]
-pub struct Machine<'m> {
-    program: &'m Module,
+pub struct Machine<'m, 'a> {
+    program: &'m Module<'a>,
     run: Run,
     halt: Option<Halt>,
 }
 
-impl<'m> Model for Machine<'m> {
+impl<'m, 'a> Model for Machine<'m, 'a> {
     ghost use Rattle.statement_machine.specs.Runnable.{IsRunnable};
     ghost use Rattle.statement_machine.specs.Runs.{MachineView, IsGoing, LacksNothing};
 
@@ -41,9 +41,9 @@ impl<'m> Model for Machine<'m> {
         IsRunnable m.program.now × IsGoing m.halt (LacksNothing m.program.now m.run) };
 }
 
-impl<'m> Machine<'m> {
+impl<'m, 'a> Machine<'m, 'a> {
     /// A run of a module, before its first step.
-    pub fn new(alloc: Global, program: &'m Module) -> Result<Machine<'m>, AllocError>
+    pub fn new(alloc: Global, program: &'m Module<'a>) -> Result<Machine<'m, 'a>, AllocError>
         ensures image { IfOk result (λ machine. machine.image ≡ program.now) }
         ensures going { IfOk result (λ machine. machine.halt ≡ None) }
         ensures begun { IfOk result (λ machine.

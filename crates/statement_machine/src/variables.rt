@@ -26,6 +26,7 @@ use world::{Fault, Value};
 
 impl State {
     // On after an operation that gives nothing and may be an error.
+    #[inline(always)]
     fn went(&mut self, answer: Result<(), Fault>, next: usize) -> Result<(), Exit>
         ensures left { (im : Image) (fs : List Frame) (io : Io) (o : Op MW (record {}))
             → AnswersAs (done answer) (world_of self.old.world io) o →
@@ -48,6 +49,7 @@ impl State {
     }
 
     /// On with the value of an operation that may fail or be an error.
+    #[inline(always)]
     pub(crate) fn gave(
         &mut self,
         answer: Result<Option<Value>, Fault>,
@@ -132,9 +134,9 @@ impl State {
         let value = pop_value(&mut self.operands);
         let span = pop_span(&mut self.operands);
         let named = pop_name(&mut self.operands);
-        let answer =
-            self.world
-                .splice_at(self.alloc, units, &named.name, named.slot, &span, &value);
+        let answer = self
+            .world
+            .splice_at(self.alloc, units, &named.name, named.slot, &span, &value);
         self.went(answer, next)
     }
 }

@@ -5,16 +5,17 @@ use Rattle.model.specs.declared.tokens.Mark.TheVariants as mark
 use Rattle.model.specs.declared.trees.Argument.{Argument}
 use Rattle.model.specs.declared.trees.Binary.{Binary}
 use Rattle.model.specs.declared.trees.Binary.TheVariants as binary
+use Rattle.model.specs.declared.trees.Unary.{Unary}
 use Rattle.model.specs.Deck.Grammar.{grade}
-use Rattle.model.specs.Deck.Parse.{Parser, bind, Onward, Ends, Sees, next, on, lefts, rights, graded, one_argument, several, sees, tail}
-use Rattle.model.specs.Deck.Tokens.{Tok}
-use Rattle.model.specs.Deck.Trees.{Expr, Combine, Arg, Args, Nil, More}
+use Rattle.model.specs.Deck.Parse.{Parser, bind, Onward, Ends, Sees, next, on, lefts, rights, graded, element, element_step, by_mark, prefixed, Role, Opens, Refers, Prefix, Either, Infix, Neither, role, one_argument, several, sees, tail}
+use Rattle.model.specs.Deck.Tokens.{Tok, Blank, Word, Digits, Quoted, Sign}
+use Rattle.model.specs.Deck.Trees.{Expr, Apply, Combine, Arg, Args, Nil, More}
 use Rattle.model.specs.Deck.TreeViews.{arg_of, args_of}
 use Rattle.model.proofs.Decks.ParseComplete.{on_go}
 use Rattle.model.proofs.Decks.ParseSound.{pow_only}
-use Rattle.stmt_parser.specs.Powers.{powers}
-use Rattle.stmt_parser.specs.Views.{Misses, Operated}
-use Rattle.stmt_parser.proofs.Powers.{powers_last}
+use Rattle.stmt_parser.specs.Powers.{marks_before, powers}
+use Rattle.stmt_parser.specs.Views.{Misses, Operated, prefix_of, prefix_of_role}
+use Rattle.stmt_parser.proofs.Powers.{marks_last, powers_last}
 
 pub one_more : {X : Type 0} {x : X} (f : ℕ → X) (n at : ℕ) → at < n → x ≡ f (n - at) → x ≡ f (suc (n - (at + 1)))
 one_more f n at below e = let turn : n - at ≡ suc (n - (at + 1)) = omega arith in e ∙ ap f turn
@@ -35,6 +36,9 @@ stopped k ts rest (Some op) h i = absurd (cc)
 pub went_on : (k : ℕ) (ts rest : List Tok) (o : Option Binary) → Operated k ts o rest → is_some o ≡ true → (op : Binary) × (next ts ≡ Sees op rest) × (grade op ≡ k)
 went_on k ts rest None h i = absurd (cc)
 went_on k ts rest (Some op) h i = (op, h.0, h.1)
+
+some_is : {A : Type 0} (x y : A) → Some x ≡ Some y → x ≡ y
+some_is x y h = cc
 
 -- ---- operators that group to the left
 module _ (operand : Parser Expr) (k n : ℕ) (e : Expr) (ts : List Tok) where
@@ -106,6 +110,73 @@ rights_start operand n m ts h = ap (λ k. rights operand 2 k ts) h ∙ onto_nil 
 pub rights_end : (operand : Parser Expr) (ts : List Tok) (xs : List Expr) → onto xs (rights operand 2 zero ts) ≡ None
 unfolding rights
 rights_end operand ts xs = refl
+
+-- ---- marks of unary operators
+abbrev pub before : List Unary → Option (Expr × List Tok) → Option (Expr × List Tok)
+before us None = None
+before us (Some p) = Some (marks_before us p.0, p.1)
+
+before_nil : (o : Option (Expr × List Tok)) → o ≡ before [] o
+before_nil None = refl
+before_nil (Some p) = refl
+
+before_last : (us : List Unary) (u : Unary) (o : Option (Expr × List Tok)) → before us (bind o (λ e rest. Some (Apply u e, rest))) ≡ before (us ++ u ∷ []) o
+unfolding bind
+before_last us u None = refl
+before_last us u (Some p) = ap (λ e. Some (e, p.1)) (sym (marks_last us u p.0))
+
+pub marks_start : (d n : ℕ) (us : List Unary) (ts : List Tok) → us ≡ [] → d ≡ n → element d ts ≡ before us (element n ts)
+marks_start d n us ts e h = ap (λ k. element k ts) h ∙ before_nil (element n ts) ∙ ap (λ xs. before xs (element n ts)) (sym e)
+
+by_prefix : (inner : Parser Expr) (r : Role) (ts : List Tok) (found : Option (Expr × List Tok)) (u : Unary) → prefix_of_role r ≡ Some u → by_mark inner r ts found ≡ prefixed inner u found
+by_prefix inner Opens ts found u h = absurd (cc)
+by_prefix inner Refers ts found u h = absurd (cc)
+by_prefix inner (Prefix v) ts found u h = ap (λ w. prefixed inner w found) (some_is v u h)
+by_prefix inner (Either v op) ts found u h = ap (λ w. prefixed inner w found) (some_is v u h)
+by_prefix inner (Infix op) ts found u h = absurd (cc)
+by_prefix inner Neither ts found u h = absurd (cc)
+
+marked_element : (d : ℕ) (t : Tok) (ts : List Tok) (u : Unary) → prefix_of t ≡ Some u → element (suc d) (t ∷ ts) ≡ bind (element d ts) (λ e rest. Some (Apply u e, rest))
+unfolding element element_step
+marked_element d Blank ts u h = absurd (cc)
+marked_element d (Word s) ts u h = absurd (cc)
+marked_element d (Digits n) ts u h = absurd (cc)
+marked_element d (Quoted s) ts u h = absurd (cc)
+marked_element d (Sign m) ts u h = by_prefix (graded (element d) 7) (role m) ts (element d ts) u h
+
+pub marks_go : (d : ℕ) (us : List Unary) (u : Unary) (ts rest : List Tok) (t : Tok) → ts ≡ t ∷ rest → prefix_of t ≡ Some u → before us (element (suc d) ts) ≡ before (us ++ u ∷ []) (element d rest)
+marks_go d us u ts rest t at h = ap (λ x. before us (element (suc d) x)) at ∙ ap (before us) (marked_element d t rest u h) ∙ before_last us u (element d rest)
+
+pub marks_end : (us : List Unary) (ts : List Tok) → before us (element zero ts) ≡ None
+unfolding element
+marks_end us ts = refl
+
+no_mark : (inner : Parser Expr) (r : Role) (ts : List Tok) (found : Option (Expr × List Tok)) → prefix_of_role r ≡ None → (r ≡ Opens → ⊥) → (r ≡ Refers → ⊥) → by_mark inner r ts found ≡ None
+no_mark inner Opens ts found h o f = absurd (o refl)
+no_mark inner Refers ts found h o f = absurd (f refl)
+no_mark inner (Prefix u) ts found h o f = absurd (cc)
+no_mark inner (Either u op) ts found h o f = absurd (cc)
+no_mark inner (Infix op) ts found h o f = refl
+no_mark inner Neither ts found h o f = refl
+
+-- ---- grades one above the other
+pub graded_none : (atom : Parser Expr) (ts : List Tok) → graded atom 0 ts ≡ atom ts
+unfolding graded
+graded_none atom ts = refl
+
+pub graded_fails : (atom : Parser Expr) (k j : ℕ) → k ≡ suc j → (j == 1) ≡ false → (ts : List Tok) → graded atom j ts ≡ None → graded atom k ts ≡ None
+unfolding graded bind
+graded_fails atom k j h miss ts none =
+    subst (λ n. graded atom n ts ≡ None) (sym h) (rw miss (ap (λ r. bind r (λ x end. lefts (graded atom j) (suc j) (length end) x end)) none))
+
+-- where none of a grade is there, none of a greater grade is
+pub climb_fails : (atom : Parser Expr) (n k : ℕ) (ts : List Tok) → 2 ≤ k → graded atom k ts ≡ None → graded atom (k + n) ts ≡ None
+climb_fails atom zero k ts h none = subst (λ m. graded atom m ts ≡ None) (omega arith) none
+climb_fails atom (suc n) k ts h none = graded_fails atom (k + suc n) (k + n) (omega arith) (grind (arith, h)) ts (climb_fails atom n k ts h none)
+
+pub climb_start : (atom : Parser Expr) (ts : List Tok) → graded atom 2 ts ≡ rights (graded atom 1) 2 (length ts) ts
+unfolding graded
+climb_start atom ts = refl
 
 -- ---- arguments
 abbrev pub join : Args → Args → Args

@@ -2,17 +2,20 @@
 use Rattle.std.specs.Prelude.{◌≡◌, ◌≤◌, ℕ, ⊤, List, [], ◌∷◌, length, drop, Option, Some, None, Result, Ok, Err}
 use Rattle.model.specs.declared.tokens.Token.{Token}
 use Rattle.model.specs.declared.trees.Binary.{Binary}
+use Rattle.model.specs.declared.trees.Unary.{Unary}
 use Rattle.model.specs.Deck.Grammar.{grade}
 use Rattle.model.specs.Deck.Parse as spec
 use Rattle.model.specs.Deck.Parse.{Onward, Ends, Sees, next}
-use Rattle.model.specs.Deck.Tokens.{Tok, Blank, tok}
+use Rattle.model.specs.Deck.Tokens.{Tok, Blank, Sign, tok}
 use Rattle.model.specs.Deck.Trees as tree
 use Rattle.model.specs.Deck.Trees.{Args}
+use Rattle.model.specs.declared.trees.Expr.{Expr}
 use Rattle.model.specs.declared.trees.Place.{Place}
 use Rattle.model.specs.declared.trees.Stmt.{Stmt}
-use Rattle.model.specs.Deck.TreeViews.{args_of, place_of, stmt_of}
+use Rattle.model.specs.Deck.TreeViews.{args_of, expr_of, place_of, stmt_of}
 use Rattle.model.specs.declared.trees.Argument.{Argument}
 use Rattle.std.specs.declared.alloc.Global.{Global}
+use Rattle.std.specs.declared.boxed.Box.{Box}
 use Rattle.std.specs.declared.vec.Vec.{Vec}
 use Rattle.stmt_parser.specs.declared.marks.Role.{Role}
 use Rattle.stmt_parser.specs.declared.marks.Role.TheVariants as r
@@ -45,6 +48,26 @@ Seen ts (Some op) n = (next ts ≡ Sees op (drop n ts)) × (n ≤ length ts)
 abbrev pub SeenAfter : Tok → List Tok → Option Binary → ℕ → Type 0
 SeenAfter t ts o n = Seen (Blank ∷ t ∷ ts) o n
 
+-- the unary operator that a mark or a token may be
+abbrev pub prefix_of_role : spec.Role → Option Unary
+prefix_of_role (spec.Prefix u) = Some u
+prefix_of_role (spec.Either u op) = Some u
+prefix_of_role _ = None
+
+abbrev pub prefix_of : Tok → Option Unary
+prefix_of (Sign m) = prefix_of_role (spec.role m)
+prefix_of _ = None
+
+-- no mark of a unary operator comes next
+abbrev pub Unprefixed : List Tok → Type 0
+Unprefixed [] = ⊤
+Unprefixed (t ∷ ts) = prefix_of t ≡ None
+
+-- a unary operator, where its mark comes next, and the tokens after it
+abbrev pub Prefixed : List Tok → Option Unary → List Tok → Type 0
+Prefixed ts None rest = Unprefixed ts × (rest ≡ ts)
+Prefixed ts (Some u) rest = (t : Tok) × (ts ≡ t ∷ rest) × (prefix_of t ≡ Some u)
+
 -- no operator of this grade comes next
 abbrev pub Misses : ℕ → Onward → Type 0
 Misses k Ends = ⊤
@@ -63,6 +86,10 @@ Fails stop.Memory found = ⊤
 abbrev pub Reads : {A B : Type 0} → (B → A) → Option (A × List Tok) → Result B Stop → List Tok → Type 0
 Reads view found (Ok x) rest = found ≡ Some (view x, rest)
 Reads view found (Err s) rest = Fails s found
+
+-- the tree behind a pointer
+abbrev pub boxed_of : Box Expr Global → tree.Expr
+boxed_of b = expr_of b.value
 
 abbrev pub arguments_of : Vec Argument Global → Args
 arguments_of v = args_of v.items

@@ -7,6 +7,7 @@ ghost use Rattle.stmt_parser.specs.Views.{Reads};
 
 use crate::cursor::Cursor;
 use crate::expressions::{element, whole};
+use crate::letting_go::let_expression_go;
 use crate::stop::Stop;
 use model::{Body, Expr, Mark};
 use std::alloc::Global;
@@ -37,7 +38,7 @@ fn after_subject(
         return match object(alloc, cursor, depth) {
             Ok(object) => Ok(Body::Assign(subject, object)),
             Err(stop) => {
-                drop(subject);
+                let_expression_go(alloc, subject);
                 Err(stop)
             }
         };
@@ -48,7 +49,7 @@ fn after_subject(
     match whole(alloc, cursor, depth) {
         Ok(pattern) => after_pattern(alloc, cursor, depth, subject, pattern),
         Err(stop) => {
-            drop(subject);
+            let_expression_go(alloc, subject);
             Err(stop)
         }
     }
@@ -72,8 +73,8 @@ fn after_pattern(
     match object(alloc, cursor, depth) {
         Ok(object) => Ok(Body::Replace(subject, pattern, object)),
         Err(stop) => {
-            drop(subject);
-            drop(pattern);
+            let_expression_go(alloc, subject);
+            let_expression_go(alloc, pattern);
             Err(stop)
         }
     }

@@ -8,7 +8,7 @@ ghost use Rattle.model.specs.Deck.Tokens.{tok, toks};
 ghost use Rattle.stmt_parser.specs.Views as view;
 
 use crate::marks::{Role, grade, role_of};
-use model::{Binary, Mark, Token, TokenKind};
+use model::{Binary, Mark, Token, TokenKind, Unary};
 use std::marker::Model;
 
 /// The tokens that are left.
@@ -54,6 +54,20 @@ impl<'a> Cursor<'a> {
                 self.rest = rest;
                 Some(*first)
             }
+        }
+    }
+
+    /// Takes the mark of a unary operator, where one comes next.
+    pub(crate) fn prefix(&mut self) -> Option<Unary>
+        ensures { view.Prefixed self.old result self.new }
+    {
+        match self.rest {
+            [first, rest @ ..] => {
+                let op = unary_of(first)?;
+                self.rest = rest;
+                Some(op)
+            }
+            [] => None,
         }
     }
 
@@ -201,6 +215,19 @@ fn is_blank(token: &Token<'_>) -> bool
     match token.kind {
         TokenKind::Blank => true,
         _ => false,
+    }
+}
+
+/// The unary operator that a token may be.
+fn unary_of(token: &Token<'_>) -> Option<Unary>
+    ensures { result ≡ view.prefix_of (tok token.now) }
+{
+    match token.kind {
+        TokenKind::Mark(m) => match role_of(m) {
+            Role::Prefix(op) | Role::Either(op, _) => Some(op),
+            _ => None,
+        },
+        _ => None,
     }
 }
 

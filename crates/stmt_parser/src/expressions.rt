@@ -1,39 +1,82 @@
 //! Expressions by grades.
+//!
+//! Brackets nest on the stack, so what is read is handed up behind a pointer, and marks of unary operators wait in a
+//! list.
 
-ghost use Rattle.std.specs.Prelude.{◌≡◌, ◌<◌, ◌-◌, length};
+ghost use Rattle.std.specs.Prelude.{◌≡◌, ◌≤◌, ◌<◌, ◌+◌, ◌-◌, length, IfOk};
 ghost use Rattle.model.specs.Deck.Parse as spec;
+ghost use Rattle.model.specs.Deck.Tokens.{between_quotes};
+ghost use Rattle.model.specs.Deck.Trees.{Literal};
 ghost use Rattle.model.specs.Deck.TreeViews.{arg_of, expr_of};
-ghost use Rattle.stmt_parser.specs.Views.{Reads, arguments_of};
+ghost use Rattle.stmt_parser.specs.Views.{Reads, Unprefixed, arguments_of, boxed_of};
 
 use crate::cursor::Cursor;
+use crate::letting_go::let_boxed_go;
 use crate::marks::{Role, role_of};
-use crate::parts::{binary, given, integer, power, shown, unary, unquoted};
+use crate::parts::{applied, binary, given, integer, node, power, shown, unquoted};
 use crate::stop::Stop;
 use model::{Argument, Expr, Mark, Token, TokenKind};
-use std::alloc::Global;
+use std::alloc::{AllocError, Global};
 
 /// A whole expression; brackets and unary operators are nested less deep than the number.
-#[cycle(expr)]
 pub(crate) fn whole(alloc: Global, cursor: &mut Cursor<'_>, depth: usize) -> Result<Expr, Stop>
     ensures { Reads expr_of (spec.whole depth cursor.old) result cursor.new }
 {
-    graded(alloc, cursor, depth, 7)
+    Ok(Box::into_inner(graded(alloc, cursor, depth, 7)?))
+}
+
+/// An element; brackets and unary operators are nested less deep than the number.
+pub(crate) fn element(alloc: Global, cursor: &mut Cursor<'_>, depth: usize) -> Result<Expr, Stop>
+    ensures { Reads expr_of (spec.element depth cursor.old) result cursor.new }
+{
+    Ok(Box::into_inner(marked(alloc, cursor, depth)?))
 }
 
 /// An expression of a grade.
 #[cycle(expr)]
-#[tactic(auto, unfolding(model::specs::Deck::Parse::graded, model::specs::Deck::Parse::bind))]
-fn graded(alloc: Global, cursor: &mut Cursor<'_>, depth: usize, grade: u8) -> Result<Expr, Stop>
-    ensures { Reads expr_of (spec.graded (spec.element depth) grade cursor.old) result cursor.new }
+fn graded(
+    alloc: Global,
+    cursor: &mut Cursor<'_>,
+    depth: usize,
+    grade: u8,
+) -> Result<Box<Expr>, Stop>
+    ensures { Reads boxed_of (spec.graded (spec.element depth) grade cursor.old) result cursor.new }
 {
-    if grade == 0 {
-        return element(alloc, cursor, depth);
+    match grade {
+        0 => marked(alloc, cursor, depth),
+        1 => assigned(alloc, cursor, depth),
+        2 => rights(alloc, cursor, depth),
+        _ => climbed(alloc, cursor, depth, grade),
     }
-    if grade == 2 {
-        return rights(alloc, cursor, depth);
+}
+
+/// An expression of grade 1.
+#[cycle(expr)]
+#[inline(never)]
+fn assigned(alloc: Global, cursor: &mut Cursor<'_>, depth: usize) -> Result<Box<Expr>, Stop>
+    ensures { Reads boxed_of (spec.graded (spec.element depth) 1 cursor.old) result cursor.new }
+{
+    let first = marked(alloc, cursor, depth)?;
+    lefts(alloc, cursor, depth, 1, first)
+}
+
+/// An expression of a grade above 2: one of grade 2, then the operators of grade 3, and so on.
+#[cycle(expr)]
+#[inline(never)]
+fn climbed(
+    alloc: Global,
+    cursor: &mut Cursor<'_>,
+    depth: usize,
+    grade: u8,
+) -> Result<Box<Expr>, Stop>
+    requires { 2 < grade }
+    ensures { Reads boxed_of (spec.graded (spec.element depth) grade cursor.old) result cursor.new }
+{
+    let mut found = rights(alloc, cursor, depth)?;
+    for below in 2..grade {
+        found = lefts(alloc, cursor, depth, below + 1, found)?;
     }
-    let first = graded(alloc, cursor, depth, grade - 1)?;
-    lefts(alloc, cursor, depth, grade, first)
+    Ok(found)
 }
 
 /// Operators of a grade that group to the left, with their operands, after the first operand.
@@ -44,12 +87,12 @@ fn lefts(
     cursor: &mut Cursor<'_>,
     depth: usize,
     grade: u8,
-    mut found: Expr,
-) -> Result<Expr, Stop>
+    mut found: Box<Expr>,
+) -> Result<Box<Expr>, Stop>
     requires { 0 < grade }
-    ensures { Reads expr_of
+    ensures { Reads boxed_of
         (spec.lefts (spec.graded (spec.element depth) (grade - 1)) grade (length cursor.old)
-        (expr_of found) cursor.old) result cursor.new }
+        (boxed_of found) cursor.old) result cursor.new }
 {
     for _turn in 0..cursor.len() {
         let Some(op) = cursor.operator(grade) else {
@@ -58,7 +101,7 @@ fn lefts(
         match graded(alloc, cursor, depth, grade - 1) {
             Ok(right) => found = binary(alloc, op, found, right)?,
             Err(stop) => {
-                drop(found);
+                let_boxed_go(alloc, found);
                 return Err(stop);
             }
         }
@@ -69,14 +112,14 @@ fn lefts(
 /// Operands of `**`, which groups to the right.
 #[cycle(expr)]
 #[tactic(auto, unfolding(model::specs::Deck::Parse::rights, model::specs::Deck::Parse::bind, model::specs::Deck::Parse::on))]
-fn rights(alloc: Global, cursor: &mut Cursor<'_>, depth: usize) -> Result<Expr, Stop>
-    ensures { Reads expr_of
+fn rights(alloc: Global, cursor: &mut Cursor<'_>, depth: usize) -> Result<Box<Expr>, Stop>
+    ensures { Reads boxed_of
         (spec.rights (spec.graded (spec.element depth) 1) 2
         (length cursor.old) cursor.old) result cursor.new }
 {
     let mut operands = Vec::new(alloc);
     for _turn in 0..cursor.len() {
-        let operand = graded(alloc, cursor, depth, 1)?;
+        let operand = assigned(alloc, cursor, depth)?;
         if cursor.operator(2).is_none() {
             return Ok(power(alloc, operands, operand)?);
         }
@@ -85,38 +128,53 @@ fn rights(alloc: Global, cursor: &mut Cursor<'_>, depth: usize) -> Result<Expr, 
     Err(Stop::NoTree)
 }
 
-/// An element; brackets and unary operators are nested less deep than the number.
+/// An element: the marks of unary operators, and what they stand before.
 #[cycle(expr)]
-#[tactic(auto, unfolding(model::specs::Deck::Parse::element, model::specs::Deck::Parse::element_step, model::specs::Deck::Parse::bind))]
-pub(crate) fn element(alloc: Global, cursor: &mut Cursor<'_>, depth: usize) -> Result<Expr, Stop>
-    ensures { Reads expr_of (spec.element depth cursor.old) result cursor.new }
+#[inline(never)]
+fn marked(alloc: Global, cursor: &mut Cursor<'_>, depth: usize) -> Result<Box<Expr>, Stop>
+    ensures { Reads boxed_of (spec.element depth cursor.old) result cursor.new }
 {
-    if depth == 0 {
-        return Err(Stop::NoTree);
+    let mut marks = Vec::new(alloc);
+    for turn in 0..depth {
+        match cursor.prefix() {
+            Some(op) => marks.push(op)?,
+            None => {
+                let operand = bare(alloc, cursor, depth - turn - 1)?;
+                return Ok(applied(alloc, marks, operand)?);
+            }
+        }
     }
+    Err(Stop::NoTree)
+}
+
+/// An element that begins with no unary operator; what stands in its brackets is nested less deep than the number.
+#[cycle(expr)]
+#[inline(never)]
+#[tactic(auto, unfolding(model::specs::Deck::Parse::element, model::specs::Deck::Parse::element_step, model::specs::Deck::Parse::bind))]
+fn bare(alloc: Global, cursor: &mut Cursor<'_>, depth: usize) -> Result<Box<Expr>, Stop>
+    requires { Unprefixed cursor.old }
+    ensures { Reads boxed_of (spec.element (depth + 1) cursor.old) result cursor.new }
+{
     let Some(token) = cursor.take() else {
         return Err(Stop::NoTree);
     };
     match token.kind {
         TokenKind::Blank => Err(Stop::NoTree),
-        TokenKind::Name => named(alloc, cursor, depth - 1, token.text),
-        TokenKind::Integer => Ok(Expr::Integer(integer(token.text))),
-        TokenKind::Literal => Ok(Expr::Literal(Vec::from_slice(alloc, unquoted(token.text))?)),
+        TokenKind::Name => named(alloc, cursor, depth, token.text),
+        TokenKind::Integer => Ok(node(alloc, Expr::Integer(integer(token.text)))?),
+        TokenKind::Literal => Ok(literal(alloc, token.text)?),
         TokenKind::Mark(mark) => match role_of(mark) {
-            Role::Opens => bracketed(alloc, cursor, depth - 1),
+            Role::Opens => bracketed(alloc, cursor, depth),
             Role::Refers => keyword(alloc, cursor),
-            Role::Prefix(op) | Role::Either(op, _) => {
-                let operand = element(alloc, cursor, depth - 1)?;
-                Ok(unary(alloc, op, operand)?)
-            }
-            Role::Infix(_) | Role::Neither => Err(Stop::NoTree),
+            _ => Err(Stop::NoTree),
         },
     }
 }
 
 /// A keyword, after its `&`.
-fn keyword(alloc: Global, cursor: &mut Cursor<'_>) -> Result<Expr, Stop>
-    ensures { Reads expr_of (spec.keyword_of (spec.whole 0) cursor.old) result cursor.new }
+#[inline(never)]
+fn keyword(alloc: Global, cursor: &mut Cursor<'_>) -> Result<Box<Expr>, Stop>
+    ensures { Reads boxed_of (spec.keyword_of (spec.whole 0) cursor.old) result cursor.new }
 {
     match cursor.take() {
         Some(
@@ -125,33 +183,52 @@ fn keyword(alloc: Global, cursor: &mut Cursor<'_>) -> Result<Expr, Stop>
                 text,
                 ..
             },
-        ) => Ok(Expr::Keyword(Vec::from_slice(alloc, text)?)),
+        ) => Ok(node(alloc, Expr::Keyword(Vec::from_slice(alloc, text)?))?),
         _ => Err(Stop::NoTree),
     }
 }
 
+/// The literal of a text with its quotes.
+#[inline(never)]
+fn literal(alloc: Global, text: &[u8]) -> Result<Box<Expr>, AllocError>
+    requires { 2 ≤ length text.now }
+    ensures { IfOk result (λ e. boxed_of e ≡ Literal (between_quotes text.now)) }
+{
+    node(
+        alloc,
+        Expr::Literal(Vec::from_slice(alloc, unquoted(text))?),
+    )
+}
+
 /// An expression and the round bracket that closes, after the one that opens.
 #[cycle(expr)]
+#[inline(never)]
 #[tactic(auto, unfolding(model::specs::Deck::Parse::bracketed, model::specs::Deck::Parse::bind, model::specs::Deck::Parse::expect))]
-fn bracketed(alloc: Global, cursor: &mut Cursor<'_>, depth: usize) -> Result<Expr, Stop>
-    ensures { Reads expr_of (spec.bracketed (spec.whole depth) cursor.old) result cursor.new }
+fn bracketed(alloc: Global, cursor: &mut Cursor<'_>, depth: usize) -> Result<Box<Expr>, Stop>
+    ensures { Reads boxed_of (spec.bracketed (spec.whole depth) cursor.old) result cursor.new }
 {
     cursor.skip();
-    let inner = whole(alloc, cursor, depth)?;
+    let inner = graded(alloc, cursor, depth, 7)?;
     cursor.skip();
     if cursor.eat(Mark::Close) {
         Ok(inner)
     } else {
-        drop(inner);
+        let_boxed_go(alloc, inner);
         Err(Stop::NoTree)
     }
 }
 
 /// A name, a call or a reference, after the name.
 #[cycle(expr)]
+#[inline(never)]
 #[tactic(auto, unfolding(model::specs::Deck::Parse::after_name, model::specs::Deck::Parse::bind, model::specs::Deck::Parse::expect))]
-fn named(alloc: Global, cursor: &mut Cursor<'_>, depth: usize, name: &[u8]) -> Result<Expr, Stop>
-    ensures { Reads expr_of
+fn named(
+    alloc: Global,
+    cursor: &mut Cursor<'_>,
+    depth: usize,
+    name: &[u8],
+) -> Result<Box<Expr>, Stop>
+    ensures { Reads boxed_of
         (spec.after_name (spec.whole depth) name.now cursor.old) result cursor.new }
 {
     let name = Vec::from_slice(alloc, name)?;
@@ -159,24 +236,25 @@ fn named(alloc: Global, cursor: &mut Cursor<'_>, depth: usize, name: &[u8]) -> R
     if cursor.eat(Mark::Open) {
         let arguments = several(alloc, cursor, depth, turns)?;
         if cursor.eat(Mark::Close) {
-            Ok(Expr::Call(name, shown(arguments)))
+            Ok(node(alloc, Expr::Call(name, shown(arguments)))?)
         } else {
             Err(Stop::NoTree)
         }
     } else if cursor.eat(Mark::Less) {
         let subscripts = several(alloc, cursor, depth, turns)?;
         if given(&subscripts) && cursor.eat(Mark::Greater) {
-            Ok(Expr::Reference(name, subscripts))
+            Ok(node(alloc, Expr::Reference(name, subscripts))?)
         } else {
             Err(Stop::NoTree)
         }
     } else {
-        Ok(Expr::Name(name))
+        Ok(node(alloc, Expr::Name(name))?)
     }
 }
 
 /// At most so many arguments, with commas between.
 #[cycle(expr)]
+#[inline(never)]
 #[tactic(auto, unfolding(model::specs::Deck::Parse::several, model::specs::Deck::Parse::bind))]
 fn several(
     alloc: Global,
@@ -199,6 +277,7 @@ fn several(
 
 /// One argument.
 #[cycle(expr)]
+#[inline(never)]
 #[tactic(auto, unfolding(model::specs::Deck::Parse::one_argument, model::specs::Deck::Parse::bind))]
 fn one(alloc: Global, cursor: &mut Cursor<'_>, depth: usize) -> Result<Argument, Stop>
     ensures { Reads arg_of (spec.one_argument (spec.whole depth) cursor.old) result cursor.new }
@@ -207,7 +286,7 @@ fn one(alloc: Global, cursor: &mut Cursor<'_>, depth: usize) -> Result<Argument,
     if !cursor.starts() {
         return Ok(Argument::Absent);
     }
-    let value = whole(alloc, cursor, depth)?;
+    let value = graded(alloc, cursor, depth, 7)?;
     cursor.skip();
-    Ok(Argument::Given(value))
+    Ok(Argument::Given(Box::into_inner(value)))
 }

@@ -7,6 +7,7 @@ ghost use Rattle.stmt_parser.specs.Views.{Reads, other_place_of};
 
 use crate::cursor::Cursor;
 use crate::expressions::element;
+use crate::letting_go::let_place_go;
 use crate::stop::Stop;
 use model::{Goto, Mark, Place, Token, TokenKind};
 use std::alloc::Global;
@@ -34,7 +35,7 @@ fn exits(alloc: Global, cursor: &mut Cursor<'_>, depth: usize) -> Result<Goto, S
             Ok(None) => Ok(Goto::OnSuccess(success)),
             Ok(Some(failure)) => Ok(Goto::Both(success, failure)),
             Err(stop) => {
-                drop(success);
+                let_place_go(alloc, success);
                 Err(stop)
             }
         };
@@ -45,7 +46,7 @@ fn exits(alloc: Global, cursor: &mut Cursor<'_>, depth: usize) -> Result<Goto, S
             Ok(None) => Ok(Goto::OnFailure(failure)),
             Ok(Some(success)) => Ok(Goto::Both(success, failure)),
             Err(stop) => {
-                drop(failure);
+                let_place_go(alloc, failure);
                 Err(stop)
             }
         };
@@ -83,7 +84,7 @@ fn in_brackets(alloc: Global, cursor: &mut Cursor<'_>, depth: usize) -> Result<P
     if cursor.eat(Mark::Close) {
         Ok(place)
     } else {
-        drop(place);
+        let_place_go(alloc, place);
         Err(Stop::NoTree)
     }
 }

@@ -7,32 +7,62 @@ ghost use Rattle.model.specs.Deck.Grammar as grammar;
 ghost use Rattle.model.specs.Deck.Tokens.{between_quotes};
 ghost use Rattle.model.specs.Deck.Trees as tree;
 ghost use Rattle.model.specs.Deck.TreeViews.{args_of, expr_of};
-ghost use Rattle.stmt_parser.specs.Powers.{powers};
+ghost use Rattle.stmt_parser.specs.Powers.{marks_before, powers};
+ghost use Rattle.stmt_parser.specs.Views.{boxed_of};
 
 use model::{Argument, Binary, Expr, Unary};
 use std::alloc::{AllocError, Global};
 
-pub(crate) fn unary(alloc: Global, op: Unary, operand: Expr) -> Result<Expr, AllocError>
-    ensures { IfOk result (λ e. expr_of e ≡ tree.Apply op (expr_of operand)) }
+/// An expression behind a pointer.
+#[inline(never)]
+pub(crate) fn node(alloc: Global, expr: Expr) -> Result<Box<Expr>, AllocError>
+    ensures { IfOk result (λ e. boxed_of e ≡ expr_of expr) }
 {
-    Ok(Expr::Unary(op, Box::new(alloc, operand)?))
+    Ok(Box::new(alloc, expr)?)
 }
 
-pub(crate) fn binary(alloc: Global, op: Binary, left: Expr, right: Expr) -> Result<Expr, AllocError>
-    ensures { IfOk result (λ e. expr_of e ≡ tree.Combine op (expr_of left) (expr_of right)) }
+#[inline(never)]
+fn unary(alloc: Global, op: Unary, operand: Box<Expr>) -> Result<Box<Expr>, AllocError>
+    ensures { IfOk result (λ e. boxed_of e ≡ tree.Apply op (boxed_of operand)) }
 {
-    match Box::new(alloc, left) {
-        Ok(left) => Ok(Expr::Binary(op, left, Box::new(alloc, right)?)),
-        Err(failed) => {
-            drop(right);
-            Err(AllocError::from(failed))
-        }
+    Ok(Box::new(alloc, Expr::Unary(op, operand))?)
+}
+
+#[inline(never)]
+pub(crate) fn binary(
+    alloc: Global,
+    op: Binary,
+    left: Box<Expr>,
+    right: Box<Expr>,
+) -> Result<Box<Expr>, AllocError>
+    ensures { IfOk result (λ e. boxed_of e ≡ tree.Combine op (boxed_of left) (boxed_of right)) }
+{
+    Ok(Box::new(alloc, Expr::Binary(op, left, right))?)
+}
+
+/// Unary operators before an operand, the last of them next to it.
+pub(crate) fn applied(
+    alloc: Global,
+    marks: Vec<Unary>,
+    operand: Box<Expr>,
+) -> Result<Box<Expr>, AllocError>
+    ensures { IfOk result (λ e. boxed_of e ≡ marks_before marks.items (boxed_of operand)) }
+{
+    let mut marks = marks;
+    let mut found = operand;
+    while let Some(op) = marks.pop() {
+        found = unary(alloc, op, found)?;
     }
+    Ok(found)
 }
 
 /// The operands of `**` with the last, grouped to the right.
-pub(crate) fn power(alloc: Global, operands: Vec<Expr>, last: Expr) -> Result<Expr, AllocError>
-    ensures { IfOk result (λ e. expr_of e ≡ powers (map expr_of operands.items) (expr_of last)) }
+pub(crate) fn power(
+    alloc: Global,
+    operands: Vec<Box<Expr>>,
+    last: Box<Expr>,
+) -> Result<Box<Expr>, AllocError>
+    ensures { IfOk result (λ e. boxed_of e ≡ powers (map boxed_of operands.items) (boxed_of last)) }
 {
     let mut operands = operands;
     let mut right = last;

@@ -12,6 +12,7 @@ ghost use Rattle.stmt_parser.specs.Views.{Parses, Reads};
 use crate::bodies::body;
 use crate::cursor::Cursor;
 use crate::gotos::goto;
+use crate::letting_go::{let_body_go, let_go};
 use crate::stop::Stop;
 use model::{Cause, Stmt, Token, TokenKind};
 use std::alloc::Global;
@@ -41,7 +42,7 @@ fn all(alloc: Global, tokens: &[Token<'_>]) -> Result<Stmt, Stop>
     match cursor.take() {
         None => Ok(found),
         Some(_) => {
-            drop(found);
+            let_go(alloc, found);
             Err(Stop::NoTree)
         }
     }
@@ -74,7 +75,7 @@ fn after_label(
             Ok(Stmt::Plain { label, body, goto })
         }
         Err(stop) => {
-            drop(body);
+            let_body_go(alloc, body);
             Err(stop)
         }
     }

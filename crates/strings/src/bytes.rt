@@ -1,6 +1,6 @@
 //! Functions of byte strings, and sets of bytes.
 
-ghost use Rattle.std.specs.Prelude.{◌≡◌, ◌≤◌, length, SomeIff};
+ghost use Rattle.std.specs.Prelude.{◌≡◌, ◌≤◌, ◌+◌, length, SomeIff, true, false};
 ghost use Rattle.std.specs.Str.Parse.{signed_digits_value};
 ghost use Rattle.model.specs.Language.Strings.{IsIntText, trimmed, span_to, break_to, flags_of, has};
 
@@ -54,12 +54,46 @@ impl ByteSet {
     }
 }
 
+// How many bytes a scan looks at in one turn.
+const LANES: usize = 8;
+
+// Whether the eight bytes from `at` on are all in the set.
+#[inline(always)]
+fn spans_eight(bytes: &[u8], at: usize, set: &ByteSet) -> bool
+    requires { at + 8 ≤ length bytes.now }
+    ensures { result ≡ true → span_to bytes.now (at + 8) set.now ≡ span_to bytes.now at set.now }
+{
+    let flags = &set.flags;
+    let first = flags[bytes[at] as usize] & flags[bytes[at + 1] as usize];
+    let second = flags[bytes[at + 2] as usize] & flags[bytes[at + 3] as usize];
+    let third = flags[bytes[at + 4] as usize] & flags[bytes[at + 5] as usize];
+    let fourth = flags[bytes[at + 6] as usize] & flags[bytes[at + 7] as usize];
+    (first & second) & (third & fourth)
+}
+
+// Whether one of the eight bytes from `at` on is in the set.
+#[inline(always)]
+fn breaks_eight(bytes: &[u8], at: usize, set: &ByteSet) -> bool
+    requires { at + 8 ≤ length bytes.now }
+    ensures { result ≡ false → break_to bytes.now (at + 8) set.now ≡ break_to bytes.now at set.now }
+{
+    let flags = &set.flags;
+    let first = flags[bytes[at] as usize] | flags[bytes[at + 1] as usize];
+    let second = flags[bytes[at + 2] as usize] | flags[bytes[at + 3] as usize];
+    let third = flags[bytes[at + 4] as usize] | flags[bytes[at + 5] as usize];
+    let fourth = flags[bytes[at + 6] as usize] | flags[bytes[at + 7] as usize];
+    (first | second) | (third | fourth)
+}
+
 /// Where the longest run of bytes of the set ends that begins at `at`; `at` itself if the next byte isn't in the set.
 pub fn span_end(bytes: &[u8], at: usize, set: &ByteSet) -> usize
     requires { at ≤ length bytes.now }
     ensures { result ≡ span_to bytes.now at set.now }
 {
     let mut end = at;
+    while bytes.len() - end >= LANES && spans_eight(bytes, end, set) {
+        end += LANES;
+    }
     while end < bytes.len() && set.flags[bytes[end] as usize] {
         end += 1;
     }
@@ -71,7 +105,11 @@ pub fn break_end(bytes: &[u8], at: usize, set: &ByteSet) -> Option<usize>
     requires { at ≤ length bytes.now }
     ensures { result ≡ break_to bytes.now at set.now }
 {
-    for k in at..bytes.len() {
+    let mut from = at;
+    while bytes.len() - from >= LANES && !breaks_eight(bytes, from, set) {
+        from += LANES;
+    }
+    for k in from..bytes.len() {
         if set.flags[bytes[k] as usize] {
             return Some(k);
         }

@@ -2,11 +2,17 @@
 //! from 1, or 0, and DECK a file. Units 5 and 6 are standard input and output, and 7, 8 and 9 the files `7`, `8` and
 //! `9`. It tells what `sno` tells, without cards. Its status is 9 if a machine that came to its end or was stopped
 //! answers something else when it is to run on.
+//!
+//! `tests_failing each FILE` runs each module of a file, each behind its length in four bytes, for at most 10,000 steps.
+//! Of each it prints what `sno run` tells, and the exit status in a line behind it.
 #![tactic(auto)]
 
+mod each;
+
+use crate::each::run_each;
 use driver::{Ran, Told, compile_deck, report};
 use loader::{Module, load};
-use model::Status;
+use model::{Ending, Status};
 use statement_machine::Machine;
 use std::env::{self, Env};
 use std::fs::{self, Files};
@@ -27,11 +33,24 @@ struct Answers {
     again: Status,
 }
 
-/// The number of the call that fails, and the file of the deck.
+/// The answers where each module ran.
+const ENDED: Answers = Answers {
+    first: Status::Ended(Ending::Normal),
+    again: Status::Ended(Ending::Normal),
+};
+
+/// What is asked for.
 #[derive(Drop)]
-struct Words {
-    k: u64,
-    deck: String,
+enum Words {
+    /// The run of a deck of which this call fails.
+    Failing {
+        k: u64,
+        deck: String,
+    },
+    /// The run of each module of this file.
+    Each {
+        file: String,
+    },
 }
 
 fn read_words<R: Env + AllocGlobal>(rt: &R) -> Result<Words, Told<'static>> {
@@ -41,8 +60,11 @@ fn read_words<R: Env + AllocGlobal>(rt: &R) -> Result<Words, Told<'static>> {
     let (Some(number), Some(deck)) = (words.nth(1), words.next()) else {
         return Err(Told::BadCommandLine);
     };
+    if number.as_str() == "each" {
+        return Ok(Words::Each { file: deck });
+    }
     match number.parse::<u64>() {
-        Ok(k) => Ok(Words { k, deck }),
+        Ok(k) => Ok(Words::Failing { k, deck }),
         Err(_) => Err(Told::BadCommandLine),
     }
 }
@@ -70,19 +92,15 @@ fn not_read(error: &io::Error) -> Told<'static> {
     }
 }
 
-/// The module of a deck.
-fn compiled<R: Files + AllocGlobal>(rt: &R, deck: &str) -> Result<Module, Told<'static>> {
+/// The module of a deck, as bytes.
+fn compiled<R: Files + AllocGlobal>(rt: &R, deck: &str) -> Result<Vec<u8>, Told<'static>> {
     let deck = match fs::read(rt, deck) {
         Ok(deck) => deck,
         Err(error) => return Err(not_read(&error)),
     };
-    let bytes = match compile_deck(rt.alloc(), &deck) {
-        Ok(bytes) => bytes,
-        Err(refusal) => return Err(Told::Refused(refusal)),
-    };
-    match load(rt.alloc(), &bytes) {
-        Ok(module) => Ok(module),
-        Err(fault) => Err(Told::BadModule(fault)),
+    match compile_deck(rt.alloc(), &deck) {
+        Ok(bytes) => Ok(bytes),
+        Err(refusal) => Err(Told::Refused(refusal)),
     }
 }
 
@@ -105,9 +123,19 @@ fn run_twice<R: Files + Input + Print + AllocGlobal>(
 }
 
 fn run<R: Env + Files + Input + Print + AllocGlobal>(rt: &R) -> Result<Answers, Told<'static>> {
-    let words = read_words(rt)?;
-    let module = compiled(rt, &words.deck)?;
-    run_twice(rt, &module, words.k)
+    match read_words(rt)? {
+        Words::Failing { k, deck } => {
+            let bytes = compiled(rt, &deck)?;
+            match load(rt.alloc(), &bytes) {
+                Ok(module) => run_twice(rt, &module, k),
+                Err(fault) => Err(Told::BadModule(fault)),
+            }
+        }
+        Words::Each { file } => {
+            run_each(rt, &file)?;
+            Ok(ENDED)
+        }
+    }
 }
 
 /// What is told of the answers, if they are the same.

@@ -9,3 +9,5 @@ mod code;
 mod made;
 #[cfg(test)]
 mod played;
+#[cfg(test)]
+mod scans;

@@ -1,18 +1,18 @@
 -- Names of elements.
 use Rattle.std.proofs.Common.{◌≡◌, ◌≢◌, ℕ, ℤ, ◌<◌, ◌≤◌, ◌+◌, suc, List, [], ◌∷◌, ◌++◌, length, map, take, drop, get_or, Option, Some, None, Bool, true, false, nat_eq, Ok, append_assoc, drop-cons, refl, sym, ap, ◌∙◌, arith}
-use Rattle.std.specs.Prelude.{slice_get, slice_set, option_map, if◌then◌else◌}
+use Rattle.std.specs.Prelude.{slice_get, slice_set, option_map, if◌then◌else◌, int_le, int_lt, pos, ◌+ℤ◌, ◌-ℤ◌, ◌*◌, nat_abs, ◌&&◌, IfSome}
 use Rattle.std.proofs.lemmas.Option.{slice_get-map}
 use Rattle.std.proofs.lemmas.List.{take_more_set}
 use Rattle.model.specs.declared.run.ErrorCode.{ErrorCode}
 use Rattle.model.specs.declared.run.ErrorCode.TheVariants as error
 use Rattle.model.specs.Language.Io.{Io}
 use Rattle.model.specs.Deck.Target.{Name, Element}
-use Rattle.model.specs.Language.Values.{Obj, Bounds, Object, ArrayOf, TableOf, RecordOf}
+use Rattle.model.specs.Language.Values.{Obj, Int, Bounds, Object, ArrayOf, TableOf, RecordOf}
 use Rattle.model.specs.Language.Conversions.{Conv, Got, Bad, Op, Gives, Refuses, Faults, conv, then_conv, to_integer}
 use Rattle.model.specs.Language.Aggregates.{all_integers, place_from, named_element, table_element, element_in, element_op}
 use Rattle.model.specs.Machine.Steps.{MVal, MW}
 use Rattle.aggregates.specs.Made.{kind_of}
-use Rattle.aggregates.specs.Objects.{dimensions_in}
+use Rattle.aggregates.specs.Objects.{dimensions_in, place_in}
 use Rattle.aggregates.specs.declared.object.Kind.{Kind}
 use Rattle.aggregates.specs.declared.object.Kind.TheVariants as kind
 use Rattle.world.specs.Values.{value_of}
@@ -20,6 +20,7 @@ use Rattle.world.specs.Objects.{object_map, item_at}
 use Rattle.world.specs.Held.{WorldView, world_of}
 use Rattle.world.specs.Answers.{AnswersOrFails}
 use Rattle.world.specs.declared.value.Value.{Value}
+use Rattle.world.specs.declared.value.Value.TheVariants.{Integer}
 
 -- ---- integers
 
@@ -145,3 +146,35 @@ module _ (h : WorldView) (os : List (Object Value)) (io : Io) (k : ℕ) (vs : Li
       go (Some (ArrayOf bs es)) a t = absurd (a refl)
       go (Some (TableOf es)) a t = absurd (t refl)
       go (Some (RecordOf f fs es)) a t = refl
+
+-- an element that has a place by its only subscript
+pub placed_item : (h : WorldView) (os : List (Object Value)) (io : Io) (k : ℕ) (same : os ≡ h.objects) (z : ℤ) (i : ℕ) → place_in (z ∷ []) (slice_get os k) ≡ Some i → element_op (Obj k) (Int z ∷ []) (world_of h io) ≡ Gives (Element k i) (world_of h io)
+placed_item h os io k same z i e = asked h os io k (Int z ∷ []) same ∙ go (slice_get os k) e
+  where
+    outside : (j : ℕ) (c : Bounds) (bs : List Bounds) (t : Bool) → (if t then place_from j (c ∷ bs) [] else None) ≡ Some i → ⊥
+    outside j c bs true e = cc
+    outside j c bs false e = cc
+
+    of_bounds : (bs : List Bounds) (es : List MVal) → place_from 0 bs (z ∷ []) ≡ Some i → element_in k (Some (ArrayOf bs es)) (Int z ∷ []) (world_of h io) ≡ Gives (Element k i) (world_of h io)
+    of_bounds [] es e = absurd (cc)
+    of_bounds (b ∷ []) es e = ap (λ place. named_element k place (world_of h io)) e
+    of_bounds (b ∷ c ∷ bs) es e = absurd (outside (0 * b.count + nat_abs (z -ℤ b.low)) c bs (int_le b.low z && int_lt z (b.low +ℤ pos b.count)) e)
+
+    go : (o : Option (Object Value)) → place_in (z ∷ []) o ≡ Some i → element_in k (option_map (object_map value_of) o) (Int z ∷ []) (world_of h io) ≡ Gives (Element k i) (world_of h io)
+    go None e = absurd (cc)
+    go (Some (ArrayOf bs es)) e = of_bounds bs (map value_of es) e
+    go (Some (TableOf es)) e = absurd (cc)
+    go (Some (RecordOf f fs es)) e = absurd (cc)
+
+-- the only subscript is this integer
+pub only_integer : (vs : List Value) (v : Value) (z : ℤ) → 1 ≤ length vs → length vs < 2 → v ≡ get_or vs 0 v → v ≡ Integer z → map value_of vs ≡ Int z ∷ []
+only_integer [] v z some few is e = absurd (omega (arith, some))
+only_integer (x ∷ []) v z some few is e = ap (λ y. value_of y ∷ []) (sym is ∙ e)
+only_integer (x ∷ y ∷ ys) v z some few is e = absurd (omega (arith, few))
+
+-- an array's element has the place by its only subscript, if it has one
+pub placed_value : (h : WorldView) (os : List (Object Value)) (k : ℕ) (same : os ≡ h.objects) (vs : List Value) (z z' : ℤ) → map value_of vs ≡ Int z ∷ [] → z' ≡ z → (r : Option ℕ) → r ≡ place_in (z' ∷ []) (slice_get os k)
+    → IfSome r (λ i. (io : Io) → element_op (Obj k) (map value_of vs) (world_of h io) ≡ Gives (Element k i) (world_of h io))
+placed_value h os k same vs z z' one number None e = tt
+placed_value h os k same vs z z' one number (Some i) e =
+    λ io. ap (λ l. element_op (Obj k) l (world_of h io)) one ∙ placed_item h os io k same z i (ap (λ y. place_in (y ∷ []) (slice_get os k)) (sym number) ∙ sym e)

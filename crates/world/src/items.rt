@@ -1,10 +1,11 @@
 //! Names of elements, by an array or a table and the subscripts.
 
-ghost use Rattle.std.specs.Prelude.{◌≡◌, ◌≤◌, List, length, map, take, slice_get, Some, option_map, IfErr, OnOk};
+ghost use Rattle.std.specs.Prelude.{◌≡◌, ◌≤◌, List, length, map, take, slice_get, Some, option_map, IfErr, IfSome, OnOk};
 ghost use Rattle.model.specs.Language.Io.{Io};
 ghost use Rattle.model.specs.Machine.Steps.{MW};
-ghost use Rattle.model.specs.Language.Values.{Bounds, ArrayOf};
-ghost use Rattle.model.specs.Language.Conversions.{Got, Bad};
+ghost use Rattle.model.specs.Language.Values.{Bounds, ArrayOf, Obj};
+ghost use Rattle.model.specs.Language.Conversions.{Got, Bad, Gives};
+ghost use Rattle.model.specs.Deck.Target.{Element};
 ghost use Rattle.model.specs.Language.Aggregates.{all_integers, element_op, table_element};
 ghost use Rattle.model.specs.declared.run.Stop.TheVariants.{NoMemory};
 ghost use Rattle.pattern_compiler.specs.View.{name_of};
@@ -32,9 +33,41 @@ impl World {
         let Value::Object(object) = base else {
             return Err(Fault::Error(ErrorCode::WrongType));
         };
-        match self.heap.kind(*object) {
-            Some(Kind::Array) => Ok(self.array_item(*object, subscripts)?),
-            Some(Kind::Table) => table_item(*object, subscripts),
+        if let Some(index) = self.only_place(*object, subscripts) {
+            return Ok(Some(Name::Element {
+                object: *object,
+                index,
+            }));
+        }
+        self.item_of(*object, subscripts)
+    }
+
+    // The place of an array's element, if there is one subscript, an integer.
+    fn only_place(&self, object: usize, subscripts: &[Value]) -> Option<usize>
+        ensures { IfSome result (λ index. (io : Io)
+            → element_op (Obj object) (map value_of subscripts.now) (world_of self.now io)
+            ≡ Gives (Element object index) (world_of self.now io)) }
+    {
+        let [subscript] = subscripts else {
+            return None;
+        };
+        match subscript {
+            Value::Integer(n) => self.heap.place_of_one(object, *n),
+            _ => None,
+        }
+    }
+
+    // The name of an element, by the number of its array or table and the subscripts.
+    #[inline(never)]
+    fn item_of(&self, object: usize, subscripts: &[Value]) -> Result<Option<Name>, Fault>
+        ensures name { (io : Io)
+            → AnswersOrFails (answer_map (option_map name_of) result) (world_of self.now io)
+            (element_op (Obj object) (map value_of subscripts.now) (world_of self.now io)) }
+        ensures stop { IfStopped result (λ stop. stop ≡ NoMemory) }
+    {
+        match self.heap.kind(object) {
+            Some(Kind::Array) => Ok(self.array_item(object, subscripts)?),
+            Some(Kind::Table) => table_item(object, subscripts),
             Some(Kind::Record) => Err(Fault::Error(ErrorCode::WrongType)),
             None => Err(Fault::Error(ErrorCode::WrongType)),
         }

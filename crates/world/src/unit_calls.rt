@@ -40,6 +40,7 @@ impl World {
     }
 
     /// `fetch`, at once if the name is that of the variable in this slot.
+    #[inline(always)]
     pub fn fetch_at<U: Units>(
         &mut self,
         units: &mut U,
@@ -161,6 +162,7 @@ impl World {
     }
 
     /// `assign`, at once if the name is that of the variable in this slot.
+    #[inline(always)]
     pub fn assign_at<U: Units>(
         &mut self,
         alloc: Global,

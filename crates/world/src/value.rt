@@ -42,6 +42,7 @@ impl Clone for Value {
 
     ghost is_clone = { λ value copy. copy ≡ value };
 
+    #[inline(always)]
     fn clone(&self) -> Result<Value, AllocError> {
         Ok(match self {
             Value::String(text) => Value::String(text.clone()?),

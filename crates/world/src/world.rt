@@ -228,7 +228,7 @@ impl World {
     }
 
     /// A variable, which stands in its slot or else where the look-up finds it.
-    #[inline]
+    #[inline(always)]
     pub(crate) fn variable(&self, name: &Text, slot: u32) -> Option<&Variable>
         ensures { option_copied result ≡ variable_at name.now self.now.variables }
     {
@@ -241,7 +241,7 @@ impl World {
     }
 
     /// The value of the variable in a slot, if it has this name and reads from no unit.
-    #[inline]
+    #[inline(always)]
     pub fn plain(&self, name: &Text, slot: u32) -> Option<&Value>
         ensures { IfSome result (λ value. (io : Io)
             → fetch_op (target.Variable name.now) (world_of self.now io)
@@ -256,7 +256,7 @@ impl World {
     }
 
     /// Whether the variable in a slot has this name and writes to no unit.
-    #[inline]
+    #[inline(always)]
     pub fn is_plain(&self, name: &Name, slot: u32) -> bool
         ensures { result ≡ true → IsPlain (name_of name.now) slot self.now }
     {
@@ -269,7 +269,7 @@ impl World {
     }
 
     /// Gives the variable in a slot another value, and tells no unit.
-    #[inline]
+    #[inline(always)]
     pub fn set_plain(&mut self, slot: u32, value: Value)
         ensures { (name : target.Name) → IsPlain name slot self.old → (io : Io)
             → assign_op name (value_of value) (world_of self.old io)

@@ -10,7 +10,7 @@ use Rattle.model.specs.Language.Programs.{Program, program}
 use Rattle.model.specs.Pattern.Patterns as p
 use Rattle.model.specs.Language.Values.{Value, pattern_trees, printed_of, first_value}
 use Rattle.model.specs.Language.Meaning.{W, Res, Done, Fails, Ends, Open, Settled, run_rule, run}
-use Rattle.model.specs.Machine.Steps.{MW, codes_of, Module, State, Run, InMatch, Over, Stuck, to_stmt, begun, steps, world_of}
+use Rattle.model.specs.Machine.Steps.{MW, codes_of, Module, State, Run, InMatch, Over, Stuck, to_stmt, begun, steps, world_of_state}
 use Rattle.model.specs.Module.Images.{module_of}
 use Rattle.model.specs.Module.Placed.{Placed}
 use Rattle.model.specs.Machine.Alike.{VR, rstr, rpat, onil, WR}
@@ -125,7 +125,7 @@ module _ (prog : Program) (img : Module) (trees_at : ℕ → Option Expr) (place
       let swap : k + j ≡ j + k = omega arith in
       sym (over_on k j e m1 h) ∙ ap (λ n. state_at img n m) swap ∙ over_on j k f m2 g
 
-  still_prints : (s : State) (v : W) → Still prog img trees_at s v → printed_of (world_of s) ≡ printed_of v
+  still_prints : (s : State) (v : W) → Still prog img trees_at s v → printed_of (world_of_state s) ≡ printed_of v
   still_prints (Run p o h f m) v x = x
   still_prints (InMatch g st f m) v x = x
   still_prints (Over e m) v x = absurd x
@@ -146,7 +146,7 @@ module _ (prog : Program) (img : Module) (trees_at : ℕ → Option Expr) (place
       IsNone None = Unit {0}
       IsNone (Some e) = ⊥
 
-  seen_printed : (s : State) → (seen_at s).printed ≡ printed_of (world_of s)
+  seen_printed : (s : State) → (seen_at s).printed ≡ printed_of (world_of_state s)
   seen_printed (Run p o h f m) = refl
   seen_printed (InMatch g st f m) = refl
   seen_printed (Over e m) = refl
@@ -200,13 +200,13 @@ module _ (prog : Program) (img : Module) (trees_at : ℕ → Option Expr) (place
           let swap : j + k ≡ k + j = omega arith in (
             n,
             begins _ _ _ _ (seen_printed (state_at img k m)) (before_is (steps_on img j (state_at img k m)))
-                (ap (λ s. printed_of (world_of s)) (sym (on_from k j) ∙ ap (λ n. state_at img n m) (sym swap) ∙ over_on j k f m2 ov) ∙ pr ∙ sym (ap (λ r. (seen_of r).printed) me)),
+                (ap (λ s. printed_of (world_of_state s)) (sym (on_from k j) ∙ ap (λ n. state_at img n m) (sym swap) ∙ over_on j k f m2 ov) ∙ pr ∙ sym (ap (λ r. (seen_of r).printed) me)),
           )
       go (n, both_go v j le me st) =
           let e : k + (j - k) ≡ j = omega arith in (
             n,
             begins _ _ _ _ (seen_printed (state_at img k m)) (before_is (steps_on img (j - k) (state_at img k m)))
-                (ap (λ s. printed_of (world_of s)) (sym (on_from k (j - k)) ∙ ap (λ n. state_at img n m) e) ∙ still_prints (state_at img j m) v st ∙ sym (ap (λ r. (seen_of r).printed) me)),
+                (ap (λ s. printed_of (world_of_state s)) (sym (on_from k (j - k)) ∙ ap (λ n. state_at img n m) e) ∙ still_prints (state_at img j m) v st ∙ sym (ap (λ r. (seen_of r).printed) me)),
           )
 
   -- no step lacks what it needs

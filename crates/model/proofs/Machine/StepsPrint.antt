@@ -15,16 +15,16 @@ use Rattle.model.specs.Pattern.Patterns as p
 use Rattle.model.specs.Pattern.Patterns.{Running, Failed, Asks, Matched, AskFor, SayThat}
 use Rattle.model.specs.Pattern.Steps as s
 use Rattle.model.specs.Language.Meaning.{over_limit}
-use Rattle.model.specs.Machine.Steps.{PCode, MVal, MW, MBack, codes_of, Fetched, Nowhere, At, Module, Operand, OV, ON, OR, Matching, Frame, InCall, InEval, Handler, OnBegin, OnTry, Caller, State, Run, InMatch, Over, Stuck, fail_to, after_op, resume_as, return_to, pop, pop_name, pop_span, pop_many, untry, unbegin, load, supplied, ret, match_from, to_stmt, go_to_known, go_to_return, go_to_text, call_function, finish_primitive, on_event, put, put_name, put_none, calls, primitive, act, step_at, step, steps, world_of}
+use Rattle.model.specs.Machine.Steps.{PCode, MVal, MW, MBack, codes_of, Fetched, Nowhere, At, Module, Operand, OV, ON, OR, Matching, Frame, InCall, InEval, Handler, OnBegin, OnTry, Caller, State, Run, InMatch, Over, Stuck, fail_to, after_op, resume_as, return_to, pop, pop_name, pop_span, pop_many, untry, unbegin, load, supplied, ret, match_from, to_stmt, go_to_known, go_to_return, go_to_text, call_function, finish_primitive, on_event, put, put_name, put_none, calls, primitive, act, step_at, step, steps, world_of_state}
 use Rattle.model.proofs.Language.MeaningGrows.{Before, before_refl, before_trans}
 use Rattle.model.proofs.Language.OperationsPrint.{OpOn, gon, ron, fon, same_printed, arith_on, sign_on, cat_on, alt_on, cond_on, imm_on, indir_on, fetch_on, assign_on, assign_all_on, splice_on, keyset_on, match_on, element_on, prim_on, enter_on, leave_on, as_value_on, as_name_on, construct_on, select_on}
 
 -- the state after goes on from the world before
 record On (m : MW) (s : State) : Type 0 where
-  is : Before m (world_of s)
+  is : Before m (world_of_state s)
 
-here : (m : MW) (s : State) → world_of s ≡ m → On m s
-here m s e = record { is = same_printed m (world_of s) (ap printed_of e) }
+here : (m : MW) (s : State) → world_of_state s ≡ m → On m s
+here m s e = record { is = same_printed m (world_of_state s) (ap printed_of e) }
 
 fail_on : (m v : MW) (hs : List Handler) (ops : List Operand) (fs : List Frame) → Before m v → On m (fail_to hs ops fs v)
 fail_on m v [] ops [] b = record { is = b }
@@ -39,7 +39,7 @@ op_on {m = m} hs ops fs k (ron b) h = fail_on m _ hs ops fs b
 op_on hs ops fs k (fon b) h = record { is = b }
 
 on_trans : (m v : MW) (s : State) → Before m v → On v s → On m s
-on_trans m v s b o = record { is = before_trans m v (world_of s) b o.is }
+on_trans m v s b o = record { is = before_trans m v (world_of_state s) b o.is }
 
 resume_on : (want : Bool) (c : Caller) (fs : List Frame) (g : MBack) (m : MW) → On m (resume_as want c fs g m)
 resume_on true c fs g m = op_on c.hs c.ops fs _ (as_name_on g m) (λ n v b. record { is = b })
@@ -139,7 +139,7 @@ module _ (img : Module) where
   event_on (Asks (SayThat x v)) g st fs m = op_on g.hs g.ops fs _ (assign_on x (told_value v) m) (λ _ v b. record { is = b })
   event_on (Asks (AskFor k want)) g st fs m = stmt_on (img.expr k) _ m
 
-  pub event_prints : (e : p.Event ℕ) (g : Matching) (st : s.MatchState) (fs : List Frame) (m : MW) → Before m (world_of (on_event img e g st fs m))
+  pub event_prints : (e : p.Event ℕ) (g : Matching) (st : s.MatchState) (fs : List Frame) (m : MW) → Before m (world_of_state (on_event img e g st fs m))
   event_prints e g st fs m = (event_on e g st fs m).is
 
   put_on : {o : Op MW MVal} {m : MW} (q : ℕ) (ops : List Operand) (hs : List Handler) (fs : List Frame) → OpOn m o → On m (put img o q ops hs fs)
@@ -203,12 +203,12 @@ module _ (img : Module) where
   fetched_on Nowhere pc ops hs fs m = here m _ refl
   fetched_on (At i q) pc ops hs fs m = act_on i q pc ops hs fs m
 
-  step_on : (st : State) → Before (world_of st) (world_of (step img st))
+  step_on : (st : State) → Before (world_of_state st) (world_of_state (step img st))
   step_on (Run pc ops hs fs m) = (fetched_on (img.fetch pc) pc ops hs fs m).is
   step_on (InMatch g st fs m) = (event_on (s.event_of (s.pattern_step g.subject g.code st)) g (s.pattern_step g.subject g.code st) fs m).is
   step_on (Over e m) = before_refl m
   step_on (Stuck m) = before_refl m
 
-  pub steps_on : (n : ℕ) (st : State) → Before (world_of st) (world_of (steps img n st))
-  steps_on zero st = before_refl (world_of st)
-  steps_on (suc n) st = before_trans (world_of st) (world_of (step img st)) (world_of (steps img n (step img st))) (step_on st) (steps_on n (step img st))
+  pub steps_on : (n : ℕ) (st : State) → Before (world_of_state st) (world_of_state (steps img n st))
+  steps_on zero st = before_refl (world_of_state st)
+  steps_on (suc n) st = before_trans (world_of_state st) (world_of_state (step img st)) (world_of_state (steps img n (step img st))) (step_on st) (steps_on n (step img st))

@@ -14,4 +14,4 @@ pub returns : goal.returns
 returns c =
     let told = faults_found c.args.deck.now.statements c.as_slice.result.now c.in_ok-reads.reads.items c.deref.result.now c.in_ok-faults.faults c.as_slice.ensures c.in_ok-reads.ensures c.deref.ensures.value c.in_ok-faults.ensures in
     let none = is_nothing c.as_slice-2.result.now c.is_empty.result c.is_empty.ensures c.if-not-is_empty.false in
-    (sym told ∙ sym c.as_slice-2.ensures ∙ none, c.in_ok-statements.ensures ∙ all_trees c.args.deck.now.statements _ (c.in_ok-reads.ensures ∙ ap (map numbered) c.as_slice.ensures), c.in_ok-cards.ensures ∙ ap (map (λ (s : Statement). s.card)) c.as_slice-3.ensures)
+    (sym told ∙ sym c.as_slice-2.ensures ∙ none, c.in_ok-statements.ensures ∙ all_trees c.args.deck.now.statements _ (ap (map numbered) c.as_slice-3.ensures), c.in_ok-cards.ensures ∙ ap (map (λ (s : Statement). s.card)) c.as_slice-4.ensures)

@@ -34,11 +34,6 @@ pub applied-returns-in-Unevaluated-clause-emits : goal.applied-returns-in-Uneval
 applied-returns-in-Unevaluated-clause-emits t c =
     on_ok _ _ _ c.defer.ensures.put (λ put. value_of_op c.args.op u.Unevaluated (expr_of c.args.x.now) c.in-Unevaluated.is (deferred _ _ _ _ refl put))
 
-pub applied-returns-in_ok-put-in-Indirect-clause-emits : goal.applied-returns-in_ok-put-in-Indirect-clause-emits
-applied-returns-in_ok-put-in-Indirect-clause-emits t c =
-    on_ok _ _ _ c.put-in-Indirect-2.ensures.put (λ put. value_of_op c.args.op u.Indirect (expr_of c.args.x.now) c.in-Indirect.is
-    (both c.in_ok-value-in-Indirect.ensures.emits (both (instr op.Indir _ _ c.in_ok-put-in-Indirect.ensures.put) (instr op.Fetch _ _ put))))
-
 pub applied-returns-in_ok-value-in-Plus-clause-emits : goal.applied-returns-in_ok-value-in-Plus-clause-emits
 applied-returns-in_ok-value-in-Plus-clause-emits t c =
     on_ok _ _ _ c.put-in-Plus.ensures.put (λ put. value_of_op c.args.op u.Plus (expr_of c.args.x.now) c.in-Plus.is (both c.in_ok-value-in-Plus.ensures.emits (instr _ _ _ put)))
@@ -46,11 +41,6 @@ applied-returns-in_ok-value-in-Plus-clause-emits t c =
 pub applied-returns-in_ok-value-in-Minus-clause-emits : goal.applied-returns-in_ok-value-in-Minus-clause-emits
 applied-returns-in_ok-value-in-Minus-clause-emits t c =
     on_ok _ _ _ c.put-in-Minus.ensures.put (λ put. value_of_op c.args.op u.Minus (expr_of c.args.x.now) c.in-Minus.is (both c.in_ok-value-in-Minus.ensures.emits (instr _ _ _ put)))
-
-pub applied-returns-in_ok-put-in-Interrogate-clause-emits : goal.applied-returns-in_ok-put-in-Interrogate-clause-emits
-applied-returns-in_ok-put-in-Interrogate-clause-emits t c =
-    on_ok _ _ _ c.put-in-Interrogate-2.ensures.put (λ put. value_of_op c.args.op u.Interrogate (expr_of c.args.x.now) c.in-Interrogate.is
-    (both c.in_ok-value-in-Interrogate.ensures.emits (both (instr op.Drop _ _ c.in_ok-put-in-Interrogate.ensures.put) (instr op.Null _ _ put))))
 
 pub negated-change-requires : goal.negated-change-requires
 negated-change-requires t c =
@@ -137,14 +127,9 @@ element-returns-clause-emits t c =
 
 -- ---- each expression
 
-pub value-returns-in_ok-variable-in-Name-clause-emits : goal.value-returns-in_ok-variable-in-Name-clause-emits
-value-returns-in_ok-variable-in-Name-clause-emits t c =
-    on_ok _ _ _ c.put.ensures.put (λ put. value_of_tree c.args.e.now (e.Name c.in-Name.x) c.in-Name.is
-    (as_part (both c.in_ok-variable-in-Name.ensures.emits (instr op.Fetch _ _ put)) (ap (λ s. with_string op.Var s >> one op.Fetch) c.deref.ensures.value)))
-
 pub value-returns-in-Integer-clause-emits : goal.value-returns-in-Integer-clause-emits
 value-returns-in-Integer-clause-emits t c =
-    on_ok _ _ _ c.put-in-Integer.ensures.put (λ put. value_of_tree c.args.e.now (e.Integer c.in-Integer.z) c.in-Integer.is (instr (op.Int c.in-Integer.z) _ _ (put ∙ ap (λ z. with_instr (op.Int z) (gen_of c.args.g.now)) (to_z-of_z w64 c.in-Integer.z (search rules)))))
+    on_ok _ _ _ c.put.ensures.put (λ put. value_of_tree c.args.e.now (e.Integer c.in-Integer.z) c.in-Integer.is (instr (op.Int c.in-Integer.z) _ _ (put ∙ ap (λ z. with_instr (op.Int z) (gen_of c.args.g.now)) (to_z-of_z w64 c.in-Integer.z (search rules)))))
 
 pub value-returns-in-Call-clause-emits : goal.value-returns-in-Call-clause-emits
 value-returns-in-Call-clause-emits t c =
@@ -165,37 +150,6 @@ value-called-requires t c =
     let some = name_weighs c.deref-in-Call.result.now in
     let room = c.requires.room in
     (omega (arith, weight, some, c.decreases), (countable.1, (subst (λ n. n ≤ most_counted (prim_named c.deref-in-Call.result.now)) (count_is c.deref-in-Call-2.result.now) countable.0, omega (arith, weight, some, room))))
-
-pub value-element-requires : goal.value-element-requires
-value-element-requires t c =
-    let whole = ap expr_of c.in-Reference.is ∙ reference_of_slice c.in-Reference.x c.in-Reference.args c.deref-in-Reference.result.now c.deref-in-Reference-2.result.now c.deref-in-Reference.ensures.value c.deref-in-Reference-2.ensures.value in
-    let countable = subst Countable whole c.requires.countable in
-    let weight = ap of_expr whole in
-    let some = name_weighs c.deref-in-Reference.result.now in
-    let room = c.requires.room in
-    (omega (arith, weight, some, c.decreases), (countable.1, (subst (λ n. n ≤ 65535) (count_is c.deref-in-Reference-2.result.now) countable.0, omega (arith, weight, some, room))))
-
-pub value-put-requires-in-Reference : goal.value-put-requires-in-Reference
-value-put-requires-in-Reference t c =
-    let whole = ap of_expr (ap expr_of c.in-Reference.is ∙ reference_of_slice c.in-Reference.x c.in-Reference.args c.deref-in-Reference.result.now c.deref-in-Reference-2.result.now c.deref-in-Reference.ensures.value c.deref-in-Reference-2.ensures.value) in
-    let some = name_weighs c.deref-in-Reference.result.now in
-    let s = c.in_ok-element-in-Reference.ensures.size in
-    let room = c.requires.room in
-    omega (arith, whole, some, s, room)
-
-pub value-returns-in_ok-element-in-Reference-clause-emits : goal.value-returns-in_ok-element-in-Reference-clause-emits
-value-returns-in_ok-element-in-Reference-clause-emits t c =
-    let whole = ap expr_of c.in-Reference.is ∙ reference_of_slice c.in-Reference.x c.in-Reference.args c.deref-in-Reference.result.now c.deref-in-Reference-2.result.now c.deref-in-Reference.ensures.value c.deref-in-Reference-2.ensures.value in
-    let count = sym (count_is c.deref-in-Reference-2.result.now) in
-    let first = as_part c.in_ok-element-in-Reference.ensures.emits (ap (λ n. views.element c.deref-in-Reference.result.now (args_of c.deref-in-Reference-2.result.now) n) count) in
-    on_ok _ _ _ c.put-in-Reference.ensures.put (λ put. value_as _ _ whole (last_of_five _ _ _ _ _ (both first (instr op.Fetch _ _ put))))
-
-pub value-returns-in_ok-element-in-Reference-clause-size : goal.value-returns-in_ok-element-in-Reference-clause-size
-value-returns-in_ok-element-in-Reference-clause-size t c =
-    let whole = ap of_expr (ap expr_of c.in-Reference.is ∙ reference_of_slice c.in-Reference.x c.in-Reference.args c.deref-in-Reference.result.now c.deref-in-Reference-2.result.now c.deref-in-Reference.ensures.value c.deref-in-Reference-2.ensures.value) in
-    let some = name_weighs c.deref-in-Reference.result.now in
-    let s = c.in_ok-element-in-Reference.ensures.size in
-    grind (arith, common_steps, whole, some, s, c.put-in-Reference.ensures.size)
 
 -- ---- each name
 
@@ -257,12 +211,6 @@ applied_name-returns-in_default t c = record { emits = as_part (nothing_put _) (
 
 -- ---- what was put stands
 
-pub value-returns-in_ok-variable-in-Name-clause-extends : goal.value-returns-in_ok-variable-in-Name-clause-extends
-value-returns-in_ok-variable-in-Name-clause-extends t c = extends_trans c.variable.ensures.extends c.put.ensures.extends
-
-pub value-returns-in_ok-element-in-Reference-clause-extends : goal.value-returns-in_ok-element-in-Reference-clause-extends
-value-returns-in_ok-element-in-Reference-clause-extends t c = extends_trans c.element.ensures.extends c.put-in-Reference.ensures.extends
-
 pub applied_name-returns-in_ok-value-in-Indirect-clause-extends : goal.applied_name-returns-in_ok-value-in-Indirect-clause-extends
 applied_name-returns-in_ok-value-in-Indirect-clause-extends t c = extends_trans c.value.ensures.extends c.put.ensures.extends
 
@@ -272,23 +220,11 @@ applied-returns-in_ok-name-in-NameOf-clause-extends t c = extends_trans c.name.e
 pub applied-returns-in_ok-name-in-Cursor-clause-extends : goal.applied-returns-in_ok-name-in-Cursor-clause-extends
 applied-returns-in_ok-name-in-Cursor-clause-extends t c = extends_trans c.name-in-Cursor.ensures.extends c.put-in-Cursor.ensures.extends
 
-pub applied-returns-in_err-put-in-Indirect-clause-extends : goal.applied-returns-in_err-put-in-Indirect-clause-extends
-applied-returns-in_err-put-in-Indirect-clause-extends t c = extends_trans c.value.ensures.extends c.put-in-Indirect.ensures.extends
-
-pub applied-returns-in_ok-put-in-Indirect-clause-extends : goal.applied-returns-in_ok-put-in-Indirect-clause-extends
-applied-returns-in_ok-put-in-Indirect-clause-extends t c = extends_trans c.value.ensures.extends (extends_trans c.put-in-Indirect.ensures.extends c.put-in-Indirect-2.ensures.extends)
-
 pub applied-returns-in_ok-value-in-Plus-clause-extends : goal.applied-returns-in_ok-value-in-Plus-clause-extends
-applied-returns-in_ok-value-in-Plus-clause-extends t c = extends_trans c.value-in-Plus.ensures.extends c.put-in-Plus.ensures.extends
+applied-returns-in_ok-value-in-Plus-clause-extends t c = extends_trans c.value.ensures.extends c.put-in-Plus.ensures.extends
 
 pub applied-returns-in_ok-value-in-Minus-clause-extends : goal.applied-returns-in_ok-value-in-Minus-clause-extends
 applied-returns-in_ok-value-in-Minus-clause-extends t c = extends_trans c.value-in-Minus.ensures.extends c.put-in-Minus.ensures.extends
-
-pub applied-returns-in_err-put-in-Interrogate-clause-extends : goal.applied-returns-in_err-put-in-Interrogate-clause-extends
-applied-returns-in_err-put-in-Interrogate-clause-extends t c = extends_trans c.value-in-Interrogate.ensures.extends c.put-in-Interrogate.ensures.extends
-
-pub applied-returns-in_ok-put-in-Interrogate-clause-extends : goal.applied-returns-in_ok-put-in-Interrogate-clause-extends
-applied-returns-in_ok-put-in-Interrogate-clause-extends t c = extends_trans c.value-in-Interrogate.ensures.extends (extends_trans c.put-in-Interrogate.ensures.extends c.put-in-Interrogate-2.ensures.extends)
 
 pub negated-returns-in_err-value-clause-extends : goal.negated-returns-in_err-value-clause-extends
 negated-returns-in_err-value-clause-extends t c = extends_trans c.put.ensures.extends c.value.ensures.extends
@@ -339,3 +275,46 @@ element-returns-in_err-put-2-clause-extends t c = extends_trans c.variable.ensur
 
 pub element-returns-clause-extends : goal.element-returns-clause-extends
 element-returns-clause-extends t c = extends_trans c.variable.ensures.extends (extends_trans c.put.ensures.extends (extends_trans c.arguments.ensures.extends c.put-2.ensures.extends))
+
+-- ---- two instructions after a value
+
+pub indirect-returns-clause-emits : goal.indirect-returns-clause-emits
+indirect-returns-clause-emits t c =
+    on_ok _ _ _ c.put-2.ensures.put (λ put. both c.in_ok-value.ensures.emits (both (instr op.Indir _ _ c.in_ok-put.ensures.put) (instr op.Fetch _ _ put)))
+
+pub interrogated-returns-clause-emits : goal.interrogated-returns-clause-emits
+interrogated-returns-clause-emits t c =
+    on_ok _ _ _ c.put-2.ensures.put (λ put. both c.in_ok-value.ensures.emits (both (instr op.Drop _ _ c.in_ok-put.ensures.put) (instr op.Null _ _ put)))
+
+pub value-returns-in-Name-clause-emits : goal.value-returns-in-Name-clause-emits
+value-returns-in-Name-clause-emits t c =
+    on_ok _ _ _ c.fetched.ensures.emits (λ put. value_of_tree c.args.e.now (e.Name c.in-Name.x) c.in-Name.is
+    (as_part put (ap (λ s. with_string op.Var s >> one op.Fetch) c.deref.ensures.value)))
+
+pub fetched_element-returns-clause-emits : goal.fetched_element-returns-clause-emits
+fetched_element-returns-clause-emits t c = on_ok _ _ _ c.put.ensures.put (λ put. both c.in_ok-element.ensures.emits (instr op.Fetch _ _ put))
+
+pub fetched_element-returns-clause-extends : goal.fetched_element-returns-clause-extends
+fetched_element-returns-clause-extends t c = extends_trans c.element.ensures.extends c.put.ensures.extends
+
+pub value-fetched_element-requires : goal.value-fetched_element-requires
+value-fetched_element-requires t c =
+    let whole = ap expr_of c.in-Reference.is ∙ reference_of_slice c.in-Reference.x c.in-Reference.args c.deref-in-Reference.result.now c.deref-in-Reference-2.result.now c.deref-in-Reference.ensures.value c.deref-in-Reference-2.ensures.value in
+    let countable = subst Countable whole c.requires.countable in
+    let weight = ap of_expr whole in
+    let some = name_weighs c.deref-in-Reference.result.now in
+    let room = c.requires.room in
+    (omega (arith, weight, some, c.decreases), (countable.1, (subst (λ n. n ≤ 65535) (count_is c.deref-in-Reference-2.result.now) countable.0, omega (arith, weight, some, room))))
+
+pub value-returns-in-Reference-clause-emits : goal.value-returns-in-Reference-clause-emits
+value-returns-in-Reference-clause-emits t c =
+    let whole = ap expr_of c.in-Reference.is ∙ reference_of_slice c.in-Reference.x c.in-Reference.args c.deref-in-Reference.result.now c.deref-in-Reference-2.result.now c.deref-in-Reference.ensures.value c.deref-in-Reference-2.ensures.value in
+    let count = sym (count_is c.deref-in-Reference-2.result.now) in
+    on_ok _ _ _ c.fetched_element.ensures.emits (λ put. value_as _ _ whole (last_of_five _ _ _ _ _
+    (as_part put (ap (λ n. views.element c.deref-in-Reference.result.now (args_of c.deref-in-Reference-2.result.now) n >> one op.Fetch) count))))
+
+pub value-returns-in-Reference-clause-size : goal.value-returns-in-Reference-clause-size
+value-returns-in-Reference-clause-size t c =
+    let whole = ap of_expr (ap expr_of c.in-Reference.is ∙ reference_of_slice c.in-Reference.x c.in-Reference.args c.deref-in-Reference.result.now c.deref-in-Reference-2.result.now c.deref-in-Reference.ensures.value c.deref-in-Reference-2.ensures.value) in
+    let some = name_weighs c.deref-in-Reference.result.now in
+    grind (arith, common_steps, whole, some, c.fetched_element.ensures.size)

@@ -37,3 +37,12 @@ decreases-element l = 8 * of_args (args_of l.args.now) + 5
 
 abbrev pub decreases-arguments : goal.decreases-arguments
 decreases-arguments l = 8 * of_args (args_of l.args.now) + 4
+
+abbrev pub decreases-fetched_element : goal.decreases-fetched_element
+decreases-fetched_element l = 8 * of_args (args_of l.args.now) + 6
+
+abbrev pub decreases-indirect : goal.decreases-indirect
+decreases-indirect l = 8 * of_expr (expr_of l.x.now) + 5
+
+abbrev pub decreases-interrogated : goal.decreases-interrogated
+decreases-interrogated l = 8 * of_expr (expr_of l.x.now) + 5

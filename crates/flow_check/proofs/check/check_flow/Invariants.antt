@@ -1,10 +1,7 @@
-use Rattle.std.proofs.Common.{◌≡◌}
+use Rattle.module_format.specs.Views.{instrs_left}
 use Rattle.flow_check.specs.Marks.{marked}
-use Rattle.flow_check.proofs.Whole.{Walked}
+use Rattle.flow_check.proofs.Whole.{WalkedTo}
 use Rattle.flow_check.proofs.check.check_flow.Given as goal
 
 abbrev pub invariant-loop-instr : goal.invariant-loop-instr
-invariant-loop-instr l = record {
-  code : l.code ≡ l.image.code;
-  walked : Walked l.image l.walk.pool.nodes.keys (marked l.walk.marks) l.walk.carried l.instr-index l.at;
-}
+invariant-loop-instr l = WalkedTo l.image (instrs_left l.instr-iterator) l.walk.pool.nodes.keys (marked l.walk.marks) l.walk.carried l.at

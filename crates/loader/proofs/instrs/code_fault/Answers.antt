@@ -1,32 +1,30 @@
-use Rattle.std.proofs.Common.{◌≡◌, ◌∙◌, ◌+◌, take, get_or, None, ap, subst, arith}
-use Rattle.model.specs.declared.instr.Instr.TheVariants.{End}
-use Rattle.model.specs.Module.Images.{instr_size}
-use Rattle.model.specs.Module.WellFormed.{fault_if, instr_fault}
-use Rattle.loader.specs.Parts.{code_fault}
-use Rattle.loader.proofs.Coding.{instr_told, total_next, total_left}
-use Rattle.loader.proofs.Scanning.{rest, goes_on}
+use Rattle.std.proofs.Common.{◌≡◌, ◌∙◌, rules, sym, arith}
+use Rattle.module_format.specs.Views.{instrs_left}
+use Rattle.loader.proofs.Coding.{judged_none, judged_within, judged_more, judged_stops, judged_all}
 use Rattle.loader.proofs.Spelt.{short}
 use Rattle.loader.proofs.instrs.code_fault.Goals as goal
+
+pub loop-instr-init : goal.loop-instr-init
+loop-instr-init c = judged_none c.args.image.now c.args.place _ (sym c.code-instr-items.ensures ∙ search rules)
+
+pub overflow_add-next : goal.overflow_add-next
+overflow_add-next c =
+    let im = c.args.image.now in
+    let w = judged_within im c.args.place c.loop-instr.at (instrs_left c.loop-instr.instr-iterator) (instrs_left c.next.new.self) c.in-Some.instr c.loop-instr.invariant c.in-Some.ensures.steps in
+    omega (arith, short im c.requires.spelt, w, c.size.ensures)
 
 pub overflow_add-result : goal.overflow_add-result
 overflow_add-result c =
     let im = c.args.image.now in
-    omega (arith, short im c.requires.spelt, c.requires.there, c.loop-instr.invariant.left)
+    omega (arith, short im c.requires.spelt, c.requires.there, c.loop-instr.invariant.size)
+
+pub returns-in-Some-instr_rule : goal.returns-in-Some-instr_rule
+returns-in-Some-instr_rule c =
+    judged_stops c.args.image.now c.args.place c.loop-instr.at (instrs_left c.loop-instr.instr-iterator) (instrs_left c.next.new.self) c.in-Some.instr c.loop-instr.invariant c.in-Some.ensures.steps c.size.result c.in-Some-instr_rule.rule c.size.ensures (sym c.in-Some-instr_rule.is ∙ c.instr_rule.ensures)
 
 pub loop-instr-preserved : goal.loop-instr-preserved
 loop-instr-preserved c =
-    let im = c.args.image.now in
-    let is = c.as_slice-code.result.now in
-    let k = c.loop-instr.instr-index in
-    let at = c.loop-instr.at in
-    let n = c.size.result in
-    let place = c.args.place + at in
-    let x = get_or is k End in
-    let lt = c.loop-instr-test.true in
-    let kept : instr_fault im (take k is) place x ≡ None = instr_told im (take k is) place at n x c.instr_rule.result c.loop-instr.invariant.front c.size.ensures c.instr_rule.ensures ∙ ap (fault_if place) c.in_default.is in
-    let on = goes_on (instr_fault im) instr_size is k place End (code_fault c.args.place im) lt kept c.loop-instr.invariant.so_far in
-    record {
-      so_far = subst (λ p. rest (instr_fault im) instr_size is (k + 1) p ≡ code_fault c.args.place im) (omega (arith, c.size.ensures)) on;
-      front = omega (arith, c.loop-instr.invariant.front, c.size.ensures, total_next is k End lt);
-      left = omega (arith, c.loop-instr.invariant.left, c.size.ensures, total_left is k End lt);
-    }
+    judged_more c.args.image.now c.args.place c.loop-instr.at (instrs_left c.loop-instr.instr-iterator) (instrs_left c.next.new.self) c.in-Some.instr c.loop-instr.invariant c.in-Some.ensures.steps c.size.result c.instr_rule.result c.size.ensures c.instr_rule.ensures c.in_default.is
+
+pub returns : goal.returns
+returns c = judged_all c.args.image.now c.args.place c.loop-instr.at (instrs_left c.loop-instr.instr-iterator) c.loop-instr.invariant c.in-None.ensures.steps.0

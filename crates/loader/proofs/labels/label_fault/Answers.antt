@@ -11,7 +11,7 @@ use Rattle.loader.proofs.labels.label_fault.Goals as goal
 pub returns-then-not-is_label : goal.returns-then-not-is_label
 returns-then-not-is_label c =
     let im = c.args.image.now in
-    let ls = c.as_slice-labels.result.now in
+    let ls = c.labels-labels.result.now in
     let k = c.loop-label.label-index in
     let at = c.loop-label.offset in
     let x = get_or ls k unlabelled in
@@ -20,12 +20,12 @@ returns-then-not-is_label c =
     stops (label_at im) (λ x. 8) ls k at unlabelled (label_fault c.args.place im) _ c.loop-label-test.true told c.loop-label.invariant.so_far
 
 pub overflow_add-offset : goal.overflow_add-offset
-overflow_add-offset c = omega (arith, c.loop-label.invariant.place, c.requires.there, c.loop-label-test.true, ap length c.as_slice-labels.ensures)
+overflow_add-offset c = omega (arith, c.loop-label.invariant.place, c.requires.there, c.loop-label-test.true, ap length c.labels-labels.ensures)
 
 pub loop-label-preserved : goal.loop-label-preserved
 loop-label-preserved c =
     let im = c.args.image.now in
-    let ls = c.as_slice-labels.result.now in
+    let ls = c.labels-labels.result.now in
     let k = c.loop-label.label-index in
     let at = c.loop-label.offset in
     let x = get_or ls k unlabelled in

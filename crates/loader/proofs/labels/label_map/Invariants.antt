@@ -7,7 +7,7 @@ use Rattle.loader.proofs.labels.label_map.Given as goal
 abbrev pub invariant-loop-left : goal.invariant-loop-left
 invariant-loop-left l = record {
   within : l.left ≤ length l.labels;
-  so_far : (name : List ℕ) → get_by (λ k. bytes_eq name k.items) l.found ≡ statement_labelled l.strings (drop l.left l.labels) name None;
+  so_far : (name : List ℕ) → get_by (λ k. bytes_eq name k.now) l.found ≡ statement_labelled l.image.strings (drop l.left l.labels) name None;
 }
 
 abbrev pub decreases-loop-left : goal.decreases-loop-left

@@ -7,19 +7,19 @@ use Rattle.loader.proofs.places.places_of.Goals as goal
 pub overflow_add-labels-3 : goal.overflow_add-labels-3
 overflow_add-labels-3 c =
     let short = places_short c.args.version c.args.image.now c.requires in
-    omega (arith, short.labels, c.entry_at.ensures, c.strings_size.ensures, ap (λ (ss : List (List ℕ)). sum (map string_bytes ss)) c.as_slice.ensures)
+    omega (arith, short.labels, c.entry_at.ensures, c.strings_size.ensures)
 
 pub overflow_add-labels-4 : goal.overflow_add-labels-4
 overflow_add-labels-4 c =
     let short = places_short c.args.version c.args.image.now c.requires in
-    omega (arith, short.labels, c.entry_at.ensures, c.strings_size.ensures, ap (λ (ss : List (List ℕ)). sum (map string_bytes ss)) c.as_slice.ensures)
+    omega (arith, short.labels, c.entry_at.ensures, c.strings_size.ensures)
 
 pub overflow_add-statements : goal.overflow_add-statements
 overflow_add-statements c =
     let short = places_short c.args.version c.args.image.now c.requires in
-    omega (arith, short.statements, c.entry_at.ensures, c.strings_size.ensures, ap (λ (ss : List (List ℕ)). sum (map string_bytes ss)) c.as_slice.ensures, ap length c.as_slice-2.ensures)
+    omega (arith, short.statements, c.entry_at.ensures, c.strings_size.ensures, ap length c.labels.ensures)
 
 pub overflow_add-statements-2 : goal.overflow_add-statements-2
 overflow_add-statements-2 c =
     let short = places_short c.args.version c.args.image.now c.requires in
-    omega (arith, short.statements, c.entry_at.ensures, c.strings_size.ensures, ap (λ (ss : List (List ℕ)). sum (map string_bytes ss)) c.as_slice.ensures, ap length c.as_slice-2.ensures)
+    omega (arith, short.statements, c.entry_at.ensures, c.strings_size.ensures, ap length c.labels.ensures)

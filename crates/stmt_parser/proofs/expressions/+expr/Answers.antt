@@ -1,81 +1,112 @@
-use Rattle.std.proofs.Common.{rules, arith, ◌≡◌, refl, ◌∙◌, ap, subst, sym, suc, ◌-◌, ◌+◌, [], ◌∷◌, ◌++◌, true, false, map, length}
+use Rattle.std.proofs.Common.{rules, arith, ◌≤◌, ◌≡◌, refl, ◌∙◌, ap, subst, sym, suc, ◌-◌, ◌+◌, [], ◌∷◌, ◌++◌, true, false, map, length}
 use Rattle.std.proofs.lemmas.List.{map-append}
-use Rattle.std.specs.Prelude.{Some, is_some, not}
+use Rattle.std.specs.Prelude.{None, Some, is_some, not}
 use Rattle.std.proofs.lemmas.Grind.{common_steps}
 use Rattle.model.specs.Deck.Parse as spec
 use Rattle.model.specs.Deck.Parse.{lefts, rights, graded, element}
 use Rattle.model.specs.Deck.Tokens as m
-use Rattle.model.specs.Deck.TreeViews.{expr_of, args_of}
+use Rattle.model.specs.Deck.TreeViews.{args_of}
 use Rattle.stmt_parser.specs.Views as view
-use Rattle.stmt_parser.specs.Views.{Reads}
-use Rattle.stmt_parser.proofs.Loops.{one_more, no_more, lefts_stop, lefts_go, lefts_end, graded_left, onto, rights_none, rights_stop, rights_go, rights_start, rights_end, stopped, went_on, prepend, several_go, several_end, several_start}
+use Rattle.stmt_parser.specs.Views.{Reads, boxed_of}
+use Rattle.stmt_parser.proofs.Loops.{before, climb_fails, climb_start, graded_fails, graded_none, marks_end, marks_go, one_more, no_more, lefts_stop, lefts_go, lefts_end, graded_left, onto, rights_none, rights_stop, rights_go, rights_start, rights_end, stopped, went_on, prepend, several_go, several_end, several_start}
 use Rattle.model.proofs.Decks.ArgumentLists.{call_is, reference_is}
 use Rattle.stmt_parser.proofs.expressions.+expr.Goals as goal
 
-pub graded-returns : goal.graded-returns
-graded-returns t c =
-    subst (λ o. Reads expr_of o c.lefts.result c.lefts.new.cursor)
-    (sym (graded_left (element c.args.depth) c.args.grade (c.args.grade - 1) (omega arith) (grind arith) c.args.cursor.now (expr_of c.in_ok-first.first) c.graded.new.cursor c.in_ok-first.ensures)) c.lefts.ensures
+pub graded-returns-in-0 : goal.graded-returns-in-0
+graded-returns-in-0 t c =
+    subst (λ k. Reads boxed_of (graded (element c.args.depth) k c.args.cursor.now) c.marked.result c.marked.new.cursor) (sym c.in-0.is)
+    (subst (λ o. Reads boxed_of o c.marked.result c.marked.new.cursor) (sym (graded_none (element c.args.depth) c.args.cursor.now)) c.marked.ensures)
 
--- ---- elements
-pub element-returns-in-Name : goal.element-returns-in-Name
-unfolding spec.element spec.element_step
-element-returns-in-Name t c =
-    let deep : c.args.depth ≡ suc (c.args.depth - 1) = omega arith in
-    let kind : m.tok c.in-Some.token ≡ m.Word c.in-Some.token.text.now = ap (λ k. m.tok_by k c.in-Some.token.text.now) c.in-Name.is in
-    let front : c.args.cursor.now ≡ m.Word c.in-Some.token.text.now ∷ c.take.new.self = c.in-Some.ensures.taken ∙ ap (λ x. x ∷ c.take.new.self) kind in
-    rw (deep, front) c.named.ensures
+pub graded-returns-in-2 : goal.graded-returns-in-2
+graded-returns-in-2 t c =
+    subst (λ k. Reads boxed_of (graded (element c.args.depth) k c.args.cursor.now) c.rights.result c.rights.new.cursor) (sym c.in-2.is)
+    (subst (λ o. Reads boxed_of o c.rights.result c.rights.new.cursor) (sym (climb_start (element c.args.depth) c.args.cursor.now)) c.rights.ensures)
 
-pub element-returns-in-Opens : goal.element-returns-in-Opens
-unfolding spec.element spec.element_step
-element-returns-in-Opens t c =
-    let deep : c.args.depth ≡ suc (c.args.depth - 1) = omega arith in
-    let kind : m.tok c.in-Some.token ≡ m.Sign c.in-Mark.mark = ap (λ k. m.tok_by k c.in-Some.token.text.now) c.in-Mark.is in
-    let front : c.args.cursor.now ≡ m.Sign c.in-Mark.mark ∷ c.take.new.self = c.in-Some.ensures.taken ∙ ap (λ x. x ∷ c.take.new.self) kind in
-    let at : spec.role c.in-Mark.mark ≡ spec.Opens = sym c.role_of.ensures ∙ ap view.role_of c.in-Opens.is in
-    rw (deep, front, at) c.bracketed.ensures
+pub assigned-returns-in_err-first : goal.assigned-returns-in_err-first
+assigned-returns-in_err-first t c =
+    let none = graded_none (element c.args.depth) c.args.cursor.now in
+    let fails = graded_fails (element c.args.depth) 1 0 refl refl c.args.cursor.now in
+    first_of (search rules, grind (arith, common_steps, none, fails))
 
-pub element-returns-in-Refers : goal.element-returns-in-Refers
-unfolding spec.element spec.element_step
-element-returns-in-Refers t c =
-    let deep : c.args.depth ≡ suc (c.args.depth - 1) = omega arith in
-    let kind : m.tok c.in-Some.token ≡ m.Sign c.in-Mark.mark = ap (λ k. m.tok_by k c.in-Some.token.text.now) c.in-Mark.is in
-    let front : c.args.cursor.now ≡ m.Sign c.in-Mark.mark ∷ c.take.new.self = c.in-Some.ensures.taken ∙ ap (λ x. x ∷ c.take.new.self) kind in
-    let at : spec.role c.in-Mark.mark ≡ spec.Refers = sym c.role_of.ensures ∙ ap view.role_of c.in-Refers.is in
-    rw (deep, front, at) c.keyword.ensures
+-- ---- grades one above the other
+pub climbed-returns-in_err-found : goal.climbed-returns-in_err-found
+climbed-returns-in_err-found t c =
+    let two = climb_start (element c.args.depth) c.args.cursor.now in
+    let up : 2 + (c.args.grade - 2) ≡ c.args.grade = (let r = c.requires in omega (arith, r)) in
+    let fails = subst (λ k. graded (element c.args.depth) 2 c.args.cursor.now ≡ None → graded (element c.args.depth) k c.args.cursor.now ≡ None) up (climb_fails (element c.args.depth) (c.args.grade - 2) 2 c.args.cursor.now (omega arith)) in
+    first_of (search rules, grind (arith, common_steps, two, fails))
+
+pub climbed-loop-below-init : goal.climbed-loop-below-init
+climbed-loop-below-init t c = climb_start (element c.args.depth) c.args.cursor.now ∙ c.in_ok-found.ensures
+
+climbing : (atom : _) (k : _) → 2 ≤ k → (ts : _) (e : _) (rest : _) → graded atom k ts ≡ Some (e, rest) → graded atom (k + 1) ts ≡ lefts (graded atom (k + 1 - 1)) (k + 1) (length rest) e rest
+climbing atom k h ts e rest found =
+    let back : k + 1 - 1 ≡ k = omega arith in
+    rw back (graded_left atom (k + 1) k (omega arith) (grind (arith, h)) ts e rest found)
+
+pub climbed-returns-in_err-found-2 : goal.climbed-returns-in_err-found-2
+climbed-returns-in_err-found-2 t c =
+    let k = c.loop-below.below in
+    let at = climbing (element c.args.depth) k (omega (arith, c.loop-below.auto.below)) c.args.cursor.now (boxed_of c.loop-below.found) c.loop-below.cursor c.loop-below.invariant in
+    let up : (k + 1) + (c.args.grade - (k + 1)) ≡ c.args.grade = (let r = c.loop-below-test.true in omega (arith, r)) in
+    let fails = subst (λ n. graded (element c.args.depth) (k + 1) c.args.cursor.now ≡ None → graded (element c.args.depth) n c.args.cursor.now ≡ None) up (climb_fails (element c.args.depth) (c.args.grade - (k + 1)) (k + 1) c.args.cursor.now (omega (arith, c.loop-below.auto.below))) in
+    first_of (search rules, grind (arith, common_steps, at, fails))
+
+pub climbed-loop-below-preserved : goal.climbed-loop-below-preserved
+climbed-loop-below-preserved t c =
+    climbing (element c.args.depth) c.loop-below.below (omega (arith, c.loop-below.auto.below)) c.args.cursor.now (boxed_of c.loop-below.found) c.loop-below.cursor c.loop-below.invariant
+    ∙ c.in_ok-found-2.ensures
+
+-- ---- marks of unary operators
+pub marked-loop-turn-preserved : goal.marked-loop-turn-preserved
+marked-loop-turn-preserved t c =
+    let e = one_more (λ n. before c.loop-turn.marks.items (element n c.loop-turn.cursor)) c.args.depth c.loop-turn.turn c.loop-turn-test.true c.loop-turn.invariant in
+    let s = c.in-Some.ensures in
+    e ∙ marks_go (c.args.depth - (c.loop-turn.turn + 1)) c.loop-turn.marks.items c.in-Some.op c.loop-turn.cursor c.prefix.new.self s.0 s.1 s.2
+    ∙ ap (λ us. before us (element (c.args.depth - (c.loop-turn.turn + 1)) c.prefix.new.self)) (sym c.in_ok-push-in-Some.ensures.items)
+
+pub marked-returns : goal.marked-returns
+marked-returns t c =
+    no_more (λ n. before c.loop-turn.marks.items (element n c.loop-turn.cursor)) c.args.depth c.loop-turn.turn c.loop-turn-test.false c.loop-turn.invariant
+    ∙ marks_end c.loop-turn.marks.items c.loop-turn.cursor
+
+pub assigned-returns : goal.assigned-returns
+assigned-returns t c =
+    subst (λ o. Reads boxed_of o c.lefts.result c.lefts.new.cursor)
+    (sym (graded_left (element c.args.depth) 1 0 refl refl c.args.cursor.now (boxed_of c.in_ok-first.first) c.marked.new.cursor (graded_none (element c.args.depth) c.args.cursor.now ∙ c.in_ok-first.ensures))) c.lefts.ensures
 
 -- ---- operators that group to the left
 pub lefts-returns-in_default : goal.lefts-returns-in_default
 lefts-returns-in_default t c =
-    let e = one_more (λ n. lefts (graded (element c.args.depth) (c.args.grade - 1)) c.args.grade n (expr_of c.loop-turn.found) c.loop-turn.cursor) c.len-turn-end.result c.loop-turn._turn c.loop-turn-test.true c.loop-turn.invariant in
-    e ∙ lefts_stop (graded (element c.args.depth) (c.args.grade - 1)) c.args.grade (c.len-turn-end.result - (c.loop-turn._turn + 1)) (expr_of c.loop-turn.found) c.loop-turn.cursor c.in_default.ensures.0
-    ∙ ap (λ r. Some (expr_of c.loop-turn.found, r)) (sym c.in_default.ensures.1)
+    let e = one_more (λ n. lefts (graded (element c.args.depth) (c.args.grade - 1)) c.args.grade n (boxed_of c.loop-turn.found) c.loop-turn.cursor) c.len-turn-end.result c.loop-turn._turn c.loop-turn-test.true c.loop-turn.invariant in
+    e ∙ lefts_stop (graded (element c.args.depth) (c.args.grade - 1)) c.args.grade (c.len-turn-end.result - (c.loop-turn._turn + 1)) (boxed_of c.loop-turn.found) c.loop-turn.cursor c.in_default.ensures.0
+    ∙ ap (λ r. Some (boxed_of c.loop-turn.found, r)) (sym c.in_default.ensures.1)
 
 pub lefts-returns-in-Err : goal.lefts-returns-in-Err
 unfolding spec.lefts spec.on spec.bind
 lefts-returns-in-Err t c =
-    let e = one_more (λ n. lefts (graded (element c.args.depth) (c.args.grade - 1)) c.args.grade n (expr_of c.loop-turn.found) c.loop-turn.cursor) c.len-turn-end.result c.loop-turn._turn c.loop-turn-test.true c.loop-turn.invariant in
+    let e = one_more (λ n. lefts (graded (element c.args.depth) (c.args.grade - 1)) c.args.grade n (boxed_of c.loop-turn.found) c.loop-turn.cursor) c.len-turn-end.result c.loop-turn._turn c.loop-turn-test.true c.loop-turn.invariant in
     first_of (search rules, grind (arith, common_steps))
 
 pub lefts-loop-turn-preserved : goal.lefts-loop-turn-preserved
 lefts-loop-turn-preserved t c =
-    let e = one_more (λ n. lefts (graded (element c.args.depth) (c.args.grade - 1)) c.args.grade n (expr_of c.loop-turn.found) c.loop-turn.cursor) c.len-turn-end.result c.loop-turn._turn c.loop-turn-test.true c.loop-turn.invariant in
-    e ∙ lefts_go (graded (element c.args.depth) (c.args.grade - 1)) c.args.grade (c.len-turn-end.result - (c.loop-turn._turn + 1)) (expr_of c.loop-turn.found) c.loop-turn.cursor c.in-Some.op c.operator.new.self (expr_of c.in-Ok.right) c.graded.new.cursor c.in-Some.ensures.0 c.in-Some.ensures.1 c.in-Ok.ensures
+    let e = one_more (λ n. lefts (graded (element c.args.depth) (c.args.grade - 1)) c.args.grade n (boxed_of c.loop-turn.found) c.loop-turn.cursor) c.len-turn-end.result c.loop-turn._turn c.loop-turn-test.true c.loop-turn.invariant in
+    e ∙ lefts_go (graded (element c.args.depth) (c.args.grade - 1)) c.args.grade (c.len-turn-end.result - (c.loop-turn._turn + 1)) (boxed_of c.loop-turn.found) c.loop-turn.cursor c.in-Some.op c.operator.new.self (boxed_of c.in-Ok.right) c.graded.new.cursor c.in-Some.ensures.0 c.in-Some.ensures.1 c.in-Ok.ensures
     ∙ ap (λ x. lefts (graded (element c.args.depth) (c.args.grade - 1)) c.args.grade (c.len-turn-end.result - (c.loop-turn._turn + 1)) x c.graded.new.cursor) (sym c.in_ok-found-in-Ok.ensures)
 
 pub lefts-returns : goal.lefts-returns
 lefts-returns t c =
-    no_more (λ n. lefts (graded (element c.args.depth) (c.args.grade - 1)) c.args.grade n (expr_of c.loop-turn.found) c.loop-turn.cursor) c.len-turn-end.result c.loop-turn._turn c.loop-turn-test.false c.loop-turn.invariant
-    ∙ lefts_end (graded (element c.args.depth) (c.args.grade - 1)) c.args.grade 0 (expr_of c.loop-turn.found) c.loop-turn.cursor
+    no_more (λ n. lefts (graded (element c.args.depth) (c.args.grade - 1)) c.args.grade n (boxed_of c.loop-turn.found) c.loop-turn.cursor) c.len-turn-end.result c.loop-turn._turn c.loop-turn-test.false c.loop-turn.invariant
+    ∙ lefts_end (graded (element c.args.depth) (c.args.grade - 1)) c.args.grade 0 (boxed_of c.loop-turn.found) c.loop-turn.cursor
 
 -- ---- calls, references and arguments
-pub named-returns-then-eat-2 : goal.named-returns-then-eat-2
+pub named-returns-in_ok-node : goal.named-returns-in_ok-node
 unfolding spec.after_name spec.bind spec.expect
-named-returns-then-eat-2 t c = rw (call_is c.in_ok-name.name c.shown.result) (grind (arith, common_steps))
+named-returns-in_ok-node t c = rw (c.in_ok-node.ensures, call_is c.in_ok-name.name c.shown.result) (grind (arith, common_steps))
 
-pub named-returns-then-eat-4 : goal.named-returns-then-eat-4
+pub named-returns-in_ok-node-2 : goal.named-returns-in_ok-node-2
 unfolding spec.after_name spec.bind spec.expect
-named-returns-then-eat-4 t c = rw (reference_is c.in_ok-name.name c.in_ok-subscripts.subscripts) (grind (arith, common_steps))
+named-returns-in_ok-node-2 t c = rw (c.in_ok-node-2.ensures, reference_is c.in_ok-name.name c.in_ok-subscripts.subscripts) (grind (arith, common_steps))
 
 pub several-loop-turn-init : goal.several-loop-turn-init
 several-loop-turn-init t c = several_start (spec.whole c.args.depth) c.args.turns (c.args.turns - 0) c.args.cursor.now c.new-found.result.items c.new-found.ensures.items (omega arith)
@@ -96,29 +127,29 @@ rights-loop-turn-init t c = rw c.new-operands.ensures.items (rights_start (grade
 
 pub rights-returns-in_err-operand : goal.rights-returns-in_err-operand
 rights-returns-in_err-operand t c =
-    let e = one_more (λ n. onto (map expr_of c.loop-turn.operands.items) (rights (graded (element c.args.depth) 1) 2 n c.loop-turn.cursor)) c.len-turn-end.result c.loop-turn._turn c.loop-turn-test.true c.loop-turn.invariant in
-    let none = rights_none (graded (element c.args.depth) 1) (c.len-turn-end.result - (c.loop-turn._turn + 1)) c.loop-turn.cursor (map expr_of c.loop-turn.operands.items) in
+    let e = one_more (λ n. onto (map boxed_of c.loop-turn.operands.items) (rights (graded (element c.args.depth) 1) 2 n c.loop-turn.cursor)) c.len-turn-end.result c.loop-turn._turn c.loop-turn-test.true c.loop-turn.invariant in
+    let none = rights_none (graded (element c.args.depth) 1) (c.len-turn-end.result - (c.loop-turn._turn + 1)) c.loop-turn.cursor (map boxed_of c.loop-turn.operands.items) in
     first_of (search rules, grind (arith, common_steps, none, e))
 
 pub rights-returns-then-is_none : goal.rights-returns-then-is_none
 rights-returns-then-is_none t c =
-    let e = one_more (λ n. onto (map expr_of c.loop-turn.operands.items) (rights (graded (element c.args.depth) 1) 2 n c.loop-turn.cursor)) c.len-turn-end.result c.loop-turn._turn c.loop-turn-test.true c.loop-turn.invariant in
+    let e = one_more (λ n. onto (map boxed_of c.loop-turn.operands.items) (rights (graded (element c.args.depth) 1) 2 n c.loop-turn.cursor)) c.len-turn-end.result c.loop-turn._turn c.loop-turn-test.true c.loop-turn.invariant in
     let none : is_some c.operator.result ≡ false = c.is_none.ensures ∙ ap not c.if-is_none.true in
-    let s = stopped 2 c.graded.new.cursor c.operator.new.self c.operator.result c.operator.ensures none in
-    e ∙ rights_stop (graded (element c.args.depth) 1) (c.len-turn-end.result - (c.loop-turn._turn + 1)) c.loop-turn.cursor (map expr_of c.loop-turn.operands.items) (expr_of c.in_ok-operand.operand) c.graded.new.cursor c.in_ok-operand.ensures s.0
+    let s = stopped 2 c.assigned.new.cursor c.operator.new.self c.operator.result c.operator.ensures none in
+    e ∙ rights_stop (graded (element c.args.depth) 1) (c.len-turn-end.result - (c.loop-turn._turn + 1)) c.loop-turn.cursor (map boxed_of c.loop-turn.operands.items) (boxed_of c.in_ok-operand.operand) c.assigned.new.cursor c.in_ok-operand.ensures s.0
     ∙ rw (c.in_ok-power.ensures, s.1) refl
 
 pub rights-loop-turn-preserved : goal.rights-loop-turn-preserved
 rights-loop-turn-preserved t c =
-    let e = one_more (λ n. onto (map expr_of c.loop-turn.operands.items) (rights (graded (element c.args.depth) 1) 2 n c.loop-turn.cursor)) c.len-turn-end.result c.loop-turn._turn c.loop-turn-test.true c.loop-turn.invariant in
+    let e = one_more (λ n. onto (map boxed_of c.loop-turn.operands.items) (rights (graded (element c.args.depth) 1) 2 n c.loop-turn.cursor)) c.len-turn-end.result c.loop-turn._turn c.loop-turn-test.true c.loop-turn.invariant in
     let some : is_some c.operator.result ≡ true = c.is_none.ensures ∙ ap not c.if-is_none.false in
-    let s = went_on 2 c.graded.new.cursor c.operator.new.self c.operator.result c.operator.ensures some in
+    let s = went_on 2 c.assigned.new.cursor c.operator.new.self c.operator.result c.operator.ensures some in
     let items : c.push.new.self.items ≡ c.loop-turn.operands.items ++ c.in_ok-operand.operand ∷ [] = c.in_ok-push.ensures.items in
-    e ∙ rights_go (graded (element c.args.depth) 1) (c.len-turn-end.result - (c.loop-turn._turn + 1)) c.loop-turn.cursor (map expr_of c.loop-turn.operands.items) (expr_of c.in_ok-operand.operand) c.graded.new.cursor s.0 c.operator.new.self c.in_ok-operand.ensures s.1 s.2
+    e ∙ rights_go (graded (element c.args.depth) 1) (c.len-turn-end.result - (c.loop-turn._turn + 1)) c.loop-turn.cursor (map boxed_of c.loop-turn.operands.items) (boxed_of c.in_ok-operand.operand) c.assigned.new.cursor s.0 c.operator.new.self c.in_ok-operand.ensures s.1 s.2
     ∙ ap (λ xs. onto xs (rights (graded (element c.args.depth) 1) 2 (c.len-turn-end.result - (c.loop-turn._turn + 1)) c.operator.new.self))
-    (sym (map-append expr_of c.loop-turn.operands.items (c.in_ok-operand.operand ∷ [])) ∙ ap (map expr_of) (sym items))
+    (sym (map-append boxed_of c.loop-turn.operands.items (c.in_ok-operand.operand ∷ [])) ∙ ap (map boxed_of) (sym items))
 
 pub rights-returns : goal.rights-returns
 rights-returns t c =
-    no_more (λ n. onto (map expr_of c.loop-turn.operands.items) (rights (graded (element c.args.depth) 1) 2 n c.loop-turn.cursor)) c.len-turn-end.result c.loop-turn._turn c.loop-turn-test.false c.loop-turn.invariant
-    ∙ rights_end (graded (element c.args.depth) 1) c.loop-turn.cursor (map expr_of c.loop-turn.operands.items)
+    no_more (λ n. onto (map boxed_of c.loop-turn.operands.items) (rights (graded (element c.args.depth) 1) 2 n c.loop-turn.cursor)) c.len-turn-end.result c.loop-turn._turn c.loop-turn-test.false c.loop-turn.invariant
+    ∙ rights_end (graded (element c.args.depth) 1) c.loop-turn.cursor (map boxed_of c.loop-turn.operands.items)

@@ -1,6 +1,6 @@
 use Rattle.std.proofs.Common.{◌≡◌, ◌≤◌, ◌-◌, ◌∙◌, List, ap, sym, arith, length}
 use Rattle.std.specs.Prelude.{Some, slice_get}
-use Rattle.match_machine.specs.declared.trail.Choice.{Choice}
+use Rattle.match_machine.specs.Choices.{Choice}
 use Rattle.match_machine.specs.Logs.{LeavesAll, logs_of}
 use Rattle.match_machine.proofs.Chains.{rest_marks, newest_whole}
 use Rattle.match_machine.proofs.trail.Trail.back.Goals as goal
@@ -24,5 +24,5 @@ returns-in-Some c =
     let codes : length a.codes.items ≤ h.0.codes = omega (arith, h.4, c.len-codes.ensures ∙ a.codes.ok.0) in
     let whole : LeavesAll a.choices.items (length a.log.items) (length a.pending.items) (length a.codes.items) =
     (h.0, newest, log, pending, codes) in
-    rw (← c.self.view_is)
+    rw (c.marks.ensures.head, ← c.self.view_is)
     (newest_whole (logs_of a) a.choices.items c.pop.new.self.items c.in-Some.choice a.code c.in-Some.ensures.items whole (c.self.invariant.stored c.if-not-self.false))

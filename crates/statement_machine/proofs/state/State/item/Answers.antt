@@ -16,3 +16,6 @@ returns-clause-named c im fs next io =
     let new = record c.args.self.now { operands = c.pop_value-base.new.operands; arguments = c.pop_values.new.values } in
     was_named im fs c.args.count next c.args.self.now new io c.pop_values.new.operands c.pop_values.new.values.items c.as_slice.result.now c.pop_value-base.result c.item.result
     c.as_slice.ensures.value c.in_ok-pop_values.ensures.pops (sym (ap (λ (l : Stacked Operand). l.under) c.in_ok-pop_values.ensures.operands)) c.pop_value-base.ensures refl refl refl (c.item.ensures.name io)
+
+pub returns-then-count-eq1-clause-named : goal.returns-then-count-eq1-clause-named
+returns-then-count-eq1-clause-named c im fs next io = rw c.if-count-eq1.true (c.item_of_one.ensures.named im fs next io)

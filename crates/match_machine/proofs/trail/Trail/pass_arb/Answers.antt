@@ -1,0 +1,11 @@
+use Rattle.match_machine.specs.Logs.{logs_of}
+use Rattle.match_machine.proofs.Chains.{rest_marks}
+use Rattle.match_machine.proofs.trail.Trail.pass_arb.Goals as goal
+
+pub invariant_of-self : goal.invariant_of-self
+invariant_of-self c =
+    let a = c.self.inside in
+    record {
+      marks = rest_marks (logs_of a) a.choices.items c.pop.new.self.items c.in-Some.choice c.in-Some.ensures.items c.self.invariant.marks;
+      stored = c.self.invariant.stored;
+    }

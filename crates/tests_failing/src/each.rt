@@ -1,0 +1,72 @@
+//! Runs each module of a file, and tells of each what `sno run` tells.
+
+use code_format::read_u32;
+use driver::{Told, report, run_with_card};
+use std::alloc::Global;
+use std::fs::{self, Files};
+use std::io::{Print, Write};
+use model::UnitFault;
+use unit_io::MemUnits;
+
+/// How many steps a module may take.
+const STEPS: u64 = 10_000;
+
+/// A file's first module, behind its length in four bytes, and what follows it.
+fn first(bytes: &[u8]) -> Option<(&[u8], &[u8])> {
+    let (length, behind) = read_u32(bytes).ok()?;
+    let length = usize::try_from(length).ok()?;
+    Some((behind.get(..length)?, behind.get(length..)?))
+}
+
+/// Units of which 5 has no record left, and 6 takes what is written.
+fn units(alloc: Global) -> Result<MemUnits, UnitFault> {
+    let mut units = MemUnits::new(alloc);
+    units.open_input(5, b"")?;
+    units.open_output(6)?;
+    Ok(units)
+}
+
+/// What there is to tell of a module.
+fn told_of(alloc: Global, module: &[u8]) -> Told<'static> {
+    let Ok(mut units) = units(alloc) else {
+        return Told::NoMemory;
+    };
+    match run_with_card(alloc, module, &mut units, STEPS) {
+        Ok(ran) => Told::Ran(ran),
+        Err(fault) => Told::BadModule(fault),
+    }
+}
+
+/// Prints what is told of a module, and the exit status as a line of its own.
+fn print<R: Print + AllocGlobal>(rt: &R, told: &Told<'_>) -> Result<(), Told<'static>> {
+    let mut lines = Vec::new(rt.alloc());
+    let Ok(status) = report(told, &mut lines) else {
+        return Err(Told::NoMemory);
+    };
+    if writeln!(lines, "{status}").is_err() {
+        return Err(Told::NoMemory);
+    }
+    match rt.write_all(&lines) {
+        Ok(()) => Ok(()),
+        Err(_) => Err(Told::CannotWrite("a unit")),
+    }
+}
+
+/// Runs the modules of a file one after another, each behind its length in four bytes.
+pub(crate) fn run_each<R: Files + Print + AllocGlobal>(
+    rt: &R,
+    file: &str,
+) -> Result<(), Told<'static>> {
+    let Ok(bytes) = fs::read(rt, file) else {
+        return Err(Told::CannotRead("the modules"));
+    };
+    let mut rest = bytes.as_slice();
+    for _ in 0..bytes.len() {
+        let Some((module, behind)) = first(rest) else {
+            break;
+        };
+        print(rt, &told_of(rt.alloc(), module))?;
+        rest = behind;
+    }
+    Ok(())
+}
