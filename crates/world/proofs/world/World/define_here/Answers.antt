@@ -2,7 +2,7 @@ use Rattle.std.proofs.Common.{◌∙◌}
 use Rattle.std.proofs.lemmas.Result.{on_ok_weaker}
 use Rattle.world.specs.Held.{world_of}
 use Rattle.world.proofs.Tables.{defined_is}
-use Rattle.world.proofs.world.World.define.Goals as goal
+use Rattle.world.proofs.world.World.define_here.Goals as goal
 
 pub returns-clause-ok : goal.returns-clause-ok
 returns-clause-ok c =
