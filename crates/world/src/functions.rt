@@ -192,6 +192,13 @@ impl World {
         Ok(slots)
     }
 
+    // Notes where the function of a name will stand, whose variable stands in a slot.
+    fn note_function(&mut self, name: &Text, slot: u32) -> Result<(), AllocError>
+        ensures { self.new ≡ self.old }
+    {
+        self.functions.note(name, slot)
+    }
+
     // Makes a function, as `define` does.
     fn define_here(
         &mut self,
@@ -218,8 +225,7 @@ impl World {
         ensures err { OnErr result (self.new ≡ self.old) }
     {
         let slots = self.slots_of(prototype.names())?;
-        self.functions
-            .note(prototype.name(), slot_at(slots.as_slice(), 0))?;
+        self.note_function(prototype.name(), slot_at(slots.as_slice(), 0))?;
         let prototype = prototype.with_slots(self.alloc(), slots)?;
         self.define_here(entry, prototype)
     }
