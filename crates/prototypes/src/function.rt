@@ -101,11 +101,7 @@ impl FunctionPrototype {
     /// The slots of the locals.
     pub fn local_slots(&self) -> &[u32] {
         let parts = self.parts.as_ref();
-        parts
-            .slots
-            .as_slice()
-            .get(parts.arity + 1..)
-            .unwrap_or(&[])
+        parts.slots.as_slice().get(parts.arity + 1..).unwrap_or(&[])
     }
 
     /// The same prototype with these slots. One that is shared keeps those that it has.

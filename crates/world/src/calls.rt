@@ -84,12 +84,7 @@ impl World {
     }
 
     // Puts the values of variables at the end. Reads no unit.
-    fn save(
-        &self,
-        names: &[Text],
-        slots: &[u32],
-        saved: &mut Vec<Value>,
-    ) -> Result<(), AllocError>
+    fn save(&self, names: &[Text], slots: &[u32], saved: &mut Vec<Value>) -> Result<(), AllocError>
         ensures { OnOk result (AreSaved names.now saved.old.items saved.new.items self.now) }
     {
         for (number, name) in names.iter().enumerate() {
@@ -99,12 +94,7 @@ impl World {
     }
 
     // Each variable gets its argument; a missing one is null.
-    fn bind(
-        &mut self,
-        names: &[Text],
-        slots: &[u32],
-        arguments: &[Value],
-    ) -> Result<(), AllocError>
+    fn bind(&mut self, names: &[Text], slots: &[u32], arguments: &[Value]) -> Result<(), AllocError>
         ensures { OnOk result ((io : Io)
             → world_of self.new io ≡ bind_arguments names.now (map value_of arguments.now) (world_of self.old io)) }
     {
