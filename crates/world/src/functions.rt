@@ -74,6 +74,23 @@ impl Model for FunctionTable {
     ghost invariant = { λ t. (x : Bytes) → IfNamed x (function_at x t.functions.entries) };
 }
 
+// The function of a name, which stands in this place or else where the look-up finds it.
+#[inline]
+fn find<'a>(
+    functions: &'a IndexMap<Text, Function>,
+    place: u32,
+    name: &Text,
+) -> Option<&'a Function>
+    ensures { option_copied result ≡ function_at name.now functions.now.entries }
+{
+    if let Some((key, function)) = functions.get_index(place as usize) {
+        if key == name {
+            return Some(function);
+        }
+    }
+    functions.get(name)
+}
+
 impl FunctionTable {
     /// Without functions. Takes no memory.
     pub(crate) fn new(alloc: Global) -> FunctionTable
@@ -85,26 +102,13 @@ impl FunctionTable {
         }
     }
 
-    // The function of a name, which stands where the slot of its variable tells or else where the look-up finds it.
-    #[inline]
-    fn find(&self, name: &Text, slot: u32) -> Option<&Function>
-        ensures { option_copied result ≡ function_at name.now self.now }
-    {
-        let place = slot_at(self.places.as_slice(), slot as usize);
-        if let Some((key, function)) = self.functions.get_index(place as usize) {
-            if key == name {
-                return Some(function);
-            }
-        }
-        self.functions.get(name)
-    }
-
     // The function of a name, whose variable may stand in a slot.
     fn get(&self, name: &Text, slot: u32) -> Option<&Function>
         ensures function { option_copied result ≡ function_at name.now self.now }
         ensures named { IfSome result (λ f. IsNamed name.now f.now) }
     {
-        self.find(name, slot)
+        let place = slot_at(self.places.as_slice(), slot as usize);
+        find(&self.functions, place, name)
     }
 
     // Notes where the function of a name will stand, whose variable stands in a slot.
