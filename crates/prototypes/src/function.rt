@@ -6,23 +6,31 @@ ghost use Rattle.prototypes.specs.Views.{names_of};
 
 use crate::names::{are_distinct_names, is_primitive};
 use crate::parts::{cut, push_listed, push_name};
-use aggregates::Names;
 use model::Level;
 use std::alloc::{AllocError, Global};
 use std::marker::Model;
+use std::rc::Rc;
 use strings::Text;
+
+// What the clones of a prototype share.
+#[derive(Drop)]
+struct Parts {
+    // The function's name, the arguments and then the locals.
+    names: Vec<Text>,
+    // How many arguments there are.
+    arity: usize,
+    // Where the variables of the names may stand, in the same order. They are hints.
+    slots: Vec<u32>,
+}
 
 /// What DEFINE is told: a function's name, its arguments and its locals. Its clones share them.
 pub struct FunctionPrototype {
-    // The function's name, the arguments and then the locals.
-    names: Names,
-    // How many arguments there are.
-    arity: usize,
+    parts: Rc<Parts>,
 }
 
 impl Drop for FunctionPrototype {
     fn drop(self) {
-        let FunctionPrototype { names: _, arity: _ } = self;
+        let FunctionPrototype { parts: _ } = self;
     }
 }
 
@@ -33,9 +41,9 @@ impl Model for FunctionPrototype {
 
     ghost Value = { model.FunctionPrototype };
 
-    ghost view = { λ f. function_of f.names f.arity };
+    ghost view = { λ f. function_of f.parts.value.names.items f.parts.value.arity };
 
-    ghost invariant = { λ f. f.arity < length f.names };
+    ghost invariant = { λ f. f.parts.value.arity < length f.parts.value.names.items };
 }
 
 impl Clone for FunctionPrototype {
@@ -44,10 +52,8 @@ impl Clone for FunctionPrototype {
     ghost is_clone = { λ prototype copy. copy ≡ prototype };
 
     fn clone(&self) -> Result<FunctionPrototype, AllocError> {
-        Ok(FunctionPrototype {
-            names: self.names.clone()?,
-            arity: self.arity,
-        })
+        let parts = self.parts.clone()?;
+        Ok(FunctionPrototype { parts })
     }
 }
 
@@ -56,28 +62,62 @@ impl FunctionPrototype {
     pub fn name(&self) -> &Text
         ensures { result.now ≡ self.now.name }
     {
-        &self.names.as_slice()[0]
+        &self.names()[0]
     }
 
     /// The function's name, its arguments and its locals.
     pub fn names(&self) -> &[Text]
         ensures { result.now ≡ names_of self.now }
     {
-        self.names.as_slice()
+        self.parts.as_ref().names.as_slice()
     }
 
     /// The arguments.
     pub fn arguments(&self) -> &[Text]
         ensures { result.now ≡ self.now.arguments }
     {
-        &self.names.as_slice()[1..][..self.arity]
+        let parts = self.parts.as_ref();
+        &parts.names.as_slice()[1..][..parts.arity]
     }
 
     /// The locals.
     pub fn locals(&self) -> &[Text]
         ensures { result.now ≡ self.now.locals }
     {
-        &self.names.as_slice()[self.arity + 1..]
+        let parts = self.parts.as_ref();
+        &parts.names.as_slice()[parts.arity + 1..]
+    }
+
+    /// Where the variables of the names may stand, in the order of `names`. They are hints, of which some may be missing.
+    pub fn slots(&self) -> &[u32] {
+        self.parts.as_ref().slots.as_slice()
+    }
+
+    /// The slots of the arguments.
+    pub fn argument_slots(&self) -> &[u32] {
+        self.slots().get(1..).unwrap_or(&[])
+    }
+
+    /// The slots of the locals.
+    pub fn local_slots(&self) -> &[u32] {
+        let parts = self.parts.as_ref();
+        parts.slots.as_slice().get(parts.arity + 1..).unwrap_or(&[])
+    }
+
+    /// The same prototype with these slots. One that is shared keeps those that it has.
+    pub fn with_slots(self, alloc: Global, slots: Vec<u32>) -> Result<FunctionPrototype, AllocError>
+        ensures { IfOk result (λ prototype. prototype ≡ self) }
+    {
+        let FunctionPrototype { parts } = self;
+        let parts = match Rc::try_unwrap(parts) {
+            Ok(parts) => {
+                let mut parts = parts;
+                parts.slots = slots;
+                Rc::new(alloc, parts)?
+            }
+            Err(parts) => parts,
+        };
+        Ok(FunctionPrototype { parts })
     }
 
     // Whether a function may have this prototype at a level.
@@ -110,10 +150,13 @@ fn prototype_of(
     push_listed(alloc, arguments, &mut names)?;
     let count = names.len();
     push_listed(alloc, locals, &mut names)?;
-    Ok(FunctionPrototype {
-        names: Names::new(alloc, names)?,
+    let parts = Parts {
+        names,
         arity: count - 1,
-    })
+        slots: Vec::new(alloc),
+    };
+    let shared = Rc::new(alloc, parts)?;
+    Ok(FunctionPrototype { parts: shared })
 }
 
 // The parts of a prototype, whether they are names or not.

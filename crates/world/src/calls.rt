@@ -63,42 +63,56 @@ impl Given {
     }
 }
 
+// The slot of a name among the slots of names, if it is known.
+#[inline]
+pub(crate) fn slot_at(slots: &[u32], number: usize) -> u32 {
+    match slots.get(number) {
+        Some(slot) => *slot,
+        None => NO_SLOT,
+    }
+}
+
 impl World {
     // A variable's value, which is null at first.
-    fn value(&self, name: &Text) -> Result<Value, AllocError>
+    fn value(&self, name: &Text, slot: u32) -> Result<Value, AllocError>
         ensures { IfOk result (λ value. value_of value ≡ value_in (variable_at name.now self.now.variables)) }
     {
-        match self.variable(name, NO_SLOT) {
+        match self.variable(name, slot) {
             Some(variable) => variable.value.clone(),
             None => Ok(Value::null()),
         }
     }
 
     // Puts the values of variables at the end. Reads no unit.
-    fn save(&self, names: &[Text], saved: &mut Vec<Value>) -> Result<(), AllocError>
+    fn save(&self, names: &[Text], slots: &[u32], saved: &mut Vec<Value>) -> Result<(), AllocError>
         ensures { OnOk result (AreSaved names.now saved.old.items saved.new.items self.now) }
     {
-        for name in names {
-            saved.push(self.value(name)?)?;
+        for (number, name) in names.iter().enumerate() {
+            saved.push(self.value(name, slot_at(slots, number))?)?;
         }
         Ok(())
     }
 
     // Each variable gets its argument; a missing one is null.
-    fn bind(&mut self, names: &[Text], arguments: &[Value]) -> Result<(), AllocError>
+    fn bind(&mut self, names: &[Text], slots: &[u32], arguments: &[Value]) -> Result<(), AllocError>
         ensures { OnOk result ((io : Io)
             → world_of self.new io ≡ bind_arguments names.now (map value_of arguments.now) (world_of self.old io)) }
     {
         let null = Value::null();
         for (number, name) in names.iter().enumerate() {
             let value = argument(arguments, number, &null).clone()?;
-            let _unit = self.set(name, NO_SLOT, value)?;
+            let _unit = self.set(name, slot_at(slots, number), value)?;
         }
         Ok(())
     }
 
     // Gives the variables back the values at the end, the last one first.
-    fn restore(&mut self, names: &[Text], saved: &mut Vec<Value>) -> Result<(), AllocError>
+    fn restore(
+        &mut self,
+        names: &[Text],
+        slots: &[u32],
+        saved: &mut Vec<Value>,
+    ) -> Result<(), AllocError>
         ensures values { OnOk result (saved.new.items ≡ saved_below names.now saved.old.items) }
         ensures restored { OnOk result ((io : Io)
             → world_of self.new io
@@ -110,7 +124,7 @@ impl World {
             let Some(value) = saved.pop() else {
                 unreachable!();
             };
-            let _unit = self.set(&names[count], NO_SLOT, value)?;
+            let _unit = self.set(&names[count], slot_at(slots, count), value)?;
         }
         Ok(())
     }
@@ -131,10 +145,11 @@ impl World {
     {
         let statement = self.statement();
         let level = self.level();
-        self.save(prototype.names(), saved)?;
-        let _unit = self.set(prototype.name(), NO_SLOT, Value::null())?;
-        self.bind(prototype.arguments(), arguments)?;
-        self.bind(prototype.locals(), &[])?;
+        self.save(prototype.names(), prototype.slots(), saved)?;
+        let slot = slot_at(prototype.slots(), 0);
+        let _unit = self.set(prototype.name(), slot, Value::null())?;
+        self.bind(prototype.arguments(), prototype.argument_slots(), arguments)?;
+        self.bind(prototype.locals(), prototype.local_slots(), &[])?;
         self.deepen();
         Ok(Kept {
             prototype,
@@ -144,16 +159,22 @@ impl World {
     }
 
     // What the end of a call gives.
-    fn given(&self, alloc: Global, kind: ReturnKind, name: &Text) -> Result<Option<Given>, Fault>
+    fn given(
+        &self,
+        alloc: Global,
+        kind: ReturnKind,
+        name: &Text,
+        slot: u32,
+    ) -> Result<Option<Given>, Fault>
         ensures given { (io : Io) (c : calls.Kept PCode ℕ) → c.name ≡ name.now
             → LeavesTo result (world_of self.now io)
             (back_to_caller kind c (world_of self.now io)) (leave_op kind c (world_of self.now io)) }
         ensures stop { IfStopped result (λ stop. stop ≡ NoMemory) }
     {
         match kind {
-            ReturnKind::Return => Ok(Some(Given::Value(self.value(name)?))),
+            ReturnKind::Return => Ok(Some(Given::Value(self.value(name, slot)?))),
             ReturnKind::FReturn => Ok(None),
-            ReturnKind::NReturn => match self.value(name)?.to_name(alloc) {
+            ReturnKind::NReturn => match self.value(name, slot)?.to_name(alloc) {
                 Ok(name) => Ok(Some(Given::Name(name))),
                 Err(Fault::Error(_)) => Err(Fault::Error(ErrorCode::NotAName)),
                 Err(stop) => Err(stop),
@@ -173,7 +194,7 @@ impl World {
         ensures back { OnOk result ((io : Io)
             → world_of self.new io ≡ back_to_caller kind (kept_with kept.now saved.old.items) (world_of self.old io)) }
     {
-        self.restore(kept.prototype.names(), saved)?;
+        self.restore(kept.prototype.names(), kept.prototype.slots(), saved)?;
         self.put_back(kind, kept.statement, kept.level);
         Ok(())
     }
@@ -193,7 +214,8 @@ impl World {
             (leave_op kind (kept_with kept.now saved.old.items) (world_of self.old io)) }
         ensures stop { IfStopped result (λ stop. stop ≡ NoMemory) }
     {
-        let given = self.given(alloc, kind, kept.prototype.name())?;
+        let slot = slot_at(kept.prototype.slots(), 0);
+        let given = self.given(alloc, kind, kept.prototype.name(), slot)?;
         self.back(kind, kept, saved)?;
         Ok(given)
     }

@@ -11,7 +11,8 @@ ghost use Rattle.model.specs.Language.Primitives.{define_op, entry_or, set_funct
 ghost use Rattle.world.specs.Functions.{function_of, function_at, IsNamed, IfNamed};
 ghost use Rattle.world.specs.Held.{world_of};
 
-use crate::world::World;
+use crate::calls::slot_at;
+use crate::world::{NO_SLOT, World};
 use aggregates::Names;
 use indexmap::IndexMap;
 use prototypes::FunctionPrototype;
@@ -49,11 +50,16 @@ impl Clone for Function {
 /// Functions by their names.
 pub(crate) struct FunctionTable {
     functions: IndexMap<Text, Function>,
+    // Where the function that has the name of a variable may stand, by the variable's slot. They are hints.
+    places: Vec<u32>,
 }
 
 impl Drop for FunctionTable {
     fn drop(self) {
-        let FunctionTable { functions: _ } = self;
+        let FunctionTable {
+            functions: _,
+            places: _,
+        } = self;
     }
 }
 
@@ -68,6 +74,23 @@ impl Model for FunctionTable {
     ghost invariant = { λ t. (x : Bytes) → IfNamed x (function_at x t.functions.entries) };
 }
 
+// The function of a name, which stands in this place or else where the look-up finds it.
+#[inline]
+fn find<'a>(
+    functions: &'a IndexMap<Text, Function>,
+    place: u32,
+    name: &Text,
+) -> Option<&'a Function>
+    ensures { option_copied result ≡ function_at name.now functions.now.entries }
+{
+    if let Some((key, function)) = functions.get_index(place as usize) {
+        if key == name {
+            return Some(function);
+        }
+    }
+    functions.get(name)
+}
+
 impl FunctionTable {
     /// Without functions. Takes no memory.
     pub(crate) fn new(alloc: Global) -> FunctionTable
@@ -75,15 +98,36 @@ impl FunctionTable {
     {
         FunctionTable {
             functions: IndexMap::new(alloc),
+            places: Vec::new(alloc),
         }
     }
 
-    // The function of a name.
-    fn get(&self, name: &Text) -> Option<&Function>
+    // The function of a name, whose variable may stand in a slot.
+    fn get(&self, name: &Text, slot: u32) -> Option<&Function>
         ensures function { option_copied result ≡ function_at name.now self.now }
         ensures named { IfSome result (λ f. IsNamed name.now f.now) }
     {
-        self.functions.get(name)
+        let place = slot_at(self.places.as_slice(), slot as usize);
+        find(&self.functions, place, name)
+    }
+
+    // Notes where the function of a name will stand, whose variable stands in a slot.
+    fn note(&mut self, name: &Text, slot: u32) -> Result<(), AllocError>
+        ensures { self.new ≡ self.old }
+    {
+        if slot == NO_SLOT {
+            return Ok(());
+        }
+        let place = match self.functions.get_index_of(name) {
+            Some(place) => place,
+            None => self.functions.len(),
+        };
+        let at = slot as usize;
+        if at >= self.places.len() {
+            self.places.resize(at + 1, NO_SLOT)?;
+        }
+        self.places[at] = u32::try_from(place).unwrap_or(NO_SLOT);
+        Ok(())
     }
 
     // Puts a function in the place of the one that has its name.
@@ -121,13 +165,13 @@ fn label_or(entry: Option<Text>, name: &Text) -> Result<Text, AllocError>
 }
 
 impl World {
-    /// The function of a name, if it has one that isn't primitive.
-    pub fn function(&self, name: &Text) -> Result<Option<Function>, AllocError>
+    /// The function of a name, if it has one that isn't primitive. The variable of the name may stand in the slot.
+    pub fn function(&self, name: &Text, slot: u32) -> Result<Option<Function>, AllocError>
         ensures function { IfOk result (λ found. (io : Io)
             → option_map function_of found ≡ (world_of self.now io).plain.functions name.now) }
         ensures named { IfOk result (λ found. IfNamed name.now found) }
     {
-        match self.functions.get(name) {
+        match self.functions.get(name, slot) {
             Some(function) => Ok(Some(function.clone()?)),
             None => Ok(None),
         }
@@ -143,8 +187,24 @@ impl World {
         self.functions.put(name, function)
     }
 
-    /// Makes a function, which begins at a label, or else at the label of its own name.
-    pub fn define(
+    // The slots of the variables that are there.
+    fn slots_of(&self, names: &[Text]) -> Result<Vec<u32>, AllocError> {
+        let mut slots = Vec::new(self.alloc());
+        for name in names {
+            slots.push(self.slot_of(name))?;
+        }
+        Ok(slots)
+    }
+
+    // Notes where the function of a name will stand, whose variable stands in a slot.
+    fn note_function(&mut self, name: &Text, slot: u32) -> Result<(), AllocError>
+        ensures { self.new ≡ self.old }
+    {
+        self.functions.note(name, slot)
+    }
+
+    // Makes a function, as `define` does.
+    fn define_here(
         &mut self,
         entry: Option<Text>,
         prototype: FunctionPrototype,
@@ -156,5 +216,21 @@ impl World {
         let name = prototype.name().clone()?;
         let label = label_or(entry, &name)?;
         self.put_function(name, Function::Defined(label, prototype))
+    }
+
+    /// Makes a function, which begins at a label, or else at the label of its own name.
+    pub fn define(
+        &mut self,
+        entry: Option<Text>,
+        prototype: FunctionPrototype,
+    ) -> Result<(), AllocError>
+        ensures ok { OnOk result ((io : Io)
+            → define_op entry (Some prototype) (world_of self.old io) ≡ Gives (Str []) (world_of self.new io)) }
+        ensures err { OnErr result (self.new ≡ self.old) }
+    {
+        let slots = self.slots_of(prototype.names())?;
+        self.note_function(prototype.name(), slot_at(slots.as_slice(), 0))?;
+        let prototype = prototype.with_slots(self.alloc(), slots)?;
+        self.define_here(entry, prototype)
     }
 }

@@ -212,6 +212,19 @@ impl World {
         Ok(slot)
     }
 
+    /// Where memory comes from.
+    pub(crate) fn alloc(&self) -> Global {
+        *self.variables.allocator()
+    }
+
+    /// The slot of a variable, if it is there and its slot is known.
+    pub(crate) fn slot_of(&self, name: &Text) -> u32 {
+        match self.variables.get_index_of(name) {
+            Some(slot) => u32::try_from(slot).unwrap_or(NO_SLOT),
+            None => NO_SLOT,
+        }
+    }
+
     // Where a variable stands, which is its slot or else what the look-up finds.
     #[inline]
     fn slot(&self, name: &Text, slot: u32) -> Option<usize>

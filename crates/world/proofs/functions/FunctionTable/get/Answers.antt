@@ -3,4 +3,4 @@ use Rattle.world.proofs.Tables.{named_there}
 use Rattle.world.proofs.functions.FunctionTable.get.Goals as goal
 
 pub returns-clause-named : goal.returns-clause-named
-returns-clause-named c = named_there c.args.name.now c.get.result (function_at c.args.name.now c.self.inside.functions.entries) c.get.ensures.value (c.self.invariant c.args.name.now)
+returns-clause-named c = named_there c.args.name.now c.find.result (function_at c.args.name.now c.self.inside.functions.entries) c.find.ensures (c.self.invariant c.args.name.now)
