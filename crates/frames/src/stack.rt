@@ -44,7 +44,9 @@ impl<T: Drop> Stack<T> {
         ensures ok { OnOk result (self.new ≡ record self.old { top = item ∷ self.old.top }) }
         ensures err { OnErr result (self.new ≡ self.old) }
     {
-        self.items.reserve(1)?;
+        if self.items.len() >= self.items.capacity() {
+            self.items.reserve(1)?;
+        }
         self.items.push_reserved(item);
         Ok(())
     }

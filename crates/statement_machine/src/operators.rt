@@ -36,7 +36,7 @@ impl State {
         let right = pop_value(&mut self.operands);
         let left = pop_value(&mut self.operands);
         match arith(op, &left, &right) {
-            Ok(value) => self.put(value, next),
+            Ok(n) => self.put(Value::Integer(n), next),
             Err(code) => Err(Exit::Fault(Fault::Error(code))),
         }
     }

@@ -3,20 +3,31 @@
 ghost use Rattle.std.specs.Prelude.{◌≡◌, ◌≤ℤ◌, pos};
 ghost use Rattle.model.specs.Machine.Steps.{MW};
 ghost use Rattle.model.specs.Language.Operators.{arith_op, arith_of, sign_op, sign_of, quotient, raised, power};
+ghost use Rattle.model.specs.Language.Values.{Int};
 ghost use Rattle.world.specs.Values.{value_of};
 ghost use Rattle.world.specs.Answers.{answer_map, conv_of, op_of};
 
 use crate::value::Value;
 use model::{ArithOp, ErrorCode, SignOp};
 
-/// A sum, a difference, a product, a quotient or a power.
-pub fn arith(op: ArithOp, left: &Value, right: &Value) -> Result<Value, ErrorCode>
-    ensures { (w : MW) → op_of (answer_map value_of result) w
+/// A sum, a difference, a product, a quotient or a power, which is an integer.
+#[inline(always)]
+pub fn arith(op: ArithOp, left: &Value, right: &Value) -> Result<i64, ErrorCode>
+    ensures { (w : MW) → op_of (answer_map Int result) w
         ≡ arith_op op (value_of left.now) (value_of right.now) w }
 {
     let a = left.to_int()?;
     let b = right.to_int()?;
-    Ok(Value::Integer(arith_of(op, a, b)?))
+    arith_of(op, a, b)
+}
+
+/// The same of a value and an integer.
+#[inline(always)]
+pub fn arith_with(op: ArithOp, left: &Value, right: i64) -> Result<i64, ErrorCode>
+    ensures { (w : MW) → op_of (answer_map Int result) w ≡ arith_op op (value_of left.now) (Int right) w }
+{
+    let a = left.to_int()?;
+    arith_of(op, a, right)
 }
 
 /// The integer of a value, or the one with the other sign.
@@ -27,6 +38,7 @@ pub fn sign(op: SignOp, value: &Value) -> Result<Value, ErrorCode>
     Ok(Value::Integer(sign_of(op, a)?))
 }
 
+#[inline(always)]
 fn arith_of(op: ArithOp, a: i64, b: i64) -> Result<i64, ErrorCode>
     ensures { conv_of result ≡ arith_of op a b }
 {
@@ -56,6 +68,7 @@ fn quotient(a: i64, b: i64) -> Result<i64, ErrorCode>
 }
 
 // A power whose exponent isn't negative.
+#[inline(never)]
 fn raised(base: i64, exponent: i64) -> Result<i64, ErrorCode>
     ensures { conv_of result ≡ raised base exponent }
 {

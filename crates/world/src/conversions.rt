@@ -30,6 +30,7 @@ impl Value {
     }
 
     /// The integer that it is, or that its digits stand for. Takes no memory.
+    #[inline(always)]
     pub fn to_int(&self) -> Result<i64, ErrorCode>
         ensures { conv_of result ≡ to_integer (value_of self.now) }
     {
@@ -121,6 +122,7 @@ impl Value {
 }
 
 // The integer that a text stands for; the null string stands for 0.
+#[inline(never)]
 fn integer_of(text: &[u8]) -> Result<i64, ErrorCode>
     ensures { conv_of result ≡ read_integer text.now }
 {

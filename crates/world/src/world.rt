@@ -67,9 +67,14 @@ impl Variable {
         }
     }
 
+    #[inline(always)]
     fn set(&mut self, value: Value)
         ensures { self.new ≡ record self.old { value = value } }
     {
+        if let (Value::Integer(old), Value::Integer(n)) = (&mut self.value, &value) {
+            *old = *n;
+            return;
+        }
         self.value = value;
     }
 
