@@ -72,13 +72,25 @@ pub(crate) fn slot_at(slots: &[u32], number: usize) -> u32 {
     }
 }
 
+// A copy of a value, of which an integer is the usual one.
+#[inline(always)]
+fn copy_of(value: &Value) -> Result<Value, AllocError>
+    ensures { IfOk result (λ copy. copy ≡ value.now) }
+{
+    match value {
+        Value::Integer(n) => Ok(Value::Integer(*n)),
+        _ => value.clone(),
+    }
+}
+
 impl World {
     // A variable's value, which is null at first.
+    #[inline(always)]
     fn value(&self, name: &Text, slot: u32) -> Result<Value, AllocError>
         ensures { IfOk result (λ value. value_of value ≡ value_in (variable_at name.now self.now.variables)) }
     {
         match self.variable(name, slot) {
-            Some(variable) => variable.value.clone(),
+            Some(variable) => copy_of(&variable.value),
             None => Ok(Value::null()),
         }
     }
@@ -100,7 +112,7 @@ impl World {
     {
         let null = Value::null();
         for (number, name) in names.iter().enumerate() {
-            let value = argument(arguments, number, &null).clone()?;
+            let value = copy_of(argument(arguments, number, &null))?;
             let _unit = self.set(name, slot_at(slots, number), value)?;
         }
         Ok(())

@@ -1,7 +1,7 @@
 //! The world of a run.
 
 ghost use Rattle.std.specs.Prelude.{◌≡◌, [], pos, Some, None, is_some, option_copied};
-ghost use Rattle.std.specs.Prelude.{IfOk, IfSome, true, OnOk, OnErr, if◌then◌else◌};
+ghost use Rattle.std.specs.Prelude.{IfOk, IfSome, true, false, OnOk, OnErr, if◌then◌else◌};
 ghost use Rattle.model.specs.Deck.Target as target;
 ghost use Rattle.model.specs.Language.Conversions.{Gives};
 ghost use Rattle.model.specs.Language.Io.{Io};
@@ -230,8 +230,18 @@ impl World {
         }
     }
 
+    // Where a variable stands, by a look-up.
+    #[cold]
+    #[inline(never)]
+    fn find_slot(&self, name: &Text) -> Option<usize>
+        ensures there { is_some result ≡ is_some (variable_at name.now self.now.variables) }
+        ensures entry { IfSome result (λ at. StandsIn name.now at self.now.variables) }
+    {
+        self.variables.get_index_of(name)
+    }
+
     // Where a variable stands, which is its slot or else what the look-up finds.
-    #[inline]
+    #[inline(always)]
     fn slot(&self, name: &Text, slot: u32) -> Option<usize>
         ensures there { is_some result ≡ is_some (variable_at name.now self.now.variables) }
         ensures entry { IfSome result (λ at. StandsIn name.now at self.now.variables) }
@@ -242,7 +252,16 @@ impl World {
                 return Some(slot);
             }
         }
-        self.variables.get_index_of(name)
+        self.find_slot(name)
+    }
+
+    // A variable, by a look-up.
+    #[cold]
+    #[inline(never)]
+    fn find_variable(&self, name: &Text) -> Option<&Variable>
+        ensures { option_copied result ≡ variable_at name.now self.now.variables }
+    {
+        self.variables.get(name)
     }
 
     /// A variable, which stands in its slot or else where the look-up finds it.
@@ -255,7 +274,7 @@ impl World {
                 return Some(variable);
             }
         }
-        self.variables.get(name)
+        self.find_variable(name)
     }
 
     /// The value of the variable in a slot, if it has this name and reads from no unit.
@@ -313,6 +332,21 @@ impl World {
         }
     }
 
+    // Puts a variable in that isn't there.
+    #[cold]
+    #[inline(never)]
+    fn set_new(&mut self, name: &Text, value: Value) -> Result<(), AllocError>
+        requires { is_some (variable_at name.now self.old.variables) ≡ false }
+        ensures set { OnOk result
+            ((io : Io) → world_of self.new io
+            ≡ set_var name.now (value_of value) (world_of self.old io)) }
+        ensures err { OnErr result (self.new ≡ self.old) }
+    {
+        let variable = Variable::holding(value);
+        let _none = self.variables.insert(name.clone()?, variable)?;
+        Ok(())
+    }
+
     /// Gives a variable another value, and tells the unit that it writes to.
     pub(crate) fn set(
         &mut self,
@@ -328,8 +362,7 @@ impl World {
         ensures err { OnErr result (self.new ≡ self.old) }
     {
         let Some(at) = self.slot(name, slot) else {
-            let variable = Variable::holding(value);
-            let _none = self.variables.insert(name.clone()?, variable)?;
+            self.set_new(name, value)?;
             return Ok(None);
         };
         match self.variables.get_index_mut(at) {

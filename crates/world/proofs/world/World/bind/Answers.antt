@@ -7,7 +7,7 @@ use Rattle.world.proofs.world.World.bind.Goals as goal
 pub loop-number-preserved : goal.loop-number-preserved
 loop-number-preserved c io =
     bind_turn c.args.names.now (map value_of c.args.arguments.now) c.loop-number.number c.index-names-number.result (value_of c.in_ok-value.value) (world_of c.loop-number.self io) (world_of c.set.new.self io)
-    (omega arith) c.index-names-number.is (ap value_of c.in_ok-value.ensures.cases ∙ c.argument.ensures) (c.in_ok-_unit.ensures.set io)
+    (omega arith) c.index-names-number.is (ap value_of c.in_ok-value.ensures ∙ c.argument.ensures) (c.in_ok-_unit.ensures.set io)
     ∙ c.loop-number.invariant io
 
 pub returns : goal.returns
