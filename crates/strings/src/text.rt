@@ -396,7 +396,18 @@ impl PartialEq for Text {
 
     ghost laws = { partial_equiv_from_equiv nat_list_eq_equiv };
 
+    #[inline]
     fn eq(&self, other: &Text) -> bool {
+        if self.len() != other.len() {
+            return false;
+        }
+        if let Bytes::Own { array, .. } = &self.bytes {
+            if let Bytes::Own { array: others, .. } = &other.bytes {
+                if *array == *others {
+                    return true;
+                }
+            }
+        }
         self.as_slice() == other.as_slice()
     }
 }
