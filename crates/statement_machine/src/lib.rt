@@ -11,6 +11,7 @@
 //! CALLING.md has the clauses, and how an instruction is added.
 #![tactic(auto)]
 
+mod alone;
 mod callers;
 mod calls;
 mod elements;
