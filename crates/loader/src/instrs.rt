@@ -39,14 +39,14 @@ fn has_statement(statements: &[u32], at: u32) -> bool
 }
 
 // Whether an offset is one that the instruction at another may lead to.
-fn is_target(placed: &PlacedCode, at: u32, target: u32) -> bool
+fn is_target(placed: &PlacedCode<'_>, at: u32, target: u32) -> bool
     ensures { result ≡ (nat_lt at target && is_fetched (fetch_from 0 placed.now target)) }
 {
     at < target && placed.begins(target)
 }
 
 // Whether an instruction's targets and its own place are as they must be.
-fn place_fits(image: &ImageView<'_>, placed: &PlacedCode, at: u32, instr: Instr) -> bool
+fn place_fits(image: &ImageView<'_>, placed: &PlacedCode<'_>, at: u32, instr: Instr) -> bool
     requires spelt { IsImage image.now }
     requires placed { placed.now ≡ image.now.code }
     ensures { result ≡ place_fits image.now at instr }
@@ -89,7 +89,7 @@ fn begins_last(image: &ImageView<'_>, at: u32) -> bool
 // The rule that the instruction at an offset breaks, in code of so many bytes.
 fn instr_rule(
     image: &ImageView<'_>,
-    placed: &PlacedCode,
+    placed: &PlacedCode<'_>,
     at: u32,
     next: u32,
     size: u32,
@@ -113,23 +113,10 @@ fn instr_rule(
     None
 }
 
-// How many bytes the code has.
-#[tactic(auto, using(crate::proofs::Spelt::short))]
-fn size_of(image: &ImageView<'_>) -> u32
-    requires { IsImage image.now }
-    ensures { result ≡ code_size image.now.code }
-{
-    let mut size = 0;
-    for instr in image.code() {
-        size += instr.size();
-    }
-    size
-}
-
 /// The first fault of the instructions of the code, which begins at a place.
 pub(crate) fn code_fault(
     image: &ImageView<'_>,
-    placed: &PlacedCode,
+    placed: &PlacedCode<'_>,
     place: usize,
 ) -> Option<ModuleFault>
     requires spelt { IsImage image.now }
@@ -137,7 +124,7 @@ pub(crate) fn code_fault(
     requires there { place + most_code < 2 ^ 60 }
     ensures { result ≡ code_fault place image.now }
 {
-    let size = size_of(image);
+    let size = placed.bytes();
     let mut at = 0;
     for instr in image.code() {
         let next = at + instr.size();

@@ -21,7 +21,7 @@ fn part_fault(
     alloc: Global,
     version: Version,
     image: &ImageView<'_>,
-    placed: &PlacedCode,
+    placed: &PlacedCode<'_>,
 ) -> Result<Option<ModuleFault>, AllocError>
     requires spelt { IsImage image.now }
     requires placed { placed.now ≡ image.now.code }
@@ -79,7 +79,7 @@ pub(crate) fn fault_of(
     alloc: Global,
     version: Version,
     image: &ImageView<'_>,
-    placed: &PlacedCode,
+    placed: &PlacedCode<'_>,
 ) -> Result<Option<ModuleFault>, AllocError>
     requires spelt { IsImage image.now }
     requires placed { placed.now ≡ image.now.code }

@@ -60,7 +60,7 @@ pub(crate) fn label_map<'a>(
         ≡ statement_labelled image.now.strings image.now.labels name None) }
 {
     let labels = image.labels();
-    let mut found = IndexMap::new(alloc);
+    let mut found = IndexMap::with_capacity(alloc, labels.len())?;
     let mut left = labels.len();
     while left > 0 {
         left -= 1;

@@ -28,7 +28,7 @@ fn judge<'a>(
     let placed = PlacedCode::of(alloc, &image)?;
     match fault_of(alloc, Version::Two, &image, &placed)? {
         Some(fault) => Ok(Err(LoadFault::Module(fault))),
-        None => Ok(Ok(Module::new(alloc, image, &placed)?)),
+        None => Ok(Ok(Module::new(alloc, image, placed)?)),
     }
 }
 

@@ -28,7 +28,7 @@ pub(crate) fn entry_fault(version: Version, image: &ImageView<'_>) -> Option<Mod
 }
 
 // The rule that a statement at an offset breaks, where the last is another.
-fn statement_rule(placed: &PlacedCode, is_last: bool, at: u32) -> Option<ModuleRule>
+fn statement_rule(placed: &PlacedCode<'_>, is_last: bool, at: u32) -> Option<ModuleRule>
     ensures { result ≡ (if is_last then unless NoEnd
         (is_fetched (fetch_from 0 placed.now at)) else unless BadTarget
         (is_begin (fetch_from 0 placed.now at))) }
@@ -43,7 +43,7 @@ fn statement_rule(placed: &PlacedCode, is_last: bool, at: u32) -> Option<ModuleR
 /// The first fault of the statements, which begin at a place.
 pub(crate) fn statement_fault(
     image: &ImageView<'_>,
-    placed: &PlacedCode,
+    placed: &PlacedCode<'_>,
     place: usize,
 ) -> Option<ModuleFault>
     requires spelt { IsImage image.now }
@@ -66,7 +66,7 @@ pub(crate) fn statement_fault(
 /// The first fault of the expressions, which begin at a place.
 pub(crate) fn expression_fault(
     image: &ImageView<'_>,
-    placed: &PlacedCode,
+    placed: &PlacedCode<'_>,
     place: usize,
 ) -> Option<ModuleFault>
     requires spelt { IsImage image.now }
