@@ -5,20 +5,26 @@ ghost use Rattle.std.specs.Prelude.{IfErr, IsErr, OnOk, OnErr, if◌then◌else�
 ghost use Rattle.frames.specs.View.{operands_of};
 ghost use Rattle.frames.specs.Matches.{in_match, matching_of};
 ghost use Rattle.match_machine.specs.Held.{IsQuestion};
-ghost use Rattle.match_machine.specs.View.{event_is, answer_view};
+ghost use Rattle.match_machine.specs.View.{event_is, answer_view, want_of};
+ghost use Rattle.model.specs.Language.Conversions.{answer_of};
 ghost use Rattle.model.specs.Pattern.Patterns.{Running};
 ghost use Rattle.model.specs.Pattern.Steps.{Starting, Over, Lost, event_of, with_more};
 ghost use Rattle.model.specs.Machine.Steps as m;
-ghost use Rattle.model.specs.Machine.Steps.{Module, Frame, MW, found_as, on_event, steps};
+ghost use Rattle.model.specs.Machine.Steps.{Module, Frame, MW, codes_of, found_as, on_event, steps};
+ghost use Rattle.model.specs.declared.run.Stop.TheVariants.{NoMemory};
+ghost use Rattle.world.specs.Answers.{answer_map, Converts, IfStopped};
+ghost use Rattle.world.specs.Values.{value_of};
 
+use crate::answering::answer_of;
+use crate::literal::Literal;
 use crate::operand::Operand;
 use crate::stack::Stack;
-use match_machine::{Answer, Event, Matcher};
+use match_machine::{Answer, Event, Matcher, Want};
 use pattern_compiler::PatCode;
 use std::alloc::{AllocError, Global};
 use std::marker::Model;
 use strings::Text;
-use world::Span;
+use world::{Fault, Span, Value};
 
 // What a match under way holds.
 #[derive(Drop)]
@@ -28,6 +34,8 @@ struct Held {
     place: usize,
     // The subject, if the match leaves what it matched for a replacement.
     replaced: Option<Text>,
+    // The literal that it was last answered.
+    literal: Literal,
 }
 
 /// A match under way, which the operands and the handlers of its statement wait for where they are. What it holds stays
@@ -86,6 +94,7 @@ impl Matching {
             matcher: Matcher::start(alloc, code, subject, anchored),
             place,
             replaced,
+            literal: Literal::null(),
         };
         Ok(Matching {
             held: Box::new(alloc, held)?,
@@ -132,6 +141,22 @@ impl Matching {
         Ok((event, count))
     }
 
+    /// The answer that a value is to a match that wants a pattern, a count or bytes. A string that answers a match again
+    /// takes no memory.
+    pub fn answer(&mut self, alloc: Global, want: Want, value: &Value) -> Result<Answer, Fault>
+        ensures answer { Converts (answer_map answer_view result)
+            (answer_of codes_of (want_of want) (value_of value.now)) }
+        ensures stop { IfStopped result (λ stop. stop ≡ NoMemory) }
+        ensures same { self.new ≡ self.old }
+    {
+        if let Want::Pattern = want {
+            if let Value::String(text) = value {
+                return Ok(Answer::Pattern(self.held.literal.code_of(alloc, text)?));
+            }
+        }
+        answer_of(alloc, want, value)
+    }
+
     /// The answer to the question that was the last event, with which the match goes on. Takes no memory.
     pub fn supply(&mut self, answer: Answer)
         requires { IsQuestion (event_of self.old.search.state) }
@@ -165,6 +190,7 @@ impl Matching {
             matcher: _,
             place: _,
             replaced,
+            literal: _,
         } = Box::into_inner(held);
         match replaced {
             Some(subject) => operands.push(Operand::Span(Span {
