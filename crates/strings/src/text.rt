@@ -1,7 +1,7 @@
 //! A text: a few bytes of its own, or many that are shared by its clones and by the parts cut from it.
 
 ghost use Rattle.std.specs.Prelude.{◌≡◌, ◌+◌, ◌*◌, ◌^◌, ◌<◌, ◌≤◌, ℕ, [], ◌++◌, length, take, drop, map, IfOk, IfErr};
-ghost use Rattle.std.specs.Prelude.{IsTrue, Err, ◌↔◌, slice_range, slice_index};
+ghost use Rattle.std.specs.Prelude.{true, IsTrue, Err, ◌↔◌, slice_range, slice_index};
 ghost use Rattle.std.specs.Fmt.{signed_decimal};
 ghost use Rattle.std.specs.List.{repeat};
 ghost use Rattle.model.specs.Language.Strings.{replaced};
@@ -387,6 +387,22 @@ fn replacements(from: &[u8], to: &[u8]) -> [u8; 256]
     table
 }
 
+// Whether eight bytes of two arrays, those from `at` on, are the same.
+#[inline(always)]
+fn same_eight(left: &[u8; FEW], right: &[u8; FEW], at: usize) -> bool
+    requires within { at + 8 ≤ 22 }
+    requires left { length left.now ≡ 22 }
+    requires right { length right.now ≡ 22 }
+    ensures { result ≡ true → drop (at + 8) left.now ≡ drop (at + 8) right.now
+        → drop at left.now ≡ drop at right.now }
+{
+    let first = (left[at] == right[at]) & (left[at + 1] == right[at + 1]);
+    let second = (left[at + 2] == right[at + 2]) & (left[at + 3] == right[at + 3]);
+    let third = (left[at + 4] == right[at + 4]) & (left[at + 5] == right[at + 5]);
+    let fourth = (left[at + 6] == right[at + 6]) & (left[at + 7] == right[at + 7]);
+    (first & second) & (third & fourth)
+}
+
 impl PartialEq for Text {
     ghost use Rattle.std.specs.Prelude.{nat_eq};
     ghost use Rattle.std.specs.Cmp.Lexicographic.{pointwise, nat_list_eq_equiv};
@@ -403,7 +419,10 @@ impl PartialEq for Text {
         }
         if let Bytes::Own { array, .. } = &self.bytes {
             if let Bytes::Own { array: others, .. } = &other.bytes {
-                if *array == *others {
+                if same_eight(array, others, 0)
+                    && same_eight(array, others, 8)
+                    && same_eight(array, others, 14)
+                {
                     return true;
                 }
             }

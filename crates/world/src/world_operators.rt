@@ -1,8 +1,9 @@
 //! Operators that ask the world, but no unit.
 
-ghost use Rattle.std.specs.Prelude.{◌≡◌, ◌++◌, ◌+◌, ◌<◌, ◌≤◌, length, IfOk, IfErr, Err, ◌↔◌, take, drop};
+ghost use Rattle.std.specs.Prelude.{◌≡◌, ◌++◌, ◌+◌, ◌<◌, ◌≤◌, length, IfOk, IfErr, IfSome, Err, ◌↔◌, take, drop};
 ghost use Rattle.model.specs.Language.Io.{Io};
 ghost use Rattle.model.specs.Machine.Steps.{codes_of};
+ghost use Rattle.model.specs.Language.Conversions.{Gives};
 ghost use Rattle.model.specs.Language.Operators.{cat_op, keyget_op, keyset_op, match_op, assign_op, splice_op};
 ghost use Rattle.model.specs.Deck.Target.{Name};
 ghost use Rattle.model.specs.declared.run.Stop.TheVariants.{NoMemory};
@@ -18,6 +19,9 @@ use model::{ErrorCode, KeyId};
 use pattern_compiler::PatCode;
 use std::alloc::Global;
 use strings::{StrFault, Text};
+
+// How long a string is at most that costs less to copy than to keep.
+const SHORT: usize = 22;
 
 /// What a match begins with.
 #[derive(Drop)]
@@ -115,6 +119,36 @@ impl World {
         let first = left.to_pattern(alloc)?;
         let second = right.to_pattern(alloc)?;
         Ok(Value::Pattern(PatCode::cat(alloc, &first, &second)?))
+    }
+
+    /// Two values one after the other, if the first is a short string and the second a string or an integer, and
+    /// neither is null. They stay as they are.
+    pub fn cat_short(&self, alloc: Global, left: &Value, right: &Value) -> Option<Value>
+        ensures { (io : Io) → IfSome result (λ v.
+            cat_op codes_of (value_of left.now) (value_of right.now) (world_of self.now io)
+            ≡ Gives (value_of v) (world_of self.now io)) }
+    {
+        let Value::String(front) = left else {
+            return None;
+        };
+        if left.is_null() || right.is_null() || front.len() > SHORT {
+            return None;
+        }
+        let longest = self.keywords.longest();
+        let joined = match right {
+            Value::String(back) => Text::concat(alloc, front, back, longest),
+            Value::Integer(n) => {
+                let Ok(back) = Text::int_text(alloc, *n) else {
+                    return None;
+                };
+                Text::concat(alloc, front, &back, longest)
+            }
+            _ => return None,
+        };
+        match joined {
+            Ok(text) => Some(Value::String(text)),
+            Err(_) => None,
+        }
     }
 
     /// The value of a keyword.
