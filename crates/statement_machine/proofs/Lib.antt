@@ -18,3 +18,4 @@ pub mod WellFormed
 pub mod Named
 pub mod Printing
 pub mod Tests
+pub mod Placed

@@ -19,6 +19,7 @@ mod failing;
 mod gotos;
 mod instructions;
 mod joined;
+mod joined_elements;
 mod joined_texts;
 mod machine;
 mod matches;

@@ -14,3 +14,4 @@ pub mod Made
 pub mod Named
 pub mod TypeFunctions
 pub mod Recorded
+pub mod Placed

@@ -5,3 +5,4 @@ pub mod Held
 pub mod Counts
 pub mod Functions
 pub mod Calling
+pub mod Elements

@@ -1,6 +1,6 @@
 //! Elements of arrays, values of tables and fields of records.
 
-ghost use Rattle.std.specs.Prelude.{◌≡◌, [], slice_get, option_map, OnErr};
+ghost use Rattle.std.specs.Prelude.{◌≡◌, [], slice_get, option_map, IfSome, OnErr};
 ghost use Rattle.model.specs.Language.Io.{Io};
 ghost use Rattle.model.specs.Deck.Target.{Element};
 ghost use Rattle.model.specs.Language.Values.{Str};
@@ -10,6 +10,7 @@ ghost use Rattle.aggregates.specs.Keys.{key_of};
 ghost use Rattle.aggregates.specs.Objects.{stored_at};
 ghost use Rattle.world.specs.Values.{value_of};
 ghost use Rattle.world.specs.Held.{world_of};
+ghost use Rattle.world.specs.Elements.{HoldsAt};
 ghost use Rattle.world.specs.Answers.{answer_map, done, AnswersAs, AnswersOrFails, IfStopped};
 
 use crate::fault::Fault;
@@ -19,6 +20,27 @@ use aggregates::{Key, Kind, Place};
 use model::ErrorCode;
 
 impl World {
+    /// The value of an array's element, by the array and the only subscript, an integer; what isn't so has none here.
+    #[inline(always)]
+    pub fn held(&self, base: &Value, subscript: &Value) -> Option<&Value>
+        ensures { IfSome result (λ value.
+            HoldsAt (value_of base.now) (value_of subscript.now) (value_of value.now) self.now) }
+    {
+        let Value::Object(object) = base else {
+            return None;
+        };
+        let Value::Integer(n) = subscript else {
+            return None;
+        };
+        let Some(index) = self.heap.place_of_one(*object, *n) else {
+            return None;
+        };
+        let Some(value) = self.heap.get(*object, &Place::Element(index)) else {
+            return None;
+        };
+        Some(value)
+    }
+
     /// An element of an array, or a field of a record.
     pub(crate) fn element(&self, object: usize, index: usize) -> Result<Option<Value>, Fault>
         ensures value { (io : Io)

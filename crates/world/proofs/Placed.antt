@@ -1,0 +1,38 @@
+-- Elements by their places.
+use Rattle.std.proofs.Common.{◌≡◌, ℕ, ℤ, List, [], ◌∷◌, Some, sym, ap, ◌∙◌}
+use Rattle.std.specs.Prelude.{slice_get, option_map}
+use Rattle.model.specs.Deck.Target.{Element}
+use Rattle.model.specs.Language.Io.{Io}
+use Rattle.model.specs.Language.Conversions.{Gives}
+use Rattle.model.specs.Language.Aggregates.{element_op}
+use Rattle.model.specs.Language.Values.{Obj, Int, Object}
+use Rattle.model.specs.Language.Operators.{element_of, fetch_op, there}
+use Rattle.aggregates.specs.Objects.{place_in}
+use Rattle.world.specs.Values.{value_of}
+use Rattle.world.specs.Elements.{HoldsAt}
+use Rattle.world.specs.Held.{WorldView, world_of}
+use Rattle.world.specs.declared.value.Value.{Value}
+use Rattle.world.specs.declared.value.Value.TheVariants as value
+use Rattle.world.proofs.Named.{placed_item}
+use Rattle.world.proofs.Objects.{element_is}
+
+module _ (h : WorldView) (os : List (Object Value)) (same : os ≡ h.objects) (k i : ℕ) where
+  -- the value of an element
+  pub element_held : (io : Io) (v : Value) → Some v ≡ element_of (slice_get os k) i → fetch_op (Element k i) (world_of h io) ≡ Gives (value_of v) (world_of h io)
+  element_held io v is =
+      element_is h io k i
+      ∙ ap (λ l. there (option_map value_of (element_of (slice_get l k) i)) (world_of h io)) (sym same)
+      ∙ ap (λ o. there (option_map value_of o) (world_of h io)) (sym is)
+
+  -- an array has it for its only subscript
+  pub array_holds : (b s v : Value) (z z' : ℤ) → b ≡ value.Object k → s ≡ value.Integer z → z' ≡ z → Some i ≡ place_in (z' ∷ []) (slice_get os k) → Some v ≡ element_of (slice_get os k) i
+      → HoldsAt (value_of b) (value_of s) (value_of v) h
+  array_holds b s v z z' base subscript number place is = (
+    Element k i,
+    λ io. (
+      ap (λ x. element_op (value_of x) (value_of s ∷ []) (world_of h io)) base
+      ∙ ap (λ x. element_op (Obj k) (value_of x ∷ []) (world_of h io)) subscript
+      ∙ placed_item h os io k same z i (ap (λ y. place_in (y ∷ []) (slice_get os k)) (sym number) ∙ sym place),
+      element_held io v is,
+    ),
+  )
