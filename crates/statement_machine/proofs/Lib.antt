@@ -1,5 +1,6 @@
 pub mod Beginning
 pub mod Calling
+pub mod Deciding
 pub mod Evaluations
 pub mod Fetching
 pub mod Flowing

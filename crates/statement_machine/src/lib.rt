@@ -18,6 +18,7 @@ mod failing;
 mod gotos;
 mod instructions;
 mod joined;
+mod joined_tests;
 mod machine;
 mod matches;
 mod operators;
