@@ -1,6 +1,7 @@
 pub mod Singly
 pub mod Beginning
 pub mod Calling
+pub mod Deciding
 pub mod Evaluations
 pub mod Fetching
 pub mod Flowing
