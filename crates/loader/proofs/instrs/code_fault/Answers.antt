@@ -1,4 +1,4 @@
-use Rattle.std.proofs.Common.{◌≡◌, ◌∙◌, rules, sym, arith}
+use Rattle.std.proofs.Common.{◌∙◌, rules, sym, arith}
 use Rattle.module_format.specs.Views.{instrs_left}
 use Rattle.loader.proofs.Coding.{judged_none, judged_within, judged_more, judged_stops, judged_all}
 use Rattle.loader.proofs.Spelt.{short}

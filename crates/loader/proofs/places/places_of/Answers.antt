@@ -1,6 +1,4 @@
-use Rattle.std.proofs.Common.{ℕ, List, ap, arith, length, map}
-use Rattle.std.specs.List.{sum}
-use Rattle.model.specs.Module.WellFormed.{string_bytes}
+use Rattle.std.proofs.Common.{ap, arith, length}
 use Rattle.loader.proofs.Sizes.{places_short}
 use Rattle.loader.proofs.places.places_of.Goals as goal
 
