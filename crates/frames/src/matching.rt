@@ -141,8 +141,8 @@ impl Matching {
         Ok((event, count))
     }
 
-    /// The answer that a value is to a match that wants a pattern, a count or bytes. A string that answers a match again
-    /// takes no memory.
+    /// The answer that a value is to a match that wants a pattern, a count or bytes. A string that answers again takes no
+    /// memory.
     pub fn answer(&mut self, alloc: Global, want: Want, value: &Value) -> Result<Answer, Fault>
         ensures answer { Converts (answer_map answer_view result)
             (answer_of codes_of (want_of want) (value_of value.now)) }
