@@ -31,8 +31,8 @@ module _ (h : WorldView) (os : List (Object Value)) (same : os ≡ h.objects) (k
     Element k i,
     λ io. (
       ap (λ x. element_op (value_of x) (value_of s ∷ []) (world_of h io)) base
-      ∙ ap (λ x. element_op (Obj k) (value_of x ∷ []) (world_of h io)) subscript
-      ∙ placed_item h os io k same z i (ap (λ y. place_in (y ∷ []) (slice_get os k)) (sym number) ∙ sym place),
+          ∙ ap (λ x. element_op (Obj k) (value_of x ∷ []) (world_of h io)) subscript
+          ∙ placed_item h os io k same z i (ap (λ y. place_in (y ∷ []) (slice_get os k)) (sym number) ∙ sym place),
       element_held io v is,
     ),
   )
