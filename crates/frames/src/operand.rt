@@ -34,7 +34,7 @@ pub enum Operand {
 }
 
 /// Takes off the newest operand, a value.
-#[inline]
+#[inline(always)]
 pub fn pop_value(operands: &mut Stack<Operand>) -> Value
     requires { TopIs V operands.old.top }
     ensures { operands.old ≡ record operands.new { top = operand.Value result ∷ operands.new.top } }
@@ -46,7 +46,7 @@ pub fn pop_value(operands: &mut Stack<Operand>) -> Value
 }
 
 /// Takes off the newest operand, a name.
-#[inline]
+#[inline(always)]
 pub fn pop_name(operands: &mut Stack<Operand>) -> Named
     requires { TopIs N operands.old.top }
     ensures { operands.old ≡ record operands.new { top = operand.Name result ∷ operands.new.top } }

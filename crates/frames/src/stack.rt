@@ -62,6 +62,7 @@ impl<T: Drop> Stack<T> {
     }
 
     /// Takes off the newest.
+    #[inline(always)]
     pub fn pop(&mut self) -> T
         requires { 0 < length self.old.top }
         ensures { self.old ≡ record self.new { top = result ∷ self.new.top } }
