@@ -1,19 +1,28 @@
 -- What is known of the shapes at an offset.
-use Rattle.std.specs.Prelude.{◌≡◌, true, false, ℕ, List, [], ◌∷◌, Option, Some, None, Bool, nat_lt, nat_eq, if◌then◌else◌}
+use Rattle.std.specs.Prelude.{◌≡◌, true, false, ℕ, List, [], ◌∷◌, Option, Some, None, Bool, nat_lt, nat_eq, get_or, if◌then◌else◌}
 use Rattle.flow_check.specs.declared.shapes.Shape.{Shape}
 use Rattle.indexmap.specs.IndexMap.{get}
 use Rattle.flow_check.specs.declared.marks.Marks.{Marks}
 use Rattle.flow_check.specs.declared.marks.Mark.{Mark}
+use Rattle.flow_check.specs.declared.marks.Slot.{Slot}
+use Rattle.flow_check.specs.declared.marks.Slot.TheVariants.{Free, Bare, Other}
+use Rattle.flow_check.specs.declared.shapes.Mode.TheVariants.{Goto}
 use Rattle.flow_check.specs.declared.marks.Mark.TheVariants.{One, Torn}
 use Rattle.model.specs.Module.Flow as flow
 use Rattle.flow_check.specs.declared.pool.Node.{Node}
 use Rattle.flow_check.specs.declared.rules.Rule.{Rule}
 use Rattle.flow_check.specs.declared.shapes.Led.{Led}
 use Rattle.flow_check.specs.Numbers.{Grows}
-use Rattle.flow_check.specs.Shapes.{IsShape, Advances, same_shape}
+use Rattle.flow_check.specs.Shapes.{IsShape, Advances, same_shape, empty_shape}
+
+-- what a slot tells, where the map tells this
+abbrev pub slotted : Slot → Option Mark → Option Mark
+slotted Free other = None
+slotted Bare other = Some (One (empty_shape Goto))
+slotted Other other = other
 
 abbrev pub marked : Marks → ℕ → Option Mark
-marked m y = get nat_eq m.map y
+marked m y = slotted (get_or m.slots.items y Other) (get nat_eq m.map y)
 
 -- with one more way to the offset
 abbrev pub joined : Shape → Option Mark → Option Mark

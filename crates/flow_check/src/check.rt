@@ -31,6 +31,23 @@ fn seed(marks: &mut Marks, offsets: &[u32], shape: Shape) -> Result<(), AllocErr
     Ok(())
 }
 
+/// The most bytes of an instruction.
+const MOST_SIZE: usize = 9;
+
+/// The offset behind the last one.
+fn behind_last(offsets: &[u32]) -> usize {
+    match offsets.last() {
+        Some(last) => *last as usize + 1,
+        None => 0,
+    }
+}
+
+/// How many offsets have a slot: those up to the last one that the tables tell, as far as the code can reach.
+fn slots_of(image: &ImageView<'_>) -> usize {
+    let last = behind_last(image.statements()).max(behind_last(image.expressions()));
+    last.min(image.code_len().saturating_mul(MOST_SIZE))
+}
+
 /// The marks of where the code can begin.
 fn roots(alloc: Global, image: &ImageView<'_>) -> Result<Marks, AllocError>
     ensures { IfOk result (λ m.
@@ -38,7 +55,7 @@ fn roots(alloc: Global, image: &ImageView<'_>) -> Result<Marks, AllocError>
         ≡ seeded image.now.expressions (empty_shape Evaluation)
         (seeded image.now.statements (empty_shape Goto) (λ _. None)) y) }
 {
-    let mut marks = Marks::new(alloc);
+    let mut marks = Marks::new(alloc, slots_of(image))?;
     seed(&mut marks, image.statements(), empty(Mode::Goto))?;
     seed(&mut marks, image.expressions(), empty(Mode::Evaluation))?;
     Ok(marks)

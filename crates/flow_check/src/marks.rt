@@ -1,9 +1,14 @@
 //! Which shapes reach an offset.
 
-ghost use Rattle.std.specs.Prelude.{◌≡◌, ℕ, None, OnOk, nat_eq};
+ghost use Rattle.std.specs.Prelude.{◌≡◌, ℕ, true, None, Some, OnOk, IfOk, get_or, nat_eq, if◌then◌else◌};
 ghost use Rattle.flow_check.specs.Marks.{joined, met, marked, noted, followed};
+ghost use Rattle.flow_check.specs.Shapes.{empty_shape};
+ghost use Rattle.flow_check.specs.declared.marks.Mark.TheVariants.{One};
+ghost use Rattle.flow_check.specs.declared.marks.Slot.TheVariants.{Other};
+ghost use Rattle.flow_check.specs.declared.shapes.Mode.TheVariants.{Goto};
 
-use crate::shapes::Shape;
+use crate::flow::empty;
+use crate::shapes::{Mode, Shape};
 use indexmap::IndexMap;
 use std::alloc::{AllocError, Global};
 
@@ -31,18 +36,69 @@ fn join(shape: Shape, mark: Option<Mark>) -> Option<Mark>
     }
 }
 
+/// Whether the mark is the usual one: a goto's shape, with nothing.
+fn is_bare(mark: Mark) -> bool
+    ensures { result ≡ true → mark ≡ One (empty_shape Goto) }
+{
+    matches!(
+        mark,
+        Mark::One(
+            Shape {
+                mode: Mode::Goto,
+                kinds: None,
+                depth: 0,
+                handlers: None,
+            },
+        )
+    )
+}
+
+/// What is known of an offset at once.
+#[derive(Clone, Copy)]
+pub(crate) enum Slot {
+    /// It has no mark.
+    Free,
+    /// It has the usual one.
+    Bare,
+    /// The map tells.
+    Other,
+}
+
 /// The mark of each offset that is reached by a way other than from the instruction before it.
 #[derive(Drop)]
 pub(crate) struct Marks {
+    /// What is known at once, of the first offsets. Most have no mark, and most that have one have the usual one.
+    slots: Vec<Slot>,
     map: IndexMap<u32, Mark>,
 }
 
 impl Marks {
-    pub(crate) fn new(alloc: Global) -> Marks
-        ensures { (y : ℕ) → marked result y ≡ None }
+    /// No marks; of so many offsets it is known at once what they have.
+    pub(crate) fn new(alloc: Global, slots: usize) -> Result<Marks, AllocError>
+        ensures { IfOk result (λ marks. (y : ℕ) → marked marks y ≡ None) }
     {
-        Marks {
+        Ok(Marks {
+            slots: vec![in alloc; Slot::Free; slots]?,
             map: IndexMap::new(alloc),
+        })
+    }
+
+    fn slot(&self, at: u32) -> Slot
+        ensures { result ≡ get_or self.now.slots.items at Other }
+    {
+        match self.slots.as_slice().get(at as usize) {
+            Some(slot) => *slot,
+            None => Slot::Other,
+        }
+    }
+
+    fn at(&self, at: u32) -> Option<Mark>
+        ensures { result ≡ marked self.now at }
+    {
+        match self.slot(at) {
+            Slot::Free => None,
+            Slot::Bare => Some(Mark::One(empty(Mode::Goto))),
+            Slot::Other => self.map.get(&at).copied(),
         }
     }
 
@@ -50,7 +106,7 @@ impl Marks {
     pub(crate) fn meet(&self, at: u32, carried: Option<Shape>) -> Option<Mark>
         ensures { result ≡ met carried (marked self.now at) }
     {
-        let mark = self.map.get(&at).copied();
+        let mark = self.at(at);
         match carried {
             None => mark,
             Some(shape) => join(shape, mark),
@@ -62,12 +118,28 @@ impl Marks {
         ensures { OnOk result
             ((y : ℕ) → marked self.new y ≡ noted target shape (marked self.old) y) }
     {
-        let mark = match self.map.get(&target).copied() {
-            None => Mark::One(shape),
-            Some(Mark::One(other)) if shape.is_same(other) => Mark::One(other),
-            _ => Mark::Torn,
-        };
+        match join(shape, self.at(target)) {
+            Some(mark) => self.put(target, mark),
+            None => Ok(()),
+        }
+    }
+
+    /// The mark of a target in place of the one it had.
+    fn put(&mut self, target: u32, mark: Mark) -> Result<(), AllocError>
+        ensures { OnOk result ((y : ℕ) → marked self.new y
+            ≡ (if nat_eq target y then Some mark else marked self.old y)) }
+    {
+        let place = target as usize;
+        if place >= self.slots.len() {
+            self.map.insert(target, mark)?;
+            return Ok(());
+        }
+        if is_bare(mark) {
+            self.slots[place] = Slot::Bare;
+            return Ok(());
+        }
         self.map.insert(target, mark)?;
+        self.slots[place] = Slot::Other;
         Ok(())
     }
 

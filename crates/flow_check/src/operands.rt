@@ -10,7 +10,7 @@ ghost use Rattle.flow_check.specs.Rules.{taken, left, run_kinds};
 ghost use Rattle.flow_check.specs.Shapes.{runs, top_of, kind_of, IsTaken};
 
 use crate::pool::{Kind, Node, Pool, Stack, Top};
-use crate::rules::{Leaves, Run, Takes};
+use crate::rules::{Leaves, Run, Takes, name, values};
 use std::alloc::AllocError;
 
 impl Pool {
@@ -26,6 +26,20 @@ impl Pool {
 
     /// The stack below what an instruction takes, if that stands uppermost.
     pub(crate) fn take(&mut self, takes: Takes, stack: Stack) -> Result<Option<Stack>, AllocError>
+        ensures grows { OnOk result (Grows self.old.nodes.keys self.new.nodes.keys) }
+        ensures taken { IfOk result (λ k.
+            (ks : List flow.OperandKind) → Is self.old.nodes.keys stack (runs ks)
+            → IsTaken self.new.nodes.keys k (taken takes) ks) }
+    {
+        match takes {
+            Takes::Values(count) => self.pop_run(values(count), stack),
+            Takes::Name => self.pop_run(name(), stack),
+            _ => self.take_runs(takes, stack),
+        }
+    }
+
+    /// The same by runs of a kind.
+    fn take_runs(&mut self, takes: Takes, stack: Stack) -> Result<Option<Stack>, AllocError>
         ensures grows { OnOk result (Grows self.old.nodes.keys self.new.nodes.keys) }
         ensures taken { IfOk result (λ k.
             (ks : List flow.OperandKind) → Is self.old.nodes.keys stack (runs ks)

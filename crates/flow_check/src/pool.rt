@@ -1,9 +1,11 @@
 //! Stacks of operands and of handlers, with equal numbers for equal stacks.
 
 ghost use Rattle.std.specs.Prelude.{◌≡◌, ◌<◌, ◌-◌, ◌^◌, List, [], ◌∷◌, length, IfOk, OnErr, OnOk, IfSome};
-ghost use Rattle.std.specs.Prelude.{IfNone, Some, None, option_map, slice_get};
+ghost use Rattle.std.specs.Prelude.{IfNone, Some, None, true, option_map, slice_get};
 ghost use Rattle.flow_check.specs.declared.pool.Top.{Top};
-ghost use Rattle.flow_check.specs.Numbers.{Is, Grows, AreBoth, node_at, run_length, below_run, popped};
+ghost use Rattle.flow_check.specs.declared.pool.Top.TheVariants.{Run};
+ghost use Rattle.flow_check.specs.Numbers.{Is, Grows, AreBoth, node, node_at, run_length, below_run};
+ghost use Rattle.flow_check.specs.Numbers.{popped};
 ghost use Rattle.flow_check.specs.Shapes.{kind_of, runs};
 ghost use Rattle.model.specs.Module.Flow as flow;
 
@@ -36,10 +38,30 @@ pub(crate) struct Node {
     pub below: Stack,
 }
 
+const RECENT: usize = 48;
+
 /// The stacks that there are, no two equal.
 #[derive(Drop)]
 pub(crate) struct Pool {
     nodes: IndexSet<Node>,
+    /// Stacks that were put lately, by what stands uppermost, to be looked at before the set is asked.
+    recent: [Stack; RECENT],
+}
+
+/// Where a stack is noted once it was put.
+fn recent_place(kind: Kind, count: u32, below: Stack) -> usize
+    ensures { result < 48 }
+{
+    let first = match kind {
+        Kind::Value => 0,
+        Kind::Name => 16,
+        Kind::Span => 32,
+    };
+    let under = match below {
+        None => 0,
+        Some(index) => index % 4,
+    };
+    first + (count % 4) as usize * 4 + under
 }
 
 impl Pool {
@@ -48,6 +70,7 @@ impl Pool {
     {
         Pool {
             nodes: IndexSet::new(alloc),
+            recent: [None; RECENT],
         }
     }
 
@@ -59,6 +82,38 @@ impl Pool {
     {
         let (index, _) = self.nodes.insert_full(Node { top, below })?;
         Ok(Some(index))
+    }
+
+    /// The number of the stack with a run on it.
+    fn put_run(&mut self, kind: Kind, count: u32, below: Stack) -> Result<Stack, AllocError>
+        ensures grows { OnOk result (Grows self.old.nodes.keys self.new.nodes.keys) }
+        ensures put { IfOk result (λ k.
+            node_at self.new.nodes.keys k ≡ Some (node (Run kind count) below)) }
+    {
+        let place = recent_place(kind, count, below);
+        let known = self.recent[place];
+        if self.is_run(known, kind, count, below) {
+            return Ok(known);
+        }
+        let stack = self.put(Top::Run(kind, count), below)?;
+        self.recent[place] = stack;
+        Ok(stack)
+    }
+
+    /// Whether a stack is a run on this one.
+    fn is_run(&self, stack: Stack, kind: Kind, count: u32, below: Stack) -> bool
+        ensures { result ≡ true
+            → node_at self.now.nodes.keys stack ≡ Some (node (Run kind count) below) }
+    {
+        match self.top(stack) {
+            Some(
+                Node {
+                    top: Top::Run(of, there),
+                    below: under,
+                },
+            ) => of == kind && there == count && under == below,
+            _ => false,
+        }
     }
 
     /// The top of a stack.
@@ -98,7 +153,7 @@ impl Pool {
             → Is self.new.nodes.keys k (runs (kind_of kind ∷ ks))) }
     {
         let (count, below) = self.run(kind, stack);
-        let more = self.put(Top::Run(kind, count + 1), below)?;
+        let more = self.put_run(kind, count + 1, below)?;
         Ok(more)
     }
 
@@ -124,7 +179,7 @@ impl Pool {
         if there == count {
             return Ok(Some(below));
         }
-        let fewer = self.put(Top::Run(kind, there - count), below)?;
+        let fewer = self.put_run(kind, there - count, below)?;
         Ok(Some(fewer))
     }
 }

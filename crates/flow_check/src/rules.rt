@@ -15,7 +15,8 @@ pub(crate) struct Run {
     pub count: u32,
 }
 
-fn values(count: u32) -> Run
+/// So many values.
+pub(crate) fn values(count: u32) -> Run
     ensures { run_kinds result ≡ replicate count V }
 {
     Run {
@@ -24,7 +25,8 @@ fn values(count: u32) -> Run
     }
 }
 
-fn name() -> Run
+/// A name.
+pub(crate) fn name() -> Run
     ensures { run_kinds result ≡ N ∷ [] }
 {
     Run {

@@ -1,6 +1,6 @@
 use Rattle.flow_check.proofs.Stacks.{grows_on}
 use Rattle.flow_check.proofs.RunLaws.{then_some}
-use Rattle.flow_check.proofs.pool.Pool.take.Goals as goal
+use Rattle.flow_check.proofs.pool.Pool.take_runs.Goals as goal
 
 pub returns-in_ok-below-in-Some-clause-grows : goal.returns-in_ok-below-in-Some-clause-grows
 returns-in_ok-below-in-Some-clause-grows c = grows_on _ _ _ c.in_ok-pop_run.ensures.grows c.in_ok-below-in-Some.ensures.grows
