@@ -14,6 +14,9 @@ pub seeded_like : (os : List ℕ) (a : Shape) (m n : Map) → ((y : ℕ) → m y
 seeded_like [] a m n h y = h y
 seeded_like (o ∷ os) a m n h y = seeded_like os a (noted o a m) (noted o a n) (noted_like o a m n h) y
 
+pub seeded_same : (os us : List ℕ) (a b : Shape) (m n : Map) → os ≡ us → a ≡ b → ((y : ℕ) → m y ≡ n y) → (y : ℕ) → seeded os a m y ≡ seeded us b n y
+seeded_same os us a b m n e f h y = ap (λ l. seeded l a m y) e ∙ ap (λ x. seeded us x m y) f ∙ seeded_like us b m n h y
+
 drop_one : (os : List ℕ) (i d : ℕ) → i < length os → drop i os ≡ get_or os i d ∷ drop (suc i) os
 drop_one [] i d lt = absurd (omega (arith, lt))
 drop_one (o ∷ os) zero d lt = refl

@@ -72,6 +72,11 @@ IsNext ns None None = Unit {0}
 IsNext ns (Some a) (Some s) = IsShape ns a s
 IsNext ns _ _ = ⊥
 
+-- where an operation leads
+abbrev pub led_by : Option Shape → Option Led
+led_by None = None
+led_by (Some a) = Some (record { next = Some a; target = None })
+
 -- whether the handler keeps no more than these operands, and these with others on them
 abbrev pub IsPut : List Node → Option Led → Mode → List flow.OperandKind → List flow.OperandKind → List Handler → Type 0
 IsPut ns None m us ks hs = length ks < flow.floor_of hs

@@ -6,15 +6,16 @@ ghost use Rattle.model.specs.Module.Flow.{BreaksFlow, IsLeast};
 ghost use Rattle.flow_check.specs.Marks.{marked, met, seeded, Followed, Stepped};
 ghost use Rattle.flow_check.specs.declared.marks.Mark.TheVariants.{One};
 ghost use Rattle.flow_check.specs.declared.shapes.Shape as shapes;
+ghost use Rattle.flow_check.specs.declared.rules.Rule.TheVariants as rules;
 ghost use Rattle.flow_check.specs.Rules.{rule_of};
 ghost use Rattle.model.specs.Module.Flow as flow;
 ghost use Rattle.flow_check.specs.Shapes.{empty_shape, IsShape};
 ghost use Rattle.flow_check.specs.declared.shapes.Mode.TheVariants.{Goto, Evaluation};
 
-use crate::flow::{advance, empty};
+use crate::flow::{advance, empty, operate};
 use crate::marks::{Mark, Marks};
 use crate::pool::Pool;
-use crate::rules::{Rule, rule_for};
+use crate::rules::{Leaves, Rule, Takes, rule_for};
 use crate::shapes::{Mode, Shape};
 use model::Instr;
 use module_format::ImageView;
@@ -80,6 +81,40 @@ impl Drop for Walk {
 
 /// What follows where one shape comes; whether what is asked is there.
 fn follow(walk: &mut Walk, at: u32, rule: Rule, shape: Shape) -> Result<bool, AllocError>
+    requires { (s : flow.Shape) × IsShape walk.old.pool.nodes.keys shape s
+        × (length s.kinds < 2 ^ 31) }
+    ensures { IfOk result (λ fine.
+        Followed walk.old.pool.nodes.keys walk.new.pool.nodes.keys (marked walk.old.marks)
+        (marked walk.new.marks) walk.new.carried at rule shape fine) }
+{
+    match rule {
+        Rule::Operate(takes, leaves) => operated(walk, at, takes, leaves, shape),
+        _ => advanced(walk, at, rule, shape),
+    }
+}
+
+/// The same of an operation.
+fn operated(
+    walk: &mut Walk,
+    at: u32,
+    takes: Takes,
+    leaves: Leaves,
+    shape: Shape,
+) -> Result<bool, AllocError>
+    requires { (s : flow.Shape) × IsShape walk.old.pool.nodes.keys shape s
+        × (length s.kinds < 2 ^ 31) }
+    ensures { IfOk result (λ fine.
+        Followed walk.old.pool.nodes.keys walk.new.pool.nodes.keys (marked walk.old.marks)
+        (marked walk.new.marks) walk.new.carried at (rules.Operate takes leaves) shape fine) }
+{
+    let next = operate(&mut walk.pool, takes, leaves, shape)?;
+    let fine = next.is_some();
+    walk.carried = next;
+    Ok(fine)
+}
+
+/// The same of any other rule.
+fn advanced(walk: &mut Walk, at: u32, rule: Rule, shape: Shape) -> Result<bool, AllocError>
     requires { (s : flow.Shape) × IsShape walk.old.pool.nodes.keys shape s
         × (length s.kinds < 2 ^ 31) }
     ensures { IfOk result (λ fine.

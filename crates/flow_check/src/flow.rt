@@ -7,7 +7,7 @@ ghost use Rattle.model.specs.Module.Flow as flow;
 ghost use Rattle.flow_check.specs.declared.pool.Node.{Node};
 ghost use Rattle.flow_check.specs.declared.rules.Rule.TheVariants as rules;
 ghost use Rattle.flow_check.specs.Numbers.{Is, Grows};
-ghost use Rattle.flow_check.specs.Shapes.{IsShape, IsPut, Advances, empty_shape, top_of, runs};
+ghost use Rattle.flow_check.specs.Shapes.{IsShape, IsPut, Advances, empty_shape, led_by, top_of, runs};
 ghost use Rattle.flow_check.specs.Rules.{left};
 
 use crate::pool::{Node, Pool, Stack, Top};
@@ -192,48 +192,55 @@ fn put_back(
     below: Stack,
     depth: u32,
     shape: Shape,
-) -> Result<Option<Led>, AllocError>
+) -> Result<Option<Shape>, AllocError>
     requires { (ks : List flow.OperandKind) × Is pool.old.nodes.keys below (runs ks)
         × (length ks < 2 ^ 31) × (depth ≡ length ks) }
     ensures grows { OnOk result (Grows pool.old.nodes.keys pool.new.nodes.keys) }
-    ensures put { IfOk result (λ led.
+    ensures put { IfOk result (λ next.
         (ks : List flow.OperandKind) → (hs : List Handler) → Is pool.old.nodes.keys below (runs ks)
         → depth ≡ length ks → Is pool.old.nodes.keys shape.handlers (map top_of hs)
-        → IsPut pool.new.nodes.keys led shape.mode (left leaves) ks hs) }
+        → IsPut pool.new.nodes.keys (led_by next) shape.mode (left leaves) ks hs) }
 {
     if depth < pool.floor(shape.handlers) {
         return Ok(None);
     }
     let kinds = pool.leave(leaves, below)?;
-    let next = Shape {
+    Ok(Some(Shape {
         kinds,
         depth: depth + leaves.count(),
         ..shape
-    };
-    Ok(Some(Led {
-        next: Some(next),
-        target: None,
     }))
 }
 
-fn operate(
+/// What an operation leaves, if what it takes is there.
+pub(crate) fn operate(
     pool: &mut Pool,
     takes: Takes,
     leaves: Leaves,
     shape: Shape,
-) -> Result<Option<Led>, AllocError>
+) -> Result<Option<Shape>, AllocError>
     requires { (s : flow.Shape) × IsShape pool.old.nodes.keys shape s × (length s.kinds < 2 ^ 31) }
     ensures grows { OnOk result (Grows pool.old.nodes.keys pool.new.nodes.keys) }
-    ensures advanced { IfOk result (λ led.
+    ensures advanced { IfOk result (λ next.
         (s : flow.Shape) → IsShape pool.old.nodes.keys shape s
-        → Advances pool.new.nodes.keys led (rules.Operate takes leaves) s) }
+        → Advances pool.new.nodes.keys (led_by next) (rules.Operate takes leaves) s) }
 {
     match pool.take(takes, shape.kinds)? {
         None => Ok(None),
         Some(below) => {
-            let led = put_back(pool, leaves, below, shape.depth - takes.count(), shape)?;
-            Ok(led)
+            let next = put_back(pool, leaves, below, shape.depth - takes.count(), shape)?;
+            Ok(next)
         }
+    }
+}
+
+/// Where an operation leads.
+fn led_by(next: Option<Shape>) -> Option<Led>
+    ensures { result ≡ led_by next }
+{
+    match next {
+        None => None,
+        Some(_) => Some(Led { next, target: None }),
     }
 }
 
@@ -254,6 +261,9 @@ pub(crate) fn advance(pool: &mut Pool, rule: Rule, shape: Shape) -> Result<Optio
         Rule::Try(target) => enter_try(pool, target, shape),
         Rule::Untry => Ok(leave_try(pool, shape)),
         Rule::Fail => Ok(fail(pool, shape)),
-        Rule::Operate(takes, leaves) => operate(pool, takes, leaves, shape),
+        Rule::Operate(takes, leaves) => {
+            let next = operate(pool, takes, leaves, shape)?;
+            Ok(led_by(next))
+        }
     }
 }
