@@ -10,6 +10,7 @@ ghost use Rattle.model.specs.Module.WellFormed.{is_end_instr, is_last_instr, pla
 ghost use Rattle.loader.specs.Parts.{code_fault};
 
 use crate::code::PlacedCode;
+use crate::decoding::is_at;
 use crate::names::{is_name, is_statement, is_string};
 use model::{Instr, ModuleFault, ModuleRule};
 use module_format::ImageView;
@@ -30,7 +31,7 @@ fn indices_fit(image: &ImageView<'_>, instr: Instr) -> bool
     }
 }
 
-// Whether a statement begins at an offset.
+// Whether a statement begins at an offset, by binary search.
 fn has_statement(statements: &[u32], at: u32) -> bool
     requires { IsTable StatementFits statements.now }
     ensures { result ≡ list_any (λ o. o == at) statements.now }
@@ -38,24 +39,43 @@ fn has_statement(statements: &[u32], at: u32) -> bool
     statements.binary_search(&at).is_ok()
 }
 
-// Whether an offset is one that the instruction at another may lead to.
-fn is_target(placed: &PlacedCode<'_>, at: u32, target: u32) -> bool
-    ensures { result ≡ (nat_lt at target && is_fetched (fetch_from 0 placed.now target)) }
+// The same, where the next statement is looked at first.
+fn has_statement_near(statements: &[u32], next: usize, at: u32) -> bool
+    requires { IsTable StatementFits statements.now }
+    ensures { result ≡ list_any (λ o. o == at) statements.now }
 {
-    at < target && placed.begins(target)
+    is_at(statements, next, at) || has_statement(statements, at)
+}
+
+// Where a walk over the code has come.
+#[derive(Clone, Copy)]
+struct Here {
+    at: u32,
+    next: u32,
+    /// How many instructions are before, and how many BEGINs: other offsets are looked for from there on.
+    place: usize,
+    begun: usize,
+}
+
+// Whether an offset is one that an instruction may lead to.
+fn is_target(placed: &PlacedCode<'_>, here: Here, target: u32) -> bool
+    ensures { result ≡ (nat_lt here.at target && is_fetched (fetch_from 0 placed.now target)) }
+{
+    here.at < target && placed.begins(here.place, target)
 }
 
 // Whether an instruction's targets and its own place are as they must be.
-fn place_fits(image: &ImageView<'_>, placed: &PlacedCode<'_>, at: u32, instr: Instr) -> bool
+fn place_fits(image: &ImageView<'_>, placed: &PlacedCode<'_>, here: Here, instr: Instr) -> bool
     requires spelt { IsImage image.now }
     requires placed { placed.now ≡ image.now.code }
-    ensures { result ≡ place_fits image.now at instr }
+    ensures { result ≡ place_fits image.now here.at instr }
 {
     match instr {
         Instr::Begin(target) => {
-            is_target(placed, at, target) && has_statement(image.statements(), at)
+            is_target(placed, here, target) &&
+                has_statement_near(image.statements(), here.begun, here.at)
         }
-        Instr::Try(target) => is_target(placed, at, target),
+        Instr::Try(target) => is_target(placed, here, target),
         _ => true,
     }
 }
@@ -90,27 +110,34 @@ fn begins_last(image: &ImageView<'_>, at: u32) -> bool
 fn instr_rule(
     image: &ImageView<'_>,
     placed: &PlacedCode<'_>,
-    at: u32,
-    next: u32,
+    here: Here,
     size: u32,
     instr: Instr,
 ) -> Option<ModuleRule>
     requires spelt { IsImage image.now }
     requires placed { placed.now ≡ image.now.code }
     requires size { size ≡ code_size image.now.code }
-    ensures { result ≡ instr_rule image.now at next instr }
+    ensures { result ≡ instr_rule image.now here.at here.next instr }
 {
     if !indices_fit(image, instr) {
         return Some(ModuleRule::BadIndex);
     }
-    let goes_on = is_last_instr(instr) || next != size;
-    if !place_fits(image, placed, at, instr) || !goes_on {
+    let goes_on = is_last_instr(instr) || here.next != size;
+    if !place_fits(image, placed, here, instr) || !goes_on {
         return Some(ModuleRule::BadTarget);
     }
-    if begins_last(image, at) && !matches!(instr, Instr::End) {
+    if begins_last(image, here.at) && !matches!(instr, Instr::End) {
         return Some(ModuleRule::NoEnd);
     }
     None
+}
+
+// 1 for BEGIN, and 0 for another instruction.
+fn begins(instr: Instr) -> usize {
+    match instr {
+        Instr::Begin(_) => 1,
+        _ => 0,
+    }
 }
 
 /// The first fault of the instructions of the code, which begins at a place.
@@ -126,15 +153,25 @@ pub(crate) fn code_fault(
 {
     let size = placed.bytes();
     let mut at = 0;
+    let mut before = 0;
+    let mut begun = 0;
     for instr in image.code() {
         let next = at + instr.size();
-        if let Some(rule) = instr_rule(image, placed, at, next, size, instr) {
+        let here = Here {
+            at,
+            next,
+            place: before,
+            begun,
+        };
+        if let Some(rule) = instr_rule(image, placed, here, size, instr) {
             return Some(ModuleFault {
                 offset: place + at as usize,
                 rule,
             });
         }
         at = next;
+        before = before.saturating_add(1);
+        begun = begun.saturating_add(begins(instr));
     }
     None
 }

@@ -16,12 +16,13 @@ use model::{ModuleFault, ModuleRule, Version};
 use module_format::ImageView;
 use std::alloc::{AllocError, Global};
 
-// The first fault of the parts.
+// The first fault of the parts. The statements' instructions are looked for first at these places.
 fn part_fault(
     alloc: Global,
     version: Version,
     image: &ImageView<'_>,
     placed: &PlacedCode<'_>,
+    statements: &[usize],
 ) -> Result<Option<ModuleFault>, AllocError>
     requires spelt { IsImage image.now }
     requires placed { placed.now ≡ image.now.code }
@@ -31,7 +32,7 @@ fn part_fault(
     Ok(
         entry_fault(version, image)
             .or(label_fault(alloc, image, places.labels)?)
-            .or(statement_fault(image, placed, places.statements))
+            .or(statement_fault(image, placed, statements, places.statements))
             .or(expression_fault(image, placed, places.expressions))
             .or(patterns_fault(image, places.patterns))
             .or(code_fault(image, placed, places.code)),
@@ -74,18 +75,20 @@ fn flow_fault(version: Version, image: &ImageView<'_>, flow: Option<u32>) -> Opt
     })
 }
 
-/// The least fault of an image that is spelt in a version of the format, with its code by the offsets.
+/// The least fault of an image that is spelt in a version of the format, with its code by the offsets. The statements'
+/// instructions are looked for first at these places.
 pub(crate) fn fault_of(
     alloc: Global,
     version: Version,
     image: &ImageView<'_>,
     placed: &PlacedCode<'_>,
+    statements: &[usize],
 ) -> Result<Option<ModuleFault>, AllocError>
     requires spelt { IsImage image.now }
     requires placed { placed.now ≡ image.now.code }
     ensures { IfOk result (λ fault. IsTold version image.now fault) }
 {
-    let parts = part_fault(alloc, version, image, placed)?;
+    let parts = part_fault(alloc, version, image, placed, statements)?;
     let flow = check_flow(alloc, image)?;
     Ok(lesser(parts, flow_fault(version, image, flow)))
 }

@@ -11,6 +11,7 @@ ghost use Rattle.loader.specs.Answers.{IsAnswer, IsAnswerIn, IsChecked, no_memor
 ghost use Rattle.loader.specs.Loaded.{IsLoaded};
 
 use crate::code::PlacedCode;
+use crate::decoding::places_of;
 use crate::joining::fault_of;
 use crate::module::Module;
 use model::{FormatFault, FormatRule, Image, LoadFault, Version};
@@ -26,9 +27,10 @@ fn judge<'a>(
     ensures { IfOk result (λ answer. IsChecked versions.Two image.entry answer) }
 {
     let placed = PlacedCode::of(alloc, &image)?;
-    match fault_of(alloc, Version::Two, &image, &placed)? {
+    let statements = places_of(alloc, &placed, image.statements())?;
+    match fault_of(alloc, Version::Two, &image, &placed, statements.as_slice())? {
         Some(fault) => Ok(Err(LoadFault::Module(fault))),
-        None => Ok(Ok(Module::new(alloc, image, placed)?)),
+        None => Ok(Ok(Module::new(alloc, image, placed, statements)?)),
     }
 }
 
@@ -65,7 +67,8 @@ fn check(alloc: Global, image: ImageView<'_>) -> Result<Result<Image, LoadFault>
     ensures { IfOk result (λ answer. IsChecked versions.One image.entry answer) }
 {
     let placed = PlacedCode::of(alloc, &image)?;
-    match fault_of(alloc, Version::One, &image, &placed)? {
+    let statements = places_of(alloc, &placed, image.statements())?;
+    match fault_of(alloc, Version::One, &image, &placed, statements.as_slice())? {
         Some(fault) => Ok(Err(LoadFault::Module(fault))),
         None => Ok(Ok(image.into_image(alloc)?)),
     }

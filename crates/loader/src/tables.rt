@@ -1,6 +1,6 @@
 //! The entry, and the tables of offsets.
 
-ghost use Rattle.std.specs.Prelude.{◌≡◌, ◌<◌, ◌+◌, ◌*◌, ◌^◌, length, if◌then◌else◌};
+ghost use Rattle.std.specs.Prelude.{◌≡◌, ◌<◌, ◌+◌, ◌*◌, ◌^◌, get_or, length, if◌then◌else◌};
 ghost use Rattle.model.specs.declared.format.ModuleRule.TheVariants.{BadTarget, NoEnd};
 ghost use Rattle.model.specs.Module.Flow.{is_fetched};
 ghost use Rattle.model.specs.Module.Images.{fetch_from};
@@ -27,23 +27,40 @@ pub(crate) fn entry_fault(version: Version, image: &ImageView<'_>) -> Option<Mod
     })
 }
 
-// The rule that a statement at an offset breaks, where the last is another.
-fn statement_rule(placed: &PlacedCode<'_>, is_last: bool, at: u32) -> Option<ModuleRule>
+// The rule that a statement at an offset breaks, where the last is another. Its place is looked for from another on.
+fn statement_rule(
+    placed: &PlacedCode<'_>,
+    near: usize,
+    is_last: bool,
+    at: u32,
+) -> Option<ModuleRule>
     ensures { result ≡ (if is_last then unless NoEnd
         (is_fetched (fetch_from 0 placed.now at)) else unless BadTarget
         (is_begin (fetch_from 0 placed.now at))) }
 {
     if is_last {
-        rule(ModuleRule::NoEnd, placed.begins(at))
+        rule(ModuleRule::NoEnd, placed.begins(near, at))
     } else {
-        rule(ModuleRule::BadTarget, placed.is_begin(at))
+        rule(ModuleRule::BadTarget, placed.is_begin(near, at))
     }
 }
 
-/// The first fault of the statements, which begin at a place.
+// Where to look for the instruction of a statement.
+fn near_of(places: &[usize], k: usize) -> usize
+    ensures { result ≡ get_or places.now k 0 }
+{
+    match places.get(k) {
+        Some(place) => *place,
+        None => 0,
+    }
+}
+
+/// The first fault of the statements, which begin at a place of the module. Their instructions are looked for first at
+/// the other places.
 pub(crate) fn statement_fault(
     image: &ImageView<'_>,
     placed: &PlacedCode<'_>,
+    places: &[usize],
     place: usize,
 ) -> Option<ModuleFault>
     requires spelt { IsImage image.now }
@@ -55,7 +72,8 @@ pub(crate) fn statement_fault(
     let count = statements.len();
     let mut offset = place;
     for k in 0..count {
-        if let Some(rule) = statement_rule(placed, k + 1 == count, statements[k]) {
+        let near = near_of(places, k);
+        if let Some(rule) = statement_rule(placed, near, k + 1 == count, statements[k]) {
             return Some(ModuleFault { offset, rule });
         }
         offset += 4;
@@ -77,7 +95,7 @@ pub(crate) fn expression_fault(
     let mut offset = place;
     let expressions = image.expressions();
     for at in expressions {
-        if !placed.begins(*at) {
+        if !placed.begins(0, *at) {
             return Some(ModuleFault {
                 offset,
                 rule: ModuleRule::BadTarget,
