@@ -76,6 +76,7 @@ fn prim(code: u8, bytes: &[u8]) -> Option<(Instr, &[u8])>
 }
 
 /// The instruction in front, and what is behind it; none if it is in no table or is cut.
+#[inline(always)]
 #[tactic(auto, unfolding(model::specs::Module::Reading::instr_of, model::specs::Module::Reading::readers, model::specs::Module::Reading::alone, model::specs::Module::Reading::short, model::specs::Module::Reading::whole_number))]
 pub fn first_instr(bytes: &[u8]) -> Option<(Instr, &[u8])>
     ensures { Finds (λ x. (x.0, x.1.now)) result (instr_of bytes.now) }

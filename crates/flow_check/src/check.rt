@@ -140,6 +140,25 @@ fn step(walk: &mut Walk, at: u32, instr: Instr) -> Result<bool, AllocError>
         (marked walk.new.marks) walk.new.carried at (rule_of instr)
         (met walk.old.carried (marked walk.old.marks at)) fine) }
 {
+    if !walk.marks.is_free(at) {
+        return step_marked(walk, at, instr);
+    }
+    match walk.carried {
+        None => Ok(true),
+        Some(shape) => follow(walk, at, rule_for(instr), shape),
+    }
+}
+
+/// The same where there may be a mark.
+#[inline(never)]
+fn step_marked(walk: &mut Walk, at: u32, instr: Instr) -> Result<bool, AllocError>
+    requires { (a : shapes.Shape) → met walk.old.carried (marked walk.old.marks at) ≡ Some (One a)
+        → (s : flow.Shape) × IsShape walk.old.pool.nodes.keys a s × (length s.kinds < 2 ^ 31) }
+    ensures { IfOk result (λ fine.
+        Stepped walk.old.pool.nodes.keys walk.new.pool.nodes.keys (marked walk.old.marks)
+        (marked walk.new.marks) walk.new.carried at (rule_of instr)
+        (met walk.old.carried (marked walk.old.marks at)) fine) }
+{
     match walk.marks.meet(at, walk.carried) {
         None => {
             walk.carried = None;

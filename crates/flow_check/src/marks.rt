@@ -92,6 +92,13 @@ impl Marks {
         }
     }
 
+    /// Whether it is known at once that an offset has no mark.
+    pub(crate) fn is_free(&self, at: u32) -> bool
+        ensures { result ≡ true → marked self.now at ≡ None }
+    {
+        matches!(self.slot(at), Slot::Free)
+    }
+
     fn at(&self, at: u32) -> Option<Mark>
         ensures { result ≡ marked self.now at }
     {
