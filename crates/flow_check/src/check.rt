@@ -80,6 +80,7 @@ impl Drop for Walk {
 }
 
 /// What follows where one shape comes; whether what is asked is there.
+#[inline(always)]
 fn follow(walk: &mut Walk, at: u32, rule: Rule, shape: Shape) -> Result<bool, AllocError>
     requires { (s : flow.Shape) × IsShape walk.old.pool.nodes.keys shape s
         × (length s.kinds < 2 ^ 31) }
@@ -94,6 +95,7 @@ fn follow(walk: &mut Walk, at: u32, rule: Rule, shape: Shape) -> Result<bool, Al
 }
 
 /// The same of an operation.
+#[inline(always)]
 fn operated(
     walk: &mut Walk,
     at: u32,

@@ -213,6 +213,7 @@ fn put_back(
 }
 
 /// What an operation leaves, if what it takes is there.
+#[inline(always)]
 pub(crate) fn operate(
     pool: &mut Pool,
     takes: Takes,

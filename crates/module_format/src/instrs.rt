@@ -32,6 +32,7 @@ impl<'a> Iterator for Instrs<'a> {
 
     ghost remaining = { item_count instrs_left };
 
+    #[inline(always)]
     #[tactic(auto, unfolding(crate::specs::Views::instrs_from))]
     fn next(&mut self) -> Option<Instr> {
         if self.left == 0 {
