@@ -30,8 +30,13 @@ impl State {
         ensures sound { (im : Image) (fs : List Frame) → CallerStands im fs false next self.old
             → StaysSound im fs result self.new }
     {
-        let answer = self.world.returned_value(units, given);
-        self.gave(answer, next)
+        match given {
+            Given::Value(value) => self.put(value, next),
+            given => {
+                let answer = self.world.returned_value(units, given);
+                self.gave(answer, next)
+            }
+        }
     }
 
     /// On with the name that a call gave, which a value isn't.
