@@ -1,9 +1,9 @@
 //! Prototypes of functions.
 
-ghost use Rattle.std.specs.Prelude.{◌≡◌, ◌++◌, ◌<◌, true, length, option_map, IfOk, IfSome};
+ghost use Rattle.std.specs.Prelude.{◌≡◌, ◌<◌, true, length, option_map, IfOk, IfSome};
 ghost use Rattle.model.specs.Language.Prototypes.{are_distinct, cut_at, function_cut, function_prototype};
 ghost use Rattle.model.specs.Language.Prototypes.{is_function, listed};
-ghost use Rattle.prototypes.specs.Views.{function_of, names_of, of_parts};
+ghost use Rattle.prototypes.specs.Views.{names_of, of_parts};
 
 use crate::names::{are_distinct_names, is_primitive};
 use crate::parts::{cut, push_listed, push_name};
@@ -76,13 +76,6 @@ impl FunctionPrototype {
         self.parts.as_ref().names.as_slice()
     }
 
-    /// The arguments and the locals.
-    pub fn variables(&self) -> &[Text]
-        ensures { result.now ≡ self.now.arguments ++ self.now.locals }
-    {
-        &self.names()[1..]
-    }
-
     /// How many arguments there are.
     pub fn arity(&self) -> usize
         ensures { result ≡ length self.now.arguments }
@@ -109,17 +102,6 @@ impl FunctionPrototype {
     /// Where the variables of the names may stand, in the order of `names`. They are hints, of which some may be missing.
     pub fn slots(&self) -> &[u32] {
         self.parts.as_ref().slots.as_slice()
-    }
-
-    /// The slots of the arguments, and then those of the locals.
-    pub fn argument_slots(&self) -> &[u32] {
-        self.slots().get(1..).unwrap_or(&[])
-    }
-
-    /// The slots of the locals.
-    pub fn local_slots(&self) -> &[u32] {
-        let parts = self.parts.as_ref();
-        parts.slots.as_slice().get(parts.arity + 1..).unwrap_or(&[])
     }
 
     /// The same prototype with these slots. One that is shared keeps those that it has.

@@ -127,6 +127,7 @@ impl World {
     }
 
     // Exchanges the values of variables with those from a place on, one after the other. Reads no unit.
+    #[inline(always)]
     fn exchange_all(
         &mut self,
         names: &[Text],

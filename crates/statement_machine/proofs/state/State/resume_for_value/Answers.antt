@@ -1,6 +1,6 @@
-use Rattle.std.proofs.Common.{false, subst, sym}
+use Rattle.std.proofs.Common.{false}
 use Rattle.std.specs.Prelude.{option_map}
-use Rattle.model.specs.Language.Calls.{AValue, as_value}
+use Rattle.model.specs.Language.Calls.{as_value}
 use Rattle.model.specs.Machine.Standing.{given}
 use Rattle.model.proofs.Machine.Standing as laws
 use Rattle.loader.specs.Places.{offset_at}
@@ -10,26 +10,13 @@ use Rattle.world.specs.Answers.{answer_map}
 use Rattle.world.specs.Calling.{given_of}
 use Rattle.world.specs.Held.{world_of}
 use Rattle.world.specs.Values.{value_of}
-use Rattle.statement_machine.specs.Held.{Left, handlers_in, waiting}
-use Rattle.statement_machine.specs.Resuming.{caller_in, resumed_with}
-use Rattle.statement_machine.proofs.Stopping.{served_alone}
+use Rattle.statement_machine.specs.Held.{handlers_in, waiting}
 use Rattle.statement_machine.proofs.Flowing.{seen}
 use Rattle.statement_machine.proofs.Operations.{some_answer_or_failure}
 use Rattle.statement_machine.proofs.Telling.{no_records}
 use Rattle.statement_machine.specs.Stopped.{halted_by}
 use Rattle.statement_machine.proofs.Printing.{quiet_ever}
 use Rattle.statement_machine.proofs.state.State.resume_for_value.Goals as goal
-
-pub returns-in-Value-clause-served : goal.returns-in-Value-clause-served
-returns-in-Value-clause-served g c =
-    served_alone g.U.Units c.args.units.now c.put.result c.put.ensures.stop
-    (λ io im fs. subst (λ x. Left im fs c.put.result c.put.new.self io (resumed_with im fs false c.args.next x c.args.self.now io)) (sym c.in-Value.is) (c.put.ensures.left im fs io))
-
-pub returns-in-Value-clause-sound : goal.returns-in-Value-clause-sound
-returns-in-Value-clause-sound g c im fs h =
-    let s = c.args.self.now in
-    seen im fs c.put.result c.put.new.self no_records _ (c.put.ensures.left im fs no_records)
-    (laws.resume_stands im false (caller_in im false c.args.next s) (waiting im fs s) (AValue (value_of c.in-Value.value)) (world_of s.world no_records) h.0 h.1)
 
 pub returns-clause-served : goal.returns-clause-served
 returns-clause-served g c =
