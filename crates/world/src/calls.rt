@@ -191,6 +191,7 @@ impl World {
     }
 
     // The world of the caller, and what the function's name had.
+    #[inline(always)]
     fn back(
         &mut self,
         kind: ReturnKind,
@@ -222,6 +223,26 @@ impl World {
         }
     }
 
+    // Ends a call that gives a name, unless it can't.
+    #[inline(never)]
+    fn leave_by_name(
+        &mut self,
+        alloc: Global,
+        kept: &Kept,
+        saved: &mut Vec<Value>,
+    ) -> Result<Option<Given>, Fault>
+        ensures values { OnOk result
+            (saved.new.items ≡ saved_below (names_of kept.now.prototype) saved.old.items) }
+        ensures left { (io : Io) → AnswersOrFails (answer_map (option_map given_of) result) (world_of self.new io)
+            (leave_op ReturnKind.NReturn (kept_with kept.now saved.old.items) (world_of self.old io)) }
+        ensures stop { IfStopped result (λ stop. stop ≡ NoMemory) }
+    {
+        let slot = slot_at(kept.prototype.slots(), 0);
+        let name = self.named(alloc, kept.prototype.name(), slot)?;
+        self.back(ReturnKind::NReturn, kept, saved)?;
+        Ok(Some(Given::Name(name)))
+    }
+
     /// Ends a call: takes what it saved off the end of `saved`, and tells what it gives, or by `None` that it failed.
     /// Where it should give a name and can't, nothing changes.
     pub fn leave(
@@ -237,21 +258,14 @@ impl World {
             (leave_op kind (kept_with kept.now saved.old.items) (world_of self.old io)) }
         ensures stop { IfStopped result (λ stop. stop ≡ NoMemory) }
     {
+        if let ReturnKind::NReturn = kind {
+            return self.leave_by_name(alloc, kept, saved);
+        }
+        let value = self.back(kind, kept, saved)?;
         match kind {
-            ReturnKind::Return => {
-                let value = self.back(kind, kept, saved)?;
-                Ok(Some(Given::Value(value)))
-            }
-            ReturnKind::FReturn => {
-                self.back(kind, kept, saved)?;
-                Ok(None)
-            }
-            ReturnKind::NReturn => {
-                let slot = slot_at(kept.prototype.slots(), 0);
-                let name = self.named(alloc, kept.prototype.name(), slot)?;
-                self.back(kind, kept, saved)?;
-                Ok(Some(Given::Name(name)))
-            }
+            ReturnKind::Return => Ok(Some(Given::Value(value))),
+            ReturnKind::FReturn => Ok(None),
+            ReturnKind::NReturn => unreachable!(),
         }
     }
 
