@@ -100,7 +100,7 @@ pub fn pop_values(
     values.clear();
     values.reserve(count)?;
     for _turn in 0..count {
-        values.push(pop_value(operands))?;
+        values.push_reserved(pop_value(operands));
     }
     values.reverse();
     Ok(())

@@ -1,8 +1,11 @@
 -- The parts of a function's prototype.
-use Rattle.std.proofs.Common.{◌≡◌, ℕ, suc, ◌+◌, ◌-◌, List, [], ◌∷◌, ◌++◌, length, take, drop, ◌<◌, Some, None, refl, sym, ap, ◌∙◌, arith}
+use Rattle.std.proofs.Common.{◌≡◌, ℕ, suc, ◌+◌, ◌-◌, List, [], ◌∷◌, ◌++◌, length, take, drop, ◌<◌, Some, None, Bool, true, false, true≢false, refl, sym, ap, ◌∙◌, arith}
+use Rattle.std.specs.Prelude.{not, ◌&&◌}
+use Rattle.std.specs.List.{list_all}
+use Rattle.model.specs.declared.image.Level.{Level}
 use Rattle.std.proofs.lemmas.List.{take-append-drop}
 use Rattle.model.specs.Deck.Trees.{Bytes}
-use Rattle.model.specs.Language.Prototypes.{cut_at, function_cut, function_rest, listed}
+use Rattle.model.specs.Language.Prototypes.{are_distinct, cut_at, function_cut, function_rest, is_function, is_name, is_primitive, listed}
 use Rattle.prototypes.specs.Views.{function_of, names_of}
 
 take_front : {A : Type 0} (xs ys : List A) → take (length xs) (xs ++ ys) ≡ xs
@@ -48,3 +51,15 @@ pub whole_names : (names : List Bytes) (arity : ℕ) → arity < length names �
 whole_names [] arity h = absurd (omega arith)
 whole_names (x ∷ xs) arity h =
     ap (λ ys. x ∷ ys) (sym (take-append-drop arity xs)) ∙ ap (λ n. x ∷ (take arity xs ++ drop n (x ∷ xs))) (sym (next arity))
+
+both_of : (a b c : Bool) → (a && b && c) ≡ true → b ≡ true
+both_of true true c h = refl
+both_of true false c h = absurd (true≢false (sym h))
+both_of false b c h = absurd (true≢false (sym h))
+
+-- the names of a function are all different
+pub function_names_differ : (l : Level) (names : List Bytes) (arity : ℕ) → arity < length names → is_function l (function_of names arity) ≡ true → are_distinct names ≡ true
+function_names_differ l names arity whole h =
+    let ns = names_of (function_of names arity) in
+    ap are_distinct (whole_names names arity whole)
+    ∙ both_of (list_all is_name ns) (are_distinct ns) (not (is_primitive l (function_of names arity).name)) h

@@ -3,6 +3,7 @@ use Rattle.std.specs.Prelude.{◌≡◌, ℕ, ◌+◌, ◌<◌, List, [], ◌∷
 use Rattle.std.specs.Borrow.{Bor}
 use Rattle.model.specs.Deck.Trees.{Bytes}
 use Rattle.model.specs.Language.Prototypes.{cut_at, FunctionPrototype, TypePrototype}
+use Rattle.prototypes.specs.declared.function.Parts.{Parts}
 
 -- the text is cut so at the first such byte, which is gone
 abbrev pub IsCut : ℕ → Bytes → Option (Bor Bytes × Bor Bytes) → Type 0
@@ -12,6 +13,9 @@ IsCut mark text (Some p) = (cut_at mark text ≡ Some (record { before = p.0.now
 -- a function's name, its arguments and its locals
 abbrev pub function_of : List Bytes → (arity : ℕ) → FunctionPrototype
 function_of names arity = record { name = get_or names 0 []; arguments = take arity (drop 1 names); locals = drop (arity + 1) names }
+
+abbrev pub of_parts : Parts → FunctionPrototype
+of_parts p = function_of p.names.items p.arity
 
 abbrev pub names_of : FunctionPrototype → List Bytes
 names_of f = f.name ∷ (f.arguments ++ f.locals)

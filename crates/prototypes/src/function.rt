@@ -1,8 +1,9 @@
 //! Prototypes of functions.
 
-ghost use Rattle.std.specs.Prelude.{◌≡◌, IfOk};
-ghost use Rattle.model.specs.Language.Prototypes.{cut_at, function_cut, function_prototype, is_function, listed};
-ghost use Rattle.prototypes.specs.Views.{names_of};
+ghost use Rattle.std.specs.Prelude.{◌≡◌, ◌<◌, true, length, option_map, IfOk, IfSome};
+ghost use Rattle.model.specs.Language.Prototypes.{are_distinct, cut_at, function_cut, function_prototype};
+ghost use Rattle.model.specs.Language.Prototypes.{is_function, listed};
+ghost use Rattle.prototypes.specs.Views.{names_of, of_parts};
 
 use crate::names::{are_distinct_names, is_primitive};
 use crate::parts::{cut, push_listed, push_name};
@@ -23,7 +24,7 @@ struct Parts {
     slots: Vec<u32>,
 }
 
-/// What DEFINE is told: a function's name, its arguments and its locals. Its clones share them.
+/// What DEFINE is told: a function's name, its arguments and its locals, all different. Its clones share them.
 pub struct FunctionPrototype {
     parts: Rc<Parts>,
 }
@@ -35,7 +36,7 @@ impl Drop for FunctionPrototype {
 }
 
 impl Model for FunctionPrototype {
-    ghost use Rattle.std.specs.Prelude.{◌<◌, length};
+    ghost use Rattle.std.specs.Prelude.{◌≡◌, ◌<◌, true, length};
     ghost use Rattle.model.specs.Language.Prototypes as model;
     ghost use Rattle.prototypes.specs.Views.{function_of};
 
@@ -43,7 +44,9 @@ impl Model for FunctionPrototype {
 
     ghost view = { λ f. function_of f.parts.value.names.items f.parts.value.arity };
 
-    ghost invariant = { λ f. f.parts.value.arity < length f.parts.value.names.items };
+    ghost invariant = { λ f.
+        (f.parts.value.arity < length f.parts.value.names.items)
+        × (model.are_distinct f.parts.value.names.items ≡ true) };
 }
 
 impl Clone for FunctionPrototype {
@@ -65,11 +68,19 @@ impl FunctionPrototype {
         &self.names()[0]
     }
 
-    /// The function's name, its arguments and its locals.
+    /// The function's name, its arguments and its locals, which are all different.
     pub fn names(&self) -> &[Text]
-        ensures { result.now ≡ names_of self.now }
+        ensures names { result.now ≡ names_of self.now }
+        ensures distinct { are_distinct result.now ≡ true }
     {
         self.parts.as_ref().names.as_slice()
+    }
+
+    /// How many arguments there are.
+    pub fn arity(&self) -> usize
+        ensures { result ≡ length self.now.arguments }
+    {
+        self.parts.as_ref().arity
     }
 
     /// The arguments.
@@ -93,17 +104,6 @@ impl FunctionPrototype {
         self.parts.as_ref().slots.as_slice()
     }
 
-    /// The slots of the arguments.
-    pub fn argument_slots(&self) -> &[u32] {
-        self.slots().get(1..).unwrap_or(&[])
-    }
-
-    /// The slots of the locals.
-    pub fn local_slots(&self) -> &[u32] {
-        let parts = self.parts.as_ref();
-        parts.slots.as_slice().get(parts.arity + 1..).unwrap_or(&[])
-    }
-
     /// The same prototype with these slots. One that is shared keeps those that it has.
     pub fn with_slots(self, alloc: Global, slots: Vec<u32>) -> Result<FunctionPrototype, AllocError>
         ensures { IfOk result (λ prototype. prototype ≡ self) }
@@ -119,15 +119,18 @@ impl FunctionPrototype {
         };
         Ok(FunctionPrototype { parts })
     }
+}
 
+impl Parts {
     // Whether a function may have this prototype at a level.
     fn is_function(&self, alloc: Global, level: Level) -> Result<bool, AllocError>
-        ensures { IfOk result (λ answer. answer ≡ is_function level self.now) }
+        requires { self.now.arity < length self.now.names.items }
+        ensures { IfOk result (λ answer. answer ≡ is_function level (of_parts self.now)) }
     {
-        if is_primitive(level, self.name().as_slice()) {
+        if is_primitive(level, self.names[0].as_slice()) {
             return Ok(false);
         }
-        are_distinct_names(alloc, self.names())
+        are_distinct_names(alloc, self.names.as_slice())
     }
 }
 
@@ -137,31 +140,31 @@ fn prototype_of(
     name: &[u8],
     arguments: &[u8],
     locals: &[u8],
-) -> Result<FunctionPrototype, AllocError>
-    ensures { IfOk result (λ f.
-        f ≡ record {
+) -> Result<Parts, AllocError>
+    ensures parts { IfOk result (λ parts.
+        of_parts parts ≡ record {
           name = name.now;
           arguments = listed arguments.now;
           locals = listed locals.now;
         }) }
+    ensures arity { IfOk result (λ parts. parts.arity < length parts.names.items) }
 {
     let mut names = Vec::new(alloc);
     push_name(alloc, name, &mut names)?;
     push_listed(alloc, arguments, &mut names)?;
     let count = names.len();
     push_listed(alloc, locals, &mut names)?;
-    let parts = Parts {
+    Ok(Parts {
         names,
         arity: count - 1,
         slots: Vec::new(alloc),
-    };
-    let shared = Rc::new(alloc, parts)?;
-    Ok(FunctionPrototype { parts: shared })
+    })
 }
 
 // The parts of a prototype, whether they are names or not.
-fn parts_of(alloc: Global, text: &[u8]) -> Result<Option<FunctionPrototype>, AllocError>
-    ensures { IfOk result (λ parts. parts ≡ function_cut (cut_at 40 text.now)) }
+fn parts_of(alloc: Global, text: &[u8]) -> Result<Option<Parts>, AllocError>
+    ensures parts { IfOk result (λ parts. option_map of_parts parts ≡ function_cut (cut_at 40 text.now)) }
+    ensures arity { IfOk result (λ parts. IfSome parts (λ p. p.arity < length p.names.items)) }
 {
     let Some((name, inner)) = cut(b'(', text) else {
         return Ok(None);
@@ -180,11 +183,12 @@ pub fn function_prototype(
 ) -> Result<Option<FunctionPrototype>, AllocError>
     ensures { IfOk result (λ prototype. prototype ≡ function_prototype level text.now) }
 {
-    let Some(prototype) = parts_of(alloc, text)? else {
+    let Some(parts) = parts_of(alloc, text)? else {
         return Ok(None);
     };
-    if !prototype.is_function(alloc, level)? {
+    if !parts.is_function(alloc, level)? {
         return Ok(None);
     }
-    Ok(Some(prototype))
+    let parts = Rc::new(alloc, parts)?;
+    Ok(Some(FunctionPrototype { parts }))
 }

@@ -16,8 +16,9 @@ use unit_io::Units;
 use world::{Fault, Given};
 
 impl State {
-    /// On with the value of what a call gave. That of a name is fetched.
-    pub(crate) fn resume_for_value<U: Units>(
+    // On with the value of what a call gave. That of a name is fetched.
+    #[inline(never)]
+    fn resume_for_value<U: Units>(
         &mut self,
         units: &mut U,
         given: Given,
@@ -34,8 +35,9 @@ impl State {
         self.gave(answer, next)
     }
 
-    /// On with the name that a call gave, which a value isn't.
-    pub(crate) fn resume_for_name(&mut self, given: Given, next: usize) -> Result<(), Exit>
+    // On with the name that a call gave, which a value isn't.
+    #[inline(never)]
+    fn resume_for_name(&mut self, given: Given, next: usize) -> Result<(), Exit>
         ensures left { (im : Image) (fs : List Frame) (io : Io)
             → Left im fs result self.new io (resumed_with im fs true next given self.old io) }
         ensures stop { IfHalted result (λ stop. stop ≡ NoMemory) }
@@ -47,6 +49,7 @@ impl State {
     }
 
     /// On with what a call gave, for a value or for a name.
+    #[inline(always)]
     pub(crate) fn resume<U: Units>(
         &mut self,
         units: &mut U,
@@ -64,6 +67,9 @@ impl State {
         if want_name {
             return self.resume_for_name(given, next);
         }
-        self.resume_for_value(units, given, next)
+        match given {
+            Given::Value(value) => self.put(value, next),
+            given => self.resume_for_value(units, given, next),
+        }
     }
 }

@@ -1,6 +1,8 @@
 -- The end of a call.
-use Rattle.std.proofs.Common.{◌≡◌, ℕ, ℤ, List, [], Option, Some, None, Result, Ok, Err, sym, ap, subst, ◌∙◌}
+use Rattle.std.proofs.Common.{◌≡◌, ℕ, zero, suc, ◌+◌, ◌-◌, ◌<◌, min, ℤ, List, [], ◌∷◌, ◌++◌, length, map, take, drop, true, arith, refl, Option, Some, None, Result, Ok, Err, sym, ap, subst, ◌∙◌}
 use Rattle.std.specs.Prelude.{option_map}
+use Rattle.std.proofs.lemmas.List.{length-drop, length-take-le}
+use Rattle.std.proofs.Math.Seq.{take-append-add}
 use Rattle.model.specs.declared.instr.ReturnKind.{ReturnKind}
 use Rattle.model.specs.declared.instr.ReturnKind.TheVariants as kind
 use Rattle.model.specs.declared.run.ErrorCode.{ErrorCode}
@@ -8,25 +10,26 @@ use Rattle.model.specs.declared.run.ErrorCode.TheVariants as error
 use Rattle.model.specs.Language.Io.{Io}
 use Rattle.model.specs.Language.Told.{IfTold}
 use Rattle.model.specs.Deck.Trees.{Bytes}
-use Rattle.model.specs.Language.Values.{Str, set_var}
 use Rattle.model.specs.Language.Operators.{fetch_op}
-use Rattle.model.specs.Language.Prototypes.{FunctionPrototype}
+use Rattle.model.specs.Language.Prototypes.{FunctionPrototype, are_distinct}
 use Rattle.model.specs.Deck.Target.{Name}
 use Rattle.model.specs.Language.Conversions.{Conv, Got, Bad, Op, Gives, Refuses, Faults, conv, to_name}
-use Rattle.model.specs.Language.Calls.{AValue, AName, as_value, back_to_caller, bind_arguments, enter_call, leave_op, or_no_name}
+use Rattle.model.specs.Language.Calls.{AValue, AName, as_value, back_to_caller, bind_arguments, leave_op, or_no_name}
 use Rattle.model.specs.Language.Calls as calls
 use Rattle.model.specs.Machine.Steps.{PCode, MVal, MW, MBack}
 use Rattle.pattern_compiler.specs.View.{name_of}
 use Rattle.pattern_compiler.specs.declared.instr.Name as p
 use Rattle.world.proofs.Telling.{told_same, told_on}
 use Rattle.prototypes.specs.Views.{names_of}
-use Rattle.world.specs.Counts.{deeper, with_caller}
+use Rattle.world.specs.Counts.{with_caller}
 use Rattle.world.specs.Held.{WorldView, world_of}
 use Rattle.world.specs.Values.{value_of}
 use Rattle.world.specs.declared.calls.Given.TheVariants as given
 use Rattle.world.specs.declared.value.Value.{Value}
 use Rattle.world.specs.Answers.{AnswersOrFails}
-use Rattle.world.specs.Calling.{LeavesTo, given_of, kept_with, saved_as, saved_by}
+use Rattle.world.specs.Calling.{AreSaved, LeavesTo, given_of, kept_with, older, saved_as, saved_below, saved_by}
+use Rattle.world.proofs.Exchanging.{bind_restores, distinct_take}
+use Rattle.world.proofs.Saving.{same_end, saved_short, values_in}
 use Rattle.world.specs.declared.calls.Kept.{Kept}
 use Rattle.world.specs.declared.calls.Given.{Given}
 use Rattle.world.specs.declared.fault.Fault.{Fault}
@@ -65,16 +68,45 @@ gone_back r k xs saved statement level w w1 w2 names here depth restored last =
     ∙ (λ i. with_caller r (here i) (depth i) w1)
     ∙ ap (with_caller r k.statement k.level) (restored ∙ ap (λ ys. calls.restore (saved_as ys (saved_by ys saved)) w) names)
 
--- ---- entering
+-- ---- giving back
 
-pub entered : (f : FunctionPrototype) (vs : List MVal) (name : Bytes) (xs ys : List Bytes) (null : MVal) (w w1 w2 w3 w4 : MW) → name ≡ f.name → xs ≡ f.arguments → ys ≡ f.locals → null ≡ Str []
-    → w1 ≡ set_var name null w → w2 ≡ bind_arguments xs vs w1 → w3 ≡ bind_arguments ys [] w2 → w4 ≡ deeper w3 → w4 ≡ enter_call f.name f.arguments f.locals vs w
-entered f vs name xs ys null w w1 w2 w3 w4 same arguments locals none first second third last =
-    last
-    ∙ ap deeper (third
-    ∙ (λ i. bind_arguments (locals i) [] (second i))
-    ∙ (λ i. bind_arguments f.locals [] (bind_arguments (arguments i) vs (first i)))
-    ∙ (λ i. bind_arguments f.locals [] (bind_arguments f.arguments vs (set_var (same i) (none i) w))))
+older_is : (names : List Bytes) (saved : List Value) (count base : ℕ) → count ≡ min (length names) (length saved) → base ≡ length saved - count → older names saved ≡ base
+older_is names saved count base many at = omega (arith, many, at)
+
+pub restored_by : (names : List Bytes) (saved : List Value) (count base : ℕ) (w w1 : MW) → are_distinct names ≡ true → count ≡ min (length names) (length saved) → base ≡ length saved - count
+    → w1 ≡ bind_arguments (take count names) (map value_of (drop base saved)) w → w1 ≡ calls.restore (saved_as names (saved_by names saved)) w
+restored_by names saved count base w w1 distinct many at set =
+    let vs = drop base saved in
+    let size : length vs ≡ count = length-drop base saved ∙ omega (arith, many, at) in
+    let fits : length vs ≡ length (take count names) = size ∙ sym (length-take-le count names (omega (arith, many))) in
+    set
+    ∙ bind_restores (take count names) vs w (distinct_take names count distinct) fits
+    ∙ ap (λ n. calls.restore (saved_as (take n names) vs) w) (sym size)
+    ∙ ap (λ ss. calls.restore ss w) (saved_short names vs)
+    ∙ ap (λ n. calls.restore (saved_as names (drop n saved)) w) (sym (older_is names saved count base many at))
+
+-- the values that are left, and what the first name had
+pub taken_back : (f : FunctionPrototype) (saved mid cut rest : List Value) (count base : ℕ) (had : Value) (h : WorldView) → count ≡ min (length (names_of f)) (length saved) → base ≡ length saved - count → 0 < count
+    → AreSaved (take count (names_of f)) (take base saved) mid h → cut ≡ take (base + 1) mid → cut ≡ rest ++ had ∷ [] → (rest ≡ saved_below (names_of f) saved) × (value_of had ≡ values_in h f.name)
+taken_back f saved mid cut rest zero base had h many at some so short last = absurd (omega arith)
+taken_back f saved mid cut rest (suc n) base had h many at some ([], all, same) short last = absurd (cc)
+taken_back f saved mid cut rest (suc n) base had h many at some (v ∷ vs, all, same) short last =
+    let size : length (take base saved) ≡ base = length-take-le base saved (omega (arith, at)) in
+    let first : value_of v ≡ values_in h f.name = cc in
+    let ends = same_end rest (take base saved) had v
+        (sym last ∙ short ∙ (λ i. take (sym size i + 1) (all i)) ∙ take-append-add (take base saved) (v ∷ vs) 1) in (
+      ends.0 ∙ ap (λ k. take k saved) (sym (older_is (names_of f) saved (suc n) base many at)),
+      ap value_of ends.1 ∙ first,
+    )
+
+-- where nothing was saved
+pub none_saved : (f : FunctionPrototype) (saved : List Value) → min (length (names_of f)) (length saved) ≡ 0 → (w : MW) → (saved ≡ saved_below (names_of f) saved) × (w ≡ calls.restore (saved_as (names_of f) (saved_by (names_of f) saved)) w)
+none_saved f [] none w =
+    let at : older (names_of f) [] ≡ 0 = omega arith in (
+      sym (ap (λ k. take k []) at),
+      sym (ap (λ k. calls.restore (saved_as (names_of f) (drop k [])) w) at),
+    )
+none_saved f (v ∷ vs) none w = absurd (omega (arith, none))
 
 -- ---- what a call gave, where it is wanted
 

@@ -15,3 +15,5 @@ pub mod Named
 pub mod TypeFunctions
 pub mod Recorded
 pub mod Placed
+pub mod Exchanging
+pub mod Giving

@@ -1,20 +1,22 @@
 //! Calls of functions that DEFINE made: what a call saves, and what it gives back.
 
-ghost use Rattle.std.specs.Prelude.{◌≡◌, ℕ, map, option_map, IfOk, OnOk, OnErr};
+ghost use Rattle.std.specs.Prelude.{◌≡◌, ◌+◌, ◌≤◌, ◌++◌, ◌∷◌, ℕ, [], map, length, take, drop};
+ghost use Rattle.std.specs.Prelude.{true, option_map, Some, IfOk, OnOk, OnErr};
 ghost use Rattle.model.specs.Language.Io.{Io};
 ghost use Rattle.model.specs.Language.Calls.{as_name, as_value, back_to_caller, bind_arguments, enter_call, leave_op};
 ghost use Rattle.model.specs.Language.Calls as calls;
+ghost use Rattle.model.specs.Language.Prototypes.{are_distinct};
 ghost use Rattle.model.specs.Machine.Steps.{MW, PCode};
 ghost use Rattle.model.specs.declared.run.Stop.TheVariants.{NoMemory};
 ghost use Rattle.pattern_compiler.specs.View.{name_of};
 ghost use Rattle.prototypes.specs.Views.{names_of};
 ghost use Rattle.world.specs.Answers.{answer_map, op_of, stopped_by, AnswersOrFails, IfStopped};
-ghost use Rattle.world.specs.Calling.{AreSaved, IsKept, LeavesTo, given_of, kept_with, saved_as, saved_below, saved_by};
+ghost use Rattle.world.specs.Calling.{AreFilled, ArePut, AreSaved, IsKept, LeavesTo, given_of, kept_with, saved_below};
+ghost use Rattle.world.specs.declared.calls.Given.TheVariants as given;
 ghost use Rattle.world.specs.Held.{value_in, variable_at, world_of};
 ghost use Rattle.world.specs.Values.{value_of};
 ghost use Rattle.unit_io.specs.Service.{PrintsNothing, Served};
 
-use crate::arguments::argument;
 use crate::fault::Fault;
 use crate::value::Value;
 use crate::world::{NO_SLOT, World};
@@ -72,96 +74,99 @@ pub(crate) fn slot_at(slots: &[u32], number: usize) -> u32 {
     }
 }
 
-// A copy of a value, of which an integer is the usual one.
+// Puts a value at the end.
 #[inline(always)]
-fn copy_of(value: &Value) -> Result<Value, AllocError>
-    ensures { IfOk result (λ copy. copy ≡ value.now) }
+fn put(values: &mut Vec<Value>, value: Value) -> Result<(), AllocError>
+    ensures { OnOk result (values.new.items ≡ values.old.items ++ value ∷ []) }
 {
-    match value {
-        Value::Integer(n) => Ok(Value::Integer(*n)),
-        _ => value.clone(),
+    if values.len() >= values.capacity() {
+        values.reserve(1)?;
     }
+    values.push_reserved(value);
+    Ok(())
+}
+
+// Puts null values at the end, up to so many values in all.
+#[inline(always)]
+fn fill(values: &mut Vec<Value>, count: usize) -> Result<(), AllocError>
+    requires { length values.old.items ≤ count }
+    ensures { OnOk result (AreFilled count values.old.items values.new.items) }
+{
+    for _number in values.len()..count {
+        put(values, Value::null())?;
+    }
+    Ok(())
+}
+
+// Puts at the end what a call gives to the variables of its function: null to its name, to each argument its value, which
+// is moved, and null to a missing one and to locals.
+fn put_values(
+    prototype: &FunctionPrototype,
+    arguments: &mut Vec<Value>,
+    values: &mut Vec<Value>,
+) -> Result<(), AllocError>
+    ensures { OnOk result
+        (ArePut prototype.now arguments.old.items values.old.items values.new.items) }
+{
+    let count = values.len() + prototype.names().len();
+    put(values, Value::null())?;
+    arguments.truncate(prototype.arity());
+    values.append(arguments)?;
+    fill(values, count)
 }
 
 impl World {
     // A variable's value, which is null at first.
-    #[inline(always)]
     fn value(&self, name: &Text, slot: u32) -> Result<Value, AllocError>
         ensures { IfOk result (λ value. value_of value ≡ value_in (variable_at name.now self.now.variables)) }
     {
         match self.variable(name, slot) {
-            Some(variable) => copy_of(&variable.value),
+            Some(variable) => variable.value.clone(),
             None => Ok(Value::null()),
         }
     }
 
-    // Puts the values of variables at the end. Reads no unit.
-    fn save(&self, names: &[Text], slots: &[u32], saved: &mut Vec<Value>) -> Result<(), AllocError>
-        ensures { OnOk result (AreSaved names.now saved.old.items saved.new.items self.now) }
-    {
-        for (number, name) in names.iter().enumerate() {
-            saved.push(self.value(name, slot_at(slots, number))?)?;
-        }
-        Ok(())
-    }
-
-    // Each variable gets its argument; a missing one is null.
-    fn bind(&mut self, names: &[Text], slots: &[u32], arguments: &[Value]) -> Result<(), AllocError>
-        ensures { OnOk result ((io : Io)
-            → world_of self.new io ≡ bind_arguments names.now (map value_of arguments.now) (world_of self.old io)) }
-    {
-        let null = Value::null();
-        for (number, name) in names.iter().enumerate() {
-            let value = copy_of(argument(arguments, number, &null))?;
-            let _unit = self.set(name, slot_at(slots, number), value)?;
-        }
-        Ok(())
-    }
-
-    // Gives the variables back the values at the end, the last one first.
-    fn restore(
+    // Exchanges the values of variables with those from a place on, one after the other. Reads no unit.
+    #[inline(always)]
+    fn exchange_all(
         &mut self,
         names: &[Text],
         slots: &[u32],
-        saved: &mut Vec<Value>,
+        base: usize,
+        values: &mut Vec<Value>,
     ) -> Result<(), AllocError>
-        ensures values { OnOk result (saved.new.items ≡ saved_below names.now saved.old.items) }
-        ensures restored { OnOk result ((io : Io)
-            → world_of self.new io
-            ≡ calls.restore (saved_as names.now (saved_by names.now saved.old.items)) (world_of self.old io)) }
+        requires distinct { are_distinct names.now ≡ true }
+        requires count { base + length names.now ≡ length values.old.items }
+        ensures set { OnOk result ((io : Io) → world_of self.new io
+            ≡ bind_arguments names.now (map value_of (drop base values.old.items)) (world_of self.old io)) }
+        ensures had { OnOk result
+            (AreSaved names.now (take base values.old.items) values.new.items self.old) }
     {
-        let mut count = names.len().min(saved.as_slice().len());
-        while count > 0 {
-            count -= 1;
-            let Some(value) = saved.pop() else {
-                unreachable!();
-            };
-            let _unit = self.set(&names[count], slot_at(slots, count), value)?;
+        for (number, name) in names.iter().enumerate() {
+            self.exchange(name, slot_at(slots, number), &mut values[base + number])?;
         }
         Ok(())
     }
 
-    /// Begins a call: puts the values that it changes at the end of `saved`, and gives each argument its value. Reads
-    /// no unit. Without memory the keywords stay as they were.
+    /// Begins a call: puts the values that it changes at the end of `saved`, and gives each argument its value, which is
+    /// moved. Reads no unit. Without memory the keywords stay as they were.
     pub fn enter_call(
         &mut self,
         prototype: FunctionPrototype,
-        arguments: &[Value],
+        arguments: &mut Vec<Value>,
         saved: &mut Vec<Value>,
     ) -> Result<Kept, AllocError>
         ensures entered { OnOk result ((io : Io)
             → world_of self.new io
             ≡ enter_call prototype.name prototype.arguments prototype.locals
-            (map value_of arguments.now) (world_of self.old io)) }
+            (map value_of arguments.old.items) (world_of self.old io)) }
         ensures kept { IfOk result (λ kept. IsKept kept prototype saved.old.items saved.new.items self.old) }
     {
         let statement = self.statement();
         let level = self.level();
-        self.save(prototype.names(), prototype.slots(), saved)?;
-        let slot = slot_at(prototype.slots(), 0);
-        let _unit = self.set(prototype.name(), slot, Value::null())?;
-        self.bind(prototype.arguments(), prototype.argument_slots(), arguments)?;
-        self.bind(prototype.locals(), prototype.local_slots(), &[])?;
+        let base = saved.len();
+        put_values(&prototype, arguments, saved)?;
+        self.exchange_all(prototype.names(), prototype.slots(), base, saved)?;
         self.deepen();
         Ok(Kept {
             prototype,
@@ -170,45 +175,72 @@ impl World {
         })
     }
 
-    // What the end of a call gives.
-    fn given(
-        &self,
-        alloc: Global,
-        kind: ReturnKind,
-        name: &Text,
-        slot: u32,
-    ) -> Result<Option<Given>, Fault>
+    // The name that the end of a call gives.
+    fn named(&self, alloc: Global, name: &Text, slot: u32) -> Result<Name, Fault>
         ensures given { (io : Io) (c : calls.Kept PCode ℕ) → c.name ≡ name.now
-            → LeavesTo result (world_of self.now io)
-            (back_to_caller kind c (world_of self.now io)) (leave_op kind c (world_of self.now io)) }
+            → LeavesTo (answer_map (λ n. Some (given.Name n)) result) (world_of self.now io)
+            (back_to_caller ReturnKind.NReturn c (world_of self.now io))
+            (leave_op ReturnKind.NReturn c (world_of self.now io)) }
         ensures stop { IfStopped result (λ stop. stop ≡ NoMemory) }
     {
-        match kind {
-            ReturnKind::Return => Ok(Some(Given::Value(self.value(name, slot)?))),
-            ReturnKind::FReturn => Ok(None),
-            ReturnKind::NReturn => match self.value(name, slot)?.to_name(alloc) {
-                Ok(name) => Ok(Some(Given::Name(name))),
-                Err(Fault::Error(_)) => Err(Fault::Error(ErrorCode::NotAName)),
-                Err(stop) => Err(stop),
-            },
+        match self.value(name, slot)?.to_name(alloc) {
+            Ok(name) => Ok(name),
+            Err(Fault::Error(_)) => Err(Fault::Error(ErrorCode::NotAName)),
+            Err(stop) => Err(stop),
         }
     }
 
-    // The world of the caller.
+    // The world of the caller, and what the function's name had.
+    #[inline(always)]
     fn back(
         &mut self,
         kind: ReturnKind,
         kept: &Kept,
         saved: &mut Vec<Value>,
-    ) -> Result<(), AllocError>
+    ) -> Result<Value, AllocError>
         ensures values { OnOk result
             (saved.new.items ≡ saved_below (names_of kept.now.prototype) saved.old.items) }
         ensures back { OnOk result ((io : Io)
             → world_of self.new io ≡ back_to_caller kind (kept_with kept.now saved.old.items) (world_of self.old io)) }
+        ensures had { IfOk result (λ had.
+            value_of had ≡ value_in (variable_at kept.now.prototype.name self.old.variables)) }
     {
-        self.restore(kept.prototype.names(), kept.prototype.slots(), saved)?;
+        let names = kept.prototype.names();
+        let slots = kept.prototype.slots();
+        let count = names.len().min(saved.len());
+        if count == 0 {
+            let had = self.value(kept.prototype.name(), slot_at(slots, 0))?;
+            self.put_back(kind, kept.statement, kept.level);
+            return Ok(had);
+        }
+        let base = saved.len() - count;
+        self.exchange_all(&names[..count], slots, base, saved)?;
         self.put_back(kind, kept.statement, kept.level);
-        Ok(())
+        saved.truncate(base + 1);
+        match saved.pop() {
+            Some(had) => Ok(had),
+            None => unreachable!(),
+        }
+    }
+
+    // Ends a call that gives a name, unless it can't.
+    #[inline(never)]
+    fn leave_by_name(
+        &mut self,
+        alloc: Global,
+        kept: &Kept,
+        saved: &mut Vec<Value>,
+    ) -> Result<Option<Given>, Fault>
+        ensures values { OnOk result
+            (saved.new.items ≡ saved_below (names_of kept.now.prototype) saved.old.items) }
+        ensures left { (io : Io) → AnswersOrFails (answer_map (option_map given_of) result) (world_of self.new io)
+            (leave_op ReturnKind.NReturn (kept_with kept.now saved.old.items) (world_of self.old io)) }
+        ensures stop { IfStopped result (λ stop. stop ≡ NoMemory) }
+    {
+        let slot = slot_at(kept.prototype.slots(), 0);
+        let name = self.named(alloc, kept.prototype.name(), slot)?;
+        self.back(ReturnKind::NReturn, kept, saved)?;
+        Ok(Some(Given::Name(name)))
     }
 
     /// Ends a call: takes what it saved off the end of `saved`, and tells what it gives, or by `None` that it failed.
@@ -226,10 +258,15 @@ impl World {
             (leave_op kind (kept_with kept.now saved.old.items) (world_of self.old io)) }
         ensures stop { IfStopped result (λ stop. stop ≡ NoMemory) }
     {
-        let slot = slot_at(kept.prototype.slots(), 0);
-        let given = self.given(alloc, kind, kept.prototype.name(), slot)?;
-        self.back(kind, kept, saved)?;
-        Ok(given)
+        if let ReturnKind::NReturn = kind {
+            return self.leave_by_name(alloc, kept, saved);
+        }
+        let value = self.back(kind, kept, saved)?;
+        match kind {
+            ReturnKind::Return => Ok(Some(Given::Value(value))),
+            ReturnKind::FReturn => Ok(None),
+            ReturnKind::NReturn => unreachable!(),
+        }
     }
 
     /// The value of what a call gave, where a value is wanted. That of a name is fetched.

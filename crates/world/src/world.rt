@@ -13,7 +13,8 @@ ghost use Rattle.model.specs.Laws.Agreement.{first_m};
 ghost use Rattle.model.specs.Laws.PrintedBefore.{after_w};
 ghost use Rattle.pattern_compiler.specs.View.{name_of};
 ghost use Rattle.world.specs.Values.{value_of};
-ghost use Rattle.world.specs.Held.{world_of, IsPlain, StandsIn, name_at, zero_in, variable_at, input_in, output_in};
+ghost use Rattle.world.specs.Held.{world_of, IsPlain, StandsIn, name_at, zero_in, variable_at, value_in};
+ghost use Rattle.world.specs.Held.{input_in, output_in};
 ghost use Rattle.world.specs.Held.{with_variable, pattern_variable, first_patterns, first_variables};
 ghost use Rattle.world.specs.declared.value.Value.TheVariants.{String};
 ghost use Rattle.world.specs.declared.world.Variable.{Variable};
@@ -27,6 +28,7 @@ use model::{KeyId, Level};
 use pattern_compiler::{Basic, Name, PatCode};
 use std::alloc::{AllocError, Global};
 use std::marker::Model;
+use std::mem;
 use strings::Text;
 
 /// The slot of a name whose slot isn't known.
@@ -76,6 +78,15 @@ impl Variable {
             return;
         }
         self.value = value;
+    }
+
+    // Takes another value, which becomes the one that it had.
+    #[inline(always)]
+    fn exchange(&mut self, value: &mut Value)
+        ensures had { value.new ≡ self.old.value }
+        ensures set { self.new ≡ record self.old { value = value.old } }
+    {
+        mem::swap(&mut self.value, value);
     }
 
     fn set_units(&mut self, input: Option<u8>, output: Option<u8>)
@@ -372,6 +383,44 @@ impl World {
             }
             None => unreachable!(),
         }
+    }
+
+    // Puts a variable in that isn't there, with a value which becomes null.
+    #[cold]
+    #[inline(never)]
+    fn exchange_new(&mut self, name: &Text, value: &mut Value) -> Result<(), AllocError>
+        requires { is_some (variable_at name.now self.old.variables) ≡ false }
+        ensures set { OnOk result
+            ((io : Io) → world_of self.new io
+            ≡ set_var name.now (value_of value.old) (world_of self.old io)) }
+        ensures had { value_of value.new ≡ value_in (variable_at name.now self.old.variables) }
+    {
+        let new = mem::replace(value, Value::null());
+        self.set_new(name, new)
+    }
+
+    /// Gives a variable another value, which becomes the one that it had. Tells no unit.
+    #[inline(always)]
+    pub(crate) fn exchange(
+        &mut self,
+        name: &Text,
+        slot: u32,
+        value: &mut Value,
+    ) -> Result<(), AllocError>
+        ensures set { OnOk result
+            ((io : Io) → world_of self.new io
+            ≡ set_var name.now (value_of value.old) (world_of self.old io)) }
+        ensures had { OnOk result
+            (value_of value.new ≡ value_in (variable_at name.now self.old.variables)) }
+    {
+        let Some(at) = self.slot(name, slot) else {
+            return self.exchange_new(name, value);
+        };
+        match self.variables.get_index_mut(at) {
+            Some(variable) => variable.exchange(value),
+            None => unreachable!(),
+        }
+        Ok(())
     }
 
     /// The units that a variable reads from and writes to.

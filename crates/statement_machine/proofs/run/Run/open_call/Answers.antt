@@ -1,12 +1,9 @@
-use Rattle.std.proofs.Common.{◌∷◌, map, ap, ◌∙◌}
-use Rattle.model.specs.Language.Calls.{enter_call}
+use Rattle.std.proofs.Common.{◌∷◌, ap, ◌∙◌}
 use Rattle.loader.specs.Places.{offset_at}
 use Rattle.frames.specs.Frames.{frames_of}
 use Rattle.frames.specs.Stacked.{Stacked}
 use Rattle.frames.specs.declared.frame.Frame.{Frame}
 use Rattle.frames.specs.declared.frame.Waiting.TheVariants as waiting_for
-use Rattle.world.specs.Held.{world_of}
-use Rattle.world.specs.Values.{value_of}
 use Rattle.statement_machine.proofs.Calling.{waits_now}
 use Rattle.statement_machine.proofs.run.Run.open_call.Goals as goal
 
@@ -21,9 +18,3 @@ returns-clause-opened c im io =
     ap (λ (l : Stacked Frame). frames_of o l.top c.open.new.self.under c.open-2.new.self.under after) c.in_ok-push.ensures.ok
     ∙ (λ i. frames_of o (record { operands = c.open.ensures.count i; handlers = c.open-2.ensures.count i; waiting = waiting_for.Call k c.args.next c.args.want_name } ∷ r.frames.top) ((ops i).under) ((hs i).under) after)
     ∙ waits_now im r.frames.top c.args.prototype k c.args.want_name c.args.next r.state after c.in_ok-kept.ensures.kept io
-
-pub returns-clause-entered : goal.returns-clause-entered
-returns-clause-entered c io =
-    let w = world_of c.args.self.now.state.world io in
-    let f = c.args.prototype in
-    c.in_ok-kept.ensures.entered io ∙ ap (λ xs. enter_call f.name f.arguments f.locals (map value_of xs) w) c.as_slice.ensures.value

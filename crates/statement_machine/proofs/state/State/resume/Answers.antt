@@ -1,8 +1,10 @@
-use Rattle.std.proofs.Common.{true, subst, sym}
+use Rattle.std.proofs.Common.{true, false, subst, sym}
+use Rattle.model.specs.Language.Calls.{AValue}
 use Rattle.model.proofs.Machine.Standing as laws
 use Rattle.unit_io.proofs.Serving.{served_on}
 use Rattle.world.specs.Calling.{given_of}
 use Rattle.world.specs.Held.{world_of}
+use Rattle.world.specs.Values.{value_of}
 use Rattle.statement_machine.specs.Held.{Left, waiting}
 use Rattle.statement_machine.specs.Resuming.{CallerStands, caller_in, resumed_with}
 use Rattle.statement_machine.proofs.Flowing.{seen}
@@ -22,11 +24,24 @@ returns-then-want_name-clause-sound g c im fs h =
     seen im fs c.resume_for_name.result c.resume_for_name.new.self no_records _ (c.resume_for_name.ensures.left im fs no_records)
     (laws.resume_stands im true (caller_in im true c.args.next s) (waiting im fs s) (given_of c.args.given) (world_of s.world no_records) stands.0 stands.1)
 
-pub returns-clause-served : goal.returns-clause-served
-returns-clause-served g c =
+pub returns-in-Value-clause-served : goal.returns-in-Value-clause-served
+returns-in-Value-clause-served g c =
+    served_alone g.U.Units c.args.units.now c.put.result c.put.ensures.stop
+    (λ io im fs. subst (λ b. Left im fs c.put.result c.put.new.self io (resumed_with im fs b c.args.next c.args.given c.args.self.now io)) (sym c.if-want_name.false)
+    (subst (λ x. Left im fs c.put.result c.put.new.self io (resumed_with im fs false c.args.next x c.args.self.now io)) (sym c.in-Value.is) (c.put.ensures.left im fs io)))
+
+pub returns-in-Value-clause-sound : goal.returns-in-Value-clause-sound
+returns-in-Value-clause-sound g c im fs h =
+    let s = c.args.self.now in
+    let stands = subst (λ b. CallerStands im fs b c.args.next s) c.if-want_name.false h in
+    seen im fs c.put.result c.put.new.self no_records _ (c.put.ensures.left im fs no_records)
+    (laws.resume_stands im false (caller_in im false c.args.next s) (waiting im fs s) (AValue (value_of c.in-Value.value)) (world_of s.world no_records) stands.0 stands.1)
+
+pub returns-in_default-clause-served : goal.returns-in_default-clause-served
+returns-in_default-clause-served g c =
     served_on c.resume_for_value.ensures.served
     (λ io io' p im fs. subst (λ b. Left im fs c.resume_for_value.result c.resume_for_value.new.self io' (resumed_with im fs b c.args.next c.args.given c.args.self.now io)) (sym c.if-want_name.false) (p im fs))
 
-pub returns-clause-sound : goal.returns-clause-sound
-returns-clause-sound g c im fs h =
+pub returns-in_default-clause-sound : goal.returns-in_default-clause-sound
+returns-in_default-clause-sound g c im fs h =
     c.resume_for_value.ensures.sound im fs (subst (λ b. CallerStands im fs b c.args.next c.args.self.now) c.if-want_name.false h)

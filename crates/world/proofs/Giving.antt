@@ -1,0 +1,93 @@
+-- What a call gives to the variables of its function.
+use Rattle.std.proofs.Common.{◌≡◌, ℕ, zero, suc, ◌+◌, List, [], ◌∷◌, ◌++◌, length, map, take, drop, refl, sym, ap, ◌∙◌, arith, append_assoc, append-nil}
+use Rattle.std.proofs.lemmas.List.{length-append, map-append, take-map}
+use Rattle.std.proofs.Math.Seq.{drop-append_seam, take-append_seam}
+use Rattle.model.specs.Deck.Trees.{Bytes}
+use Rattle.model.specs.Language.Values.{Str, set_var}
+use Rattle.model.specs.Language.Calls.{bind_arguments, enter_call}
+use Rattle.model.specs.Language.Prototypes.{FunctionPrototype}
+use Rattle.model.specs.Machine.Steps.{MVal, MW}
+use Rattle.prototypes.specs.Views.{names_of}
+use Rattle.world.specs.Values.{value_of}
+use Rattle.world.specs.Calling.{AreFilled, ArePut, AreSaved, nulls}
+use Rattle.world.specs.Counts.{deeper}
+use Rattle.world.specs.Held.{WorldView}
+use Rattle.world.specs.declared.value.Value.{Value}
+
+-- ---- null values
+
+nulls_more : (vs : List Value) (v : Value) → nulls (length (vs ++ v ∷ [])) ≡ nulls (length vs) ++ Str [] ∷ []
+nulls_more [] v = refl
+nulls_more (u ∷ vs) v = ap (λ ws. Str [] ∷ ws) (nulls_more vs v)
+
+pub none_filled : (all : List Value) (n : ℕ) → n ≡ length all → AreFilled n all all
+none_filled all n is = ([], sym (append-nil all), refl, sym is)
+
+pub fill_turn : (before now new : List Value) (n : ℕ) (v : Value) → value_of v ≡ Str [] → new ≡ now ++ v ∷ [] → AreFilled n before now → AreFilled (n + 1) before new
+fill_turn before now new n v null more (vs, all, same, size) = (
+  vs ++ v ∷ [],
+  more ∙ ap (λ ws. ws ++ v ∷ []) all ∙ append_assoc before vs (v ∷ []),
+  map-append value_of vs (v ∷ [])
+      ∙ ap (λ ws. ws ++ value_of v ∷ []) same
+      ∙ ap (λ z. nulls (length vs) ++ z ∷ []) null
+      ∙ sym (nulls_more vs v),
+  omega (arith, ap length more, length-append now (v ∷ []), size),
+)
+
+-- ---- all that a call gives
+
+pub put_all : (f : FunctionPrototype) (given before mid after : List Value) (null : Value) (n count : ℕ) → value_of null ≡ Str [] → n ≡ length f.arguments → mid ≡ (before ++ null ∷ []) ++ take n given → count ≡ length before + length (names_of f)
+    → AreFilled count mid after → ArePut f given before after
+put_all f given before mid after null n count is arity put all (ns, filled, same, size) =
+    let vs : List Value = null ∷ (take n given ++ ns) in
+    let whole : after ≡ before ++ vs =
+        filled
+        ∙ ap (λ ws. ws ++ ns) (put ∙ append_assoc before (null ∷ []) (take n given))
+        ∙ append_assoc before (null ∷ take n given) ns in (
+      vs,
+      whole,
+      omega (arith, size, all, ap length whole, length-append before vs),
+      (
+        length ns,
+        (λ i. is i ∷ map-append value_of (take n given) ns i)
+            ∙ ap (λ ws. Str [] ∷ (map value_of (take n given) ++ ws)) same
+            ∙ ap (λ ws. Str [] ∷ (ws ++ nulls (length ns))) (sym (take-map value_of n given) ∙ ap (λ k. take k (map value_of given)) arity),
+      ),
+    )
+
+bind_nulls : (xs : List Bytes) (k : ℕ) (w : MW) → bind_arguments xs (nulls k) w ≡ bind_arguments xs [] w
+bind_nulls [] k w = refl
+bind_nulls (x ∷ xs) zero w = refl
+bind_nulls (x ∷ xs) (suc k) w = bind_nulls xs k (set_var x (Str []) w)
+
+bind_none : (xs ys : List Bytes) (w : MW) → bind_arguments (xs ++ ys) [] w ≡ bind_arguments ys [] (bind_arguments xs [] w)
+bind_none [] ys w = refl
+bind_none (x ∷ xs) ys w = bind_none xs ys (set_var x (Str []) w)
+
+bind_all : (xs ys : List Bytes) (vs : List MVal) (k : ℕ) (w : MW) → bind_arguments (xs ++ ys) (take (length xs) vs ++ nulls k) w ≡ bind_arguments ys [] (bind_arguments xs vs w)
+bind_all [] ys [] k w = bind_nulls ys k w
+bind_all [] ys (v ∷ vs) k w = bind_nulls ys k w
+bind_all (x ∷ xs) ys [] k w = bind_nulls (x ∷ (xs ++ ys)) k w ∙ bind_none (x ∷ xs) ys w
+bind_all (x ∷ xs) ys (v ∷ vs) k w = bind_all xs ys vs k (set_var x v w)
+
+-- ---- entering
+
+module _ (f : FunctionPrototype) (given before mid : List Value) (base : ℕ) (at : base ≡ length before) (put : ArePut f given before mid) where
+  pub put_count : (names : List Bytes) → names ≡ names_of f → base + length names ≡ length mid
+  put_count names is = omega (arith, at, ap length is, ap length put.1, length-append before put.0, put.2)
+
+  pub put_before : take base mid ≡ before
+  put_before = (λ i. take (at i) (put.1 i)) ∙ take-append_seam before put.0
+
+  pub saved_before : (names : List Bytes) (after : List Value) (h : WorldView) → AreSaved names (take base mid) after h → AreSaved names before after h
+  saved_before names after h (vs, all, same) = (vs, all ∙ ap (λ ws. ws ++ vs) put_before, same)
+
+  pub entered : (names : List Bytes) (w w1 w2 : MW) → names ≡ names_of f → w1 ≡ bind_arguments names (map value_of (drop base mid)) w → w2 ≡ deeper w1
+      → w2 ≡ enter_call f.name f.arguments f.locals (map value_of given) w
+  entered names w w1 w2 is set last =
+      let behind : drop base mid ≡ put.0 = (λ i. drop (at i) (put.1 i)) ∙ drop-append_seam before put.0 in
+      last
+      ∙ ap deeper (set
+      ∙ (λ i. bind_arguments (is i) (map value_of (behind i)) w)
+      ∙ ap (λ vs. bind_arguments (names_of f) vs w) put.3.1
+      ∙ bind_all f.arguments f.locals (map value_of given) put.3.0 (set_var f.name (Str []) w))
