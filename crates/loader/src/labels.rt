@@ -7,6 +7,7 @@ ghost use Rattle.std.specs.HashMap.{get_by};
 ghost use Rattle.model.specs.Module.Images.{statement_labelled};
 ghost use Rattle.model.specs.Module.Spelling.{IsImage};
 ghost use Rattle.model.specs.Module.WellFormed.{is_label_name, is_statement};
+ghost use Rattle.loader.specs.Labels.{AreNumbers};
 ghost use Rattle.loader.specs.Parts.{label_fault};
 
 use crate::names::{is_label_name, is_statement};
@@ -70,4 +71,27 @@ pub(crate) fn label_map<'a>(
         }
     }
     Ok(found)
+}
+
+/// The statements of the labels by the numbers of their strings, and 0 for the other strings.
+pub(crate) fn label_numbers(
+    alloc: Global,
+    image: &ImageView<'_>,
+    found: &IndexMap<&[u8], u32>,
+) -> Result<Vec<u32>, AllocError>
+    requires { (name : List ℕ) → get_by (λ k. bytes_eq name k.now) found.now
+        ≡ statement_labelled image.now.strings image.now.labels name None }
+    ensures { IfOk result (λ numbers. AreNumbers image.now numbers.items) }
+{
+    let mut numbers = Vec::new(alloc);
+    numbers.resize(image.strings().len(), 0)?;
+    let labels = image.labels();
+    for label in labels {
+        if let Some(name) = image.string(label.string) {
+            if let Some(number) = found.get(name) {
+                numbers[label.string as usize] = *number;
+            }
+        }
+    }
+    Ok(numbers)
 }
