@@ -32,8 +32,8 @@ struct Held {
     matcher: Matcher,
     // Where a match that succeeds goes on.
     place: usize,
-    // The subject, if the match leaves what it matched for a replacement.
-    replaced: Option<Text>,
+    // Whether a match that succeeds leaves what it matched for a replacement.
+    keep: bool,
     // The literal that it was last answered.
     literal: Literal,
 }
@@ -51,25 +51,22 @@ impl Drop for Matching {
 }
 
 impl Model for Matching {
-    ghost use Rattle.std.specs.Prelude.{is_some};
-    ghost use Rattle.frames.specs.Matches.{Match, IfGiven};
-    ghost use Rattle.std.specs.Prelude.{◌≡◌};
+    ghost use Rattle.frames.specs.Matches.{Match};
 
     ghost Value = { Match };
 
     ghost view = { λ g. record {
       search = g.held.value.matcher;
       place = g.held.value.place;
-      keep = is_some g.held.value.replaced;
+      keep = g.held.value.keep;
     } };
-
-    ghost invariant = { λ g.
-        IfGiven g.held.value.replaced (λ subject. subject ≡ g.held.value.matcher.subject) };
 }
 
 impl Matching {
-    /// A match before its first step. `place` is where it goes on if it succeeds, and `keep` whether it then leaves
+    /// A match before its first step, with memory of its own. `place` is where it goes on if it succeeds, and `keep` whether it then leaves
     /// what it matched.
+    #[cold]
+    #[inline(never)]
     pub fn start(
         alloc: Global,
         code: PatCode,
@@ -89,16 +86,60 @@ impl Matching {
           keep = keep;
         }) }
     {
-        let replaced = if keep { Some(subject.clone()?) } else { None };
         let held = Held {
             matcher: Matcher::start(alloc, code, subject, anchored),
             place,
-            replaced,
+            keep,
             literal: Literal::null(),
         };
         Ok(Matching {
             held: Box::new(alloc, held)?,
         })
+    }
+
+    /// Another match before its first step, as by `start`, with the memory of this one. Takes no memory.
+    #[inline(always)]
+    pub fn restart(
+        &mut self,
+        code: PatCode,
+        subject: Text,
+        anchored: bool,
+        place: usize,
+        keep: bool,
+    )
+        ensures { self.new ≡ record {
+          search = record {
+            subject = subject;
+            code = code;
+            state = Starting 0 (if anchored then 0 else length subject) [];
+            refused = false;
+          };
+          place = place;
+          keep = keep;
+        } }
+    {
+        let held = &mut *self.held;
+        held.matcher.restart(code, subject, anchored);
+        held.place = place;
+        held.keep = keep;
+    }
+
+    /// The match is over, and lets go of what it held; its subject. Its memory stays for another match.
+    #[inline(never)]
+    pub fn finish(&mut self) -> Text
+        ensures subject { result ≡ self.old.search.subject }
+        ensures over { self.new ≡ record self.old {
+          search = record {
+            subject = [];
+            code = [];
+            state = Over Lost;
+            refused = false;
+          };
+        } }
+    {
+        let held = &mut *self.held;
+        held.literal = Literal::null();
+        held.matcher.finish()
     }
 
     /// Where it goes on if it succeeds.
@@ -172,33 +213,29 @@ impl Matching {
         self.held.matcher.supply(answer)
     }
 
-    /// The match succeeded between two places: leaves what it matched, if it has to.
+    /// The match succeeded between two places: leaves what it matched, if it has to, and is over.
     pub fn found(
-        self,
+        &mut self,
         operands: &mut Stack<Operand>,
         start: usize,
         end: usize,
     ) -> Result<(), AllocError>
         ensures ok { OnOk result
             (operands_of operands.new.top
-            ≡ found_as self.keep self.search.subject start end (operands_of operands.old.top)) }
+            ≡ found_as self.old.keep self.old.search.subject start end (operands_of operands.old.top)) }
         ensures under { operands.new.under ≡ operands.old.under }
         ensures err { OnErr result (operands.new ≡ operands.old) }
     {
-        let Matching { held } = self;
-        let Held {
-            matcher: _,
-            place: _,
-            replaced,
-            literal: _,
-        } = Box::into_inner(held);
-        match replaced {
-            Some(subject) => operands.push(Operand::Span(Span {
+        let keep = self.held.keep;
+        let subject = self.finish();
+        if keep {
+            operands.push(Operand::Span(Span {
                 subject,
                 start,
                 end,
-            })),
-            None => Ok(()),
+            }))
+        } else {
+            Ok(())
         }
     }
 }

@@ -65,7 +65,7 @@ impl State {
     pub(crate) fn matched<U: Units>(
         &mut self,
         units: &mut U,
-        matching: Matching,
+        matching: &mut Matching,
         start: usize,
         end: usize,
         pending: Vec<Assignment>,
@@ -73,17 +73,17 @@ impl State {
         ensures served { Served U.Units (halted_by result) units.old units.new (λ io io'.
             (im : Image) (fs : List Frame) → Left im fs result self.new io'
             (on_event (module_of im) (Matched start end (pending_of pending.items))
-            (matching_in im matching self.old) matching.search.state (waiting im fs self.old)
+            (matching_in im matching.old self.old) matching.old.search.state (waiting im fs self.old)
             (world_of self.old.world io))) }
         ensures printed { (im : Image) (fs : List Frame)
             → PrintsWithin (halted_by result) (U.told units.old) (U.told units.new) (λ io.
             on_event (module_of im) (Matched start end (pending_of pending.items))
-            (matching_in im matching self.old) matching.search.state (waiting im fs self.old)
+            (matching_in im matching.old self.old) matching.old.search.state (waiting im fs self.old)
             (world_of self.old.world io)) }
         ensures shape { OnOk result
-            ((self.new.place ≡ matching.place) × (self.new.handlers ≡ self.old.handlers)
+            ((self.new.place ≡ matching.old.place) × (self.new.handlers ≡ self.old.handlers)
             × (self.new.operands.under ≡ self.old.operands.under)
-            × (kinds_of self.new.operands.top ≡ found_kinds matching.keep (kinds_of self.old.operands.top))
+            × (kinds_of self.new.operands.top ≡ found_kinds matching.old.keep (kinds_of self.old.operands.top))
             × (self.new.saved.items ≡ self.old.saved.items)) }
         ensures halts { GoesOrHalts result }
     {
