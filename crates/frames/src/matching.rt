@@ -5,7 +5,7 @@ ghost use Rattle.std.specs.Prelude.{IfErr, IsErr, OnOk, OnErr, if◌then◌else�
 ghost use Rattle.frames.specs.View.{operands_of};
 ghost use Rattle.frames.specs.Matches.{in_match, matching_of};
 ghost use Rattle.match_machine.specs.Held.{IsQuestion};
-ghost use Rattle.match_machine.specs.View.{event_is, answer_view, want_of};
+ghost use Rattle.match_machine.specs.View.{event_is, come_is, answer_view, want_of};
 ghost use Rattle.model.specs.Language.Conversions.{answer_of};
 ghost use Rattle.model.specs.Pattern.Patterns.{Running};
 ghost use Rattle.model.specs.Pattern.Steps.{Starting, Over, Lost, event_of, with_more};
@@ -19,7 +19,7 @@ use crate::answering::answer_of;
 use crate::literal::Literal;
 use crate::operand::Operand;
 use crate::stack::Stack;
-use match_machine::{Answer, Event, Matcher, Want};
+use match_machine::{Answer, Come, Event, Matcher, Want};
 use pattern_compiler::PatCode;
 use std::alloc::{AllocError, Global};
 use std::marker::Model;
@@ -180,6 +180,45 @@ impl Matching {
     {
         let (event, count) = self.held.matcher.advance(bound)?;
         Ok((event, count))
+    }
+
+    /// At least one step and at most so many, and fewer only up to an event; how many. The machine makes as many, and goes
+    /// on from the last by that event.
+    pub fn go_on(&mut self, bound: u64) -> Result<u64, AllocError>
+        requires running { event_of self.old.search.state ≡ Running }
+        requires bound { 0 < bound }
+        ensures count { IfOk result (λ n. (0 < n) × (n ≤ bound)) }
+        ensures fewer { IfOk result (λ n. n < bound → event_of self.new.search.state ≢ Running) }
+        ensures steps { IfOk result (λ n. (img : Module) (o : ℕ → ℕ) (ops : List m.Operand)
+            (hs : List m.Handler) (fs : List Frame) (w : MW) →
+            steps img n (in_match o self.old ops hs fs w)
+            ≡ on_event img (event_of self.new.search.state)
+            (matching_of o self.old ops hs) self.new.search.state fs w) }
+        ensures same { OnOk result
+            (self.new ≡ record self.old {
+              search = record self.old.search {
+                state =
+                    self.new.search.state;
+              };
+            }) }
+        ensures refused { IfErr result (λ _.
+            self.new ≡ record self.old {
+              search = record self.old.search {
+                state = Over Lost;
+                refused = true;
+              };
+            }) }
+        ensures stays { self.old.search.refused ≡ true → IsErr result }
+    {
+        let count = self.held.matcher.go_on(bound)?;
+        Ok(count)
+    }
+
+    /// What the match has come to. Takes no memory.
+    pub fn come(&self) -> Come<'_>
+        ensures { come_is result ≡ event_of self.now.search.state }
+    {
+        self.held.matcher.come()
     }
 
     /// The answer that a value is to a match that wants a pattern, a count or bytes. A string that answers again takes no

@@ -234,6 +234,13 @@ impl Trail {
         Ok(())
     }
 
+    /// The pending assignments.
+    pub fn pending(&self) -> &[Assignment]
+        ensures { pending_of result.now ≡ self.now.pending }
+    {
+        self.pending.as_slice()
+    }
+
     /// A copy of the pending assignments.
     pub fn copy_pending(&self, alloc: Global) -> Result<Vec<Assignment>, AllocError>
         ensures { IfOk result (λ v. pending_of v.items ≡ self.now.pending) }
