@@ -5,7 +5,7 @@ ghost use Rattle.std.specs.Prelude.{IfErr, IsErr, OnOk, OnErr, if◌then◌else�
 ghost use Rattle.frames.specs.View.{operands_of};
 ghost use Rattle.frames.specs.Matches.{in_match, matching_of};
 ghost use Rattle.match_machine.specs.Held.{IsQuestion};
-ghost use Rattle.match_machine.specs.View.{event_is, come_is, answer_view, want_of};
+ghost use Rattle.match_machine.specs.View.{come_is, answer_view, want_of};
 ghost use Rattle.model.specs.Language.Conversions.{answer_of};
 ghost use Rattle.model.specs.Pattern.Patterns.{Running};
 ghost use Rattle.model.specs.Pattern.Steps.{Starting, Over, Lost, event_of, with_more};
@@ -19,7 +19,7 @@ use crate::answering::answer_of;
 use crate::literal::Literal;
 use crate::operand::Operand;
 use crate::stack::Stack;
-use match_machine::{Answer, Come, Event, Matcher, Want};
+use match_machine::{Answer, Come, Matcher, Want};
 use pattern_compiler::PatCode;
 use std::alloc::{AllocError, Global};
 use std::marker::Model;
@@ -149,39 +149,6 @@ impl Matching {
         self.held.place
     }
 
-    /// At least one step and at most so many, and fewer only up to an event; the event, and how many steps. The machine
-    /// makes as many, and goes on from the last by that event.
-    pub fn advance(&mut self, bound: u64) -> Result<(Event, u64), AllocError>
-        requires running { event_of self.old.search.state ≡ Running }
-        requires bound { 0 < bound }
-        ensures event { IfOk result (λ (e, n). event_is e ≡ event_of self.new.search.state) }
-        ensures count { IfOk result (λ (e, n). (0 < n) × (n ≤ bound)) }
-        ensures fewer { IfOk result (λ (e, n). n < bound → event_is e ≢ Running) }
-        ensures steps { IfOk result (λ (e, n). (img : Module) (o : ℕ → ℕ) (ops : List m.Operand)
-            (hs : List m.Handler) (fs : List Frame) (w : MW) →
-            steps img n (in_match o self.old ops hs fs w)
-            ≡ on_event img (event_is e)
-            (matching_of o self.old ops hs) self.new.search.state fs w) }
-        ensures same { OnOk result
-            (self.new ≡ record self.old {
-              search = record self.old.search {
-                state =
-                    self.new.search.state;
-              };
-            }) }
-        ensures refused { IfErr result (λ _.
-            self.new ≡ record self.old {
-              search = record self.old.search {
-                state = Over Lost;
-                refused = true;
-              };
-            }) }
-        ensures stays { self.old.search.refused ≡ true → IsErr result }
-    {
-        let (event, count) = self.held.matcher.advance(bound)?;
-        Ok((event, count))
-    }
-
     /// At least one step and at most so many, and fewer only up to an event; how many. The machine makes as many, and goes
     /// on from the last by that event.
     pub fn go_on(&mut self, bound: u64) -> Result<u64, AllocError>
@@ -238,6 +205,7 @@ impl Matching {
     }
 
     /// The answer to the question that was the last event, with which the match goes on. Takes no memory.
+    #[inline(always)]
     pub fn supply(&mut self, answer: Answer)
         requires { IsQuestion (event_of self.old.search.state) }
         ensures state { self.new
