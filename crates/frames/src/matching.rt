@@ -5,7 +5,7 @@ ghost use Rattle.std.specs.Prelude.{IfErr, IsErr, OnOk, OnErr, if◌then◌else�
 ghost use Rattle.frames.specs.View.{operands_of};
 ghost use Rattle.frames.specs.Matches.{in_match, matching_of};
 ghost use Rattle.match_machine.specs.Held.{IsQuestion};
-ghost use Rattle.match_machine.specs.View.{event_is, answer_view, want_of};
+ghost use Rattle.match_machine.specs.View.{come_is, answer_view, want_of};
 ghost use Rattle.model.specs.Language.Conversions.{answer_of};
 ghost use Rattle.model.specs.Pattern.Patterns.{Running};
 ghost use Rattle.model.specs.Pattern.Steps.{Starting, Over, Lost, event_of, with_more};
@@ -19,7 +19,7 @@ use crate::answering::answer_of;
 use crate::literal::Literal;
 use crate::operand::Operand;
 use crate::stack::Stack;
-use match_machine::{Answer, Event, Matcher, Want};
+use match_machine::{Answer, Come, Matcher, Want};
 use pattern_compiler::PatCode;
 use std::alloc::{AllocError, Global};
 use std::marker::Model;
@@ -32,8 +32,8 @@ struct Held {
     matcher: Matcher,
     // Where a match that succeeds goes on.
     place: usize,
-    // The subject, if the match leaves what it matched for a replacement.
-    replaced: Option<Text>,
+    // Whether a match that succeeds leaves what it matched for a replacement.
+    keep: bool,
     // The literal that it was last answered.
     literal: Literal,
 }
@@ -51,25 +51,22 @@ impl Drop for Matching {
 }
 
 impl Model for Matching {
-    ghost use Rattle.std.specs.Prelude.{is_some};
-    ghost use Rattle.frames.specs.Matches.{Match, IfGiven};
-    ghost use Rattle.std.specs.Prelude.{◌≡◌};
+    ghost use Rattle.frames.specs.Matches.{Match};
 
     ghost Value = { Match };
 
     ghost view = { λ g. record {
       search = g.held.value.matcher;
       place = g.held.value.place;
-      keep = is_some g.held.value.replaced;
+      keep = g.held.value.keep;
     } };
-
-    ghost invariant = { λ g.
-        IfGiven g.held.value.replaced (λ subject. subject ≡ g.held.value.matcher.subject) };
 }
 
 impl Matching {
-    /// A match before its first step. `place` is where it goes on if it succeeds, and `keep` whether it then leaves
+    /// A match before its first step, with memory of its own. `place` is where it goes on if it succeeds, and `keep` whether it then leaves
     /// what it matched.
+    #[cold]
+    #[inline(never)]
     pub fn start(
         alloc: Global,
         code: PatCode,
@@ -89,16 +86,60 @@ impl Matching {
           keep = keep;
         }) }
     {
-        let replaced = if keep { Some(subject.clone()?) } else { None };
         let held = Held {
             matcher: Matcher::start(alloc, code, subject, anchored),
             place,
-            replaced,
+            keep,
             literal: Literal::null(),
         };
         Ok(Matching {
             held: Box::new(alloc, held)?,
         })
+    }
+
+    /// Another match before its first step, as by `start`, with the memory of this one. Takes no memory.
+    #[inline(always)]
+    pub fn restart(
+        &mut self,
+        code: PatCode,
+        subject: Text,
+        anchored: bool,
+        place: usize,
+        keep: bool,
+    )
+        ensures { self.new ≡ record {
+          search = record {
+            subject = subject;
+            code = code;
+            state = Starting 0 (if anchored then 0 else length subject) [];
+            refused = false;
+          };
+          place = place;
+          keep = keep;
+        } }
+    {
+        let held = &mut *self.held;
+        held.matcher.restart(code, subject, anchored);
+        held.place = place;
+        held.keep = keep;
+    }
+
+    /// The match is over, and lets go of what it held; its subject. Its memory stays for another match.
+    #[inline(never)]
+    pub fn finish(&mut self) -> Text
+        ensures subject { result ≡ self.old.search.subject }
+        ensures over { self.new ≡ record self.old {
+          search = record {
+            subject = [];
+            code = [];
+            state = Over Lost;
+            refused = false;
+          };
+        } }
+    {
+        let held = &mut *self.held;
+        held.literal = Literal::null();
+        held.matcher.finish()
     }
 
     /// Where it goes on if it succeeds.
@@ -108,18 +149,17 @@ impl Matching {
         self.held.place
     }
 
-    /// At least one step and at most so many, and fewer only up to an event; the event, and how many steps. The machine
-    /// makes as many, and goes on from the last by that event.
-    pub fn advance(&mut self, bound: u64) -> Result<(Event, u64), AllocError>
+    /// At least one step and at most so many, and fewer only up to an event; how many. The machine makes as many, and goes
+    /// on from the last by that event.
+    pub fn go_on(&mut self, bound: u64) -> Result<u64, AllocError>
         requires running { event_of self.old.search.state ≡ Running }
         requires bound { 0 < bound }
-        ensures event { IfOk result (λ (e, n). event_is e ≡ event_of self.new.search.state) }
-        ensures count { IfOk result (λ (e, n). (0 < n) × (n ≤ bound)) }
-        ensures fewer { IfOk result (λ (e, n). n < bound → event_is e ≢ Running) }
-        ensures steps { IfOk result (λ (e, n). (img : Module) (o : ℕ → ℕ) (ops : List m.Operand)
+        ensures count { IfOk result (λ n. (0 < n) × (n ≤ bound)) }
+        ensures fewer { IfOk result (λ n. n < bound → event_of self.new.search.state ≢ Running) }
+        ensures steps { IfOk result (λ n. (img : Module) (o : ℕ → ℕ) (ops : List m.Operand)
             (hs : List m.Handler) (fs : List Frame) (w : MW) →
             steps img n (in_match o self.old ops hs fs w)
-            ≡ on_event img (event_is e)
+            ≡ on_event img (event_of self.new.search.state)
             (matching_of o self.old ops hs) self.new.search.state fs w) }
         ensures same { OnOk result
             (self.new ≡ record self.old {
@@ -137,8 +177,15 @@ impl Matching {
             }) }
         ensures stays { self.old.search.refused ≡ true → IsErr result }
     {
-        let (event, count) = self.held.matcher.advance(bound)?;
-        Ok((event, count))
+        let count = self.held.matcher.go_on(bound)?;
+        Ok(count)
+    }
+
+    /// What the match has come to. Takes no memory.
+    pub fn come(&self) -> Come<'_>
+        ensures { come_is result ≡ event_of self.now.search.state }
+    {
+        self.held.matcher.come()
     }
 
     /// The answer that a value is to a match that wants a pattern, a count or bytes. A string that answers again takes no
@@ -158,6 +205,7 @@ impl Matching {
     }
 
     /// The answer to the question that was the last event, with which the match goes on. Takes no memory.
+    #[inline(always)]
     pub fn supply(&mut self, answer: Answer)
         requires { IsQuestion (event_of self.old.search.state) }
         ensures state { self.new
@@ -172,33 +220,29 @@ impl Matching {
         self.held.matcher.supply(answer)
     }
 
-    /// The match succeeded between two places: leaves what it matched, if it has to.
+    /// The match succeeded between two places: leaves what it matched, if it has to, and is over.
     pub fn found(
-        self,
+        &mut self,
         operands: &mut Stack<Operand>,
         start: usize,
         end: usize,
     ) -> Result<(), AllocError>
         ensures ok { OnOk result
             (operands_of operands.new.top
-            ≡ found_as self.keep self.search.subject start end (operands_of operands.old.top)) }
+            ≡ found_as self.old.keep self.old.search.subject start end (operands_of operands.old.top)) }
         ensures under { operands.new.under ≡ operands.old.under }
         ensures err { OnErr result (operands.new ≡ operands.old) }
     {
-        let Matching { held } = self;
-        let Held {
-            matcher: _,
-            place: _,
-            replaced,
-            literal: _,
-        } = Box::into_inner(held);
-        match replaced {
-            Some(subject) => operands.push(Operand::Span(Span {
+        let keep = self.held.keep;
+        let subject = self.finish();
+        if keep {
+            operands.push(Operand::Span(Span {
                 subject,
                 start,
                 end,
-            })),
-            None => Ok(()),
+            }))
+        } else {
+            Ok(())
         }
     }
 }

@@ -52,6 +52,30 @@ pub enum Event {
     Failed,
 }
 
+/// What a match has come to, with names and values where they are.
+#[derive(Clone, Copy)]
+pub enum Come<'a> {
+    /// Nothing yet.
+    Running,
+    /// The value of this expression is asked for.
+    Ask {
+        expr: u32,
+        want: Want,
+    },
+    /// An assignment is asked for.
+    Say {
+        name: &'a Name,
+        value: &'a Told,
+    },
+    /// The first success, with its assignments in order.
+    Matched {
+        start: usize,
+        end: usize,
+        pending: &'a [Assignment],
+    },
+    Failed,
+}
+
 /// The answer to a question.
 #[derive(Drop)]
 pub enum Answer {

@@ -22,5 +22,5 @@ mod state;
 mod step;
 mod trail;
 
-pub use event::{Answer, Assignment, Event, Told, Want};
+pub use event::{Answer, Assignment, Come, Event, Told, Want};
 pub use matcher::Matcher;

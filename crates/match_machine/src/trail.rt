@@ -19,6 +19,9 @@ use std::alloc::{AllocError, Global};
 use std::marker::Model;
 use std::mem;
 
+/// So much room is more than a list keeps for the next match.
+const MANY: usize = 4096;
+
 /// A cursor that OPEN noted, how many choices FOPEN noted, or where the code that EVAL left goes on.
 #[derive(Drop)]
 pub enum Note {
@@ -106,6 +109,19 @@ impl Trail {
         self.log.clear();
         self.pending.clear();
         Ok(())
+    }
+
+    /// Nothing again. The memory of its lists stays for others, but for that of long ones.
+    pub fn clear(&mut self, alloc: Global)
+        ensures { self.new ≡ record { code = []; notes = []; pending = []; backs = [] } }
+    {
+        self.code = PatCode::null();
+        self.stored = false;
+        self.head = 0;
+        empty(alloc, &mut self.choices);
+        empty(alloc, &mut self.codes);
+        empty(alloc, &mut self.log);
+        empty(alloc, &mut self.pending);
     }
 
     /// Adds a note.
@@ -216,6 +232,13 @@ impl Trail {
     {
         self.pending.push(assignment)?;
         Ok(())
+    }
+
+    /// The pending assignments.
+    pub fn pending(&self) -> &[Assignment]
+        ensures { pending_of result.now ≡ self.now.pending }
+    {
+        self.pending.as_slice()
     }
 
     /// A copy of the pending assignments.
@@ -391,6 +414,18 @@ impl Trail {
             }
             None => Ok(None),
         }
+    }
+}
+
+/// A list without its items, of which the memory stays unless there was room for many.
+#[inline(always)]
+fn empty<T: Drop>(alloc: Global, list: &mut Vec<T>)
+    ensures { list.new.items ≡ [] }
+{
+    if list.capacity() > MANY {
+        *list = Vec::new(alloc);
+    } else {
+        list.clear();
     }
 }
 

@@ -8,11 +8,11 @@ ghost use Rattle.model.specs.Language.Io.{Io};
 ghost use Rattle.model.specs.Machine.Steps.{on_event};
 ghost use Rattle.model.specs.Module.Images.{module_of};
 ghost use Rattle.model.specs.Language.Operators.{assign_all, told_value};
-ghost use Rattle.model.specs.Pattern.Patterns.{Matched};
+ghost use Rattle.model.specs.Pattern.Steps.{event_of};
 ghost use Rattle.model.specs.declared.image.Image.{Image};
 ghost use Rattle.model.specs.declared.run.Stop.TheVariants.{NoMemory};
 ghost use Rattle.statement_machine.specs.Held.{Left, waiting};
-ghost use Rattle.statement_machine.specs.Runs.{PrintsTo, PrintsWithin, found_kinds, matching_in, world_in};
+ghost use Rattle.statement_machine.specs.Runs.{IsMatched, PrintsTo, PrintsWithin, found_kinds, matching_in, world_in};
 ghost use Rattle.statement_machine.specs.Stopped.{GoesOrHalts, halted_by};
 ghost use Rattle.unit_io.specs.Service.{Served};
 ghost use Rattle.world.specs.Answers.{AnswersAs, done, stopped_by};
@@ -22,7 +22,7 @@ ghost use Rattle.world.specs.Values.{value_of};
 use crate::state::State;
 use crate::status::Exit;
 use frames::Matching;
-use match_machine::{Assignment, Told};
+use match_machine::{Assignment, Come, Told};
 use std::alloc::{AllocError, Global};
 use unit_io::Units;
 use world::{Fault, Value, World};
@@ -48,12 +48,12 @@ fn assign_all<U: Units>(
 }
 
 /// What is assigned within a match. A cursor that no integer holds would need a subject of more memory than there is.
-pub(crate) fn value_told(told: Told) -> Result<Value, AllocError>
-    ensures { IfOk result (λ value. value_of value ≡ told_value (told_of told)) }
+pub(crate) fn value_told(told: &Told) -> Result<Value, AllocError>
+    ensures { IfOk result (λ value. value_of value ≡ told_value (told_of told.now)) }
 {
     match told {
-        Told::Text(text) => Ok(Value::String(text)),
-        Told::Number(n) => match i64::try_from(n) {
+        Told::Text(text) => Ok(Value::String(text.clone()?)),
+        Told::Number(n) => match i64::try_from(*n) {
             Ok(n) => Ok(Value::Integer(n)),
             Err(_) => Err(AllocError),
         },
@@ -61,33 +61,39 @@ pub(crate) fn value_told(told: Told) -> Result<Value, AllocError>
 }
 
 impl State {
-    /// A match succeeded between two places: its assignments are made in order, and the run goes on after it.
+    /// A match succeeded: its assignments are made in order, and the run goes on after it.
     pub(crate) fn matched<U: Units>(
         &mut self,
         units: &mut U,
-        matching: Matching,
-        start: usize,
-        end: usize,
-        pending: Vec<Assignment>,
+        matching: &mut Matching,
     ) -> Result<(), Exit>
+        requires matched { IsMatched (event_of matching.old.search.state) }
         ensures served { Served U.Units (halted_by result) units.old units.new (λ io io'.
             (im : Image) (fs : List Frame) → Left im fs result self.new io'
-            (on_event (module_of im) (Matched start end (pending_of pending.items))
-            (matching_in im matching self.old) matching.search.state (waiting im fs self.old)
+            (on_event (module_of im) (event_of matching.old.search.state)
+            (matching_in im matching.old self.old) matching.old.search.state (waiting im fs self.old)
             (world_of self.old.world io))) }
         ensures printed { (im : Image) (fs : List Frame)
             → PrintsWithin (halted_by result) (U.told units.old) (U.told units.new) (λ io.
-            on_event (module_of im) (Matched start end (pending_of pending.items))
-            (matching_in im matching self.old) matching.search.state (waiting im fs self.old)
+            on_event (module_of im) (event_of matching.old.search.state)
+            (matching_in im matching.old self.old) matching.old.search.state (waiting im fs self.old)
             (world_of self.old.world io)) }
         ensures shape { OnOk result
-            ((self.new.place ≡ matching.place) × (self.new.handlers ≡ self.old.handlers)
+            ((self.new.place ≡ matching.old.place) × (self.new.handlers ≡ self.old.handlers)
             × (self.new.operands.under ≡ self.old.operands.under)
-            × (kinds_of self.new.operands.top ≡ found_kinds matching.keep (kinds_of self.old.operands.top))
+            × (kinds_of self.new.operands.top ≡ found_kinds matching.old.keep (kinds_of self.old.operands.top))
             × (self.new.saved.items ≡ self.old.saved.items)) }
         ensures halts { GoesOrHalts result }
     {
-        if let Err(fault) = assign_all(self.alloc, &mut self.world, units, pending.as_slice()) {
+        let Come::Matched {
+            start,
+            end,
+            pending,
+        } = matching.come()
+        else {
+            unreachable!()
+        };
+        if let Err(fault) = assign_all(self.alloc, &mut self.world, units, pending) {
             return Err(Exit::Fault(fault));
         }
         self.place = matching.place();

@@ -1,3 +1,7 @@
+use Rattle.std.proofs.Common.{◌≡◌, ap, refl, sym, ◌∙◌}
+use Rattle.model.specs.Pattern.Patterns.{Matched}
+use Rattle.model.specs.Pattern.Steps.{event_of}
+use Rattle.match_machine.specs.View.{come_is, pending_of}
 use Rattle.statement_machine.specs.Held.{waiting}
 use Rattle.statement_machine.specs.Runs.{matching_in}
 use Rattle.statement_machine.specs.Stopped.{halted_by}
@@ -8,15 +12,21 @@ use Rattle.statement_machine.proofs.state.State.matched.Goals as goal
 
 pub returns-in-Err-clause-served : goal.returns-in-Err-clause-served
 returns-in-Err-clause-served g c =
+    let ps = c.in-Matched.pending.now in
+    let e : event_of c.args.matching.now.search.state ≡ Matched c.in-Matched.start c.in-Matched.end (pending_of ps) = sym c.come.ensures ∙ ap come_is c.in-Matched.is in
     served_on c.in-Err.ensures.served
-    (λ io io' a im fs. matched_halts im fs c.args.self.now c.assign_all.new.world io io' c.args.matching c.args.start c.args.end c.as_slice.result.now c.args.pending.items c.as_slice.ensures.value c.in-Err.fault a)
+    (λ io io' a im fs. rw e (matched_halts im fs c.args.self.now c.assign_all.new.world io io' c.args.matching.now c.in-Matched.start c.in-Matched.end ps ps refl c.in-Err.fault a))
 
 pub returns-in_err-found-clause-printed : goal.returns-in_err-found-clause-printed
 returns-in_err-found-clause-printed g c = λ im fs.
     let s = c.args.self.now in
-    settled_prints im (matching_in im c.args.matching s) c.args.matching.search.state (waiting im fs s) c.args.start c.args.end (halted_by c.from_residual.result) _ _ c.as_slice.result.now c.args.pending.items s.world c.assign_all.new.world c.as_slice.ensures.value c.in_default.ensures.served.told
+    let ps = c.in-Matched.pending.now in
+    let e : event_of c.args.matching.now.search.state ≡ Matched c.in-Matched.start c.in-Matched.end (pending_of ps) = sym c.come.ensures ∙ ap come_is c.in-Matched.is in
+    rw e (settled_prints im (matching_in im c.args.matching.now s) c.args.matching.now.search.state (waiting im fs s) c.in-Matched.start c.in-Matched.end (halted_by c.from_residual.result) _ _ ps ps s.world c.assign_all.new.world refl c.in_default-assign_all.ensures.served.told)
 
 pub returns-in-Err-clause-printed : goal.returns-in-Err-clause-printed
 returns-in-Err-clause-printed g c = λ im fs.
     let s = c.args.self.now in
-    unsettled_prints im (matching_in im c.args.matching s) c.args.matching.search.state (waiting im fs s) c.args.start c.args.end c.in-Err.fault _ _ c.as_slice.result.now c.args.pending.items s.world c.as_slice.ensures.value c.in-Err.ensures.printed
+    let ps = c.in-Matched.pending.now in
+    let e : event_of c.args.matching.now.search.state ≡ Matched c.in-Matched.start c.in-Matched.end (pending_of ps) = sym c.come.ensures ∙ ap come_is c.in-Matched.is in
+    rw e (unsettled_prints im (matching_in im c.args.matching.now s) c.args.matching.now.search.state (waiting im fs s) c.in-Matched.start c.in-Matched.end c.in-Err.fault _ _ ps ps s.world refl c.in-Err.ensures.printed)
