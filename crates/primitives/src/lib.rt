@@ -5,7 +5,8 @@
 //!
 //!     let outcome = call_prim(alloc, PrimId::Size, &arguments, &mut world)?;
 //!
-//! `holds(id, first, second)` is a call of one that `is_test`: it says something of two values and takes no memory.
+//! `holds(id, first, second)` is a call of one that `is_test`: it says something of two values and takes no memory;
+//! `integers_hold` is the same of two integers.
 //!
 //! Promised: each is its row of the table, `prim_op` of `model`; a call that gives an error or stops changes nothing.
 //! CALLING.md says how another primitive is added.
@@ -23,4 +24,4 @@ mod units;
 
 pub use call::call_prim;
 pub use outcome::Outcome;
-pub use predicates::{holds, is_test};
+pub use predicates::{holds, integers_hold, is_test};

@@ -1,8 +1,9 @@
 //! The primitives that hold or fail.
 
-ghost use Rattle.std.specs.Prelude.{◌≡◌, List, not, true};
+ghost use Rattle.std.specs.Prelude.{◌≡◌, List, Ok, not, true};
 ghost use Rattle.model.specs.Machine.Steps.{MVal, MW, codes_of};
 ghost use Rattle.model.specs.Language.Calls.{arg_at};
+ghost use Rattle.model.specs.Language.Values.{Int};
 ghost use Rattle.model.specs.Language.Primitives.{prim_op, returned, compare_op, lgt_op, same_op, same_value};
 ghost use Rattle.model.specs.Language.Primitives.{same_name, is_integer, holds_if, comes_after};
 ghost use Rattle.model.specs.declared.run.Stop.TheVariants.{NoMemory};
@@ -76,6 +77,24 @@ pub fn holds(id: PrimId, first: &Value, second: &Value) -> Result<bool, ErrorCod
         PrimId::Ge => compares(Comparison::Ge, first, second),
         PrimId::Ident => same(first, second),
         PrimId::Differ => Ok(!same(first, second)?),
+        _ => unreachable!(),
+    }
+}
+
+/// The same of two integers.
+#[inline(always)]
+pub fn integers_hold(id: PrimId, first: i64, second: i64) -> bool
+    requires { is_test id ≡ true }
+    ensures { (vs : List MVal) (w : MW) → arg_at vs 0 ≡ Int first → arg_at vs 1 ≡ Int second
+        → prim_op codes_of id vs w ≡ tested (Ok result) w }
+{
+    match id {
+        PrimId::Eq | PrimId::Ident => first == second,
+        PrimId::Ne | PrimId::Differ => first != second,
+        PrimId::Lt => first < second,
+        PrimId::Le => first <= second,
+        PrimId::Gt => first > second,
+        PrimId::Ge => first >= second,
         _ => unreachable!(),
     }
 }

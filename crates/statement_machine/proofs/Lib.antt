@@ -20,3 +20,4 @@ pub mod Named
 pub mod Printing
 pub mod Tests
 pub mod Placed
+pub mod Reckoning

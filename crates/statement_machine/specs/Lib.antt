@@ -7,3 +7,4 @@ pub mod Resuming
 pub use Rattle.world.specs.Answers
 pub mod Elements
 pub mod Joined
+pub mod Sums

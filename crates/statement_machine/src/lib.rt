@@ -32,6 +32,7 @@ mod run;
 mod slots;
 mod state;
 mod status;
+mod sums;
 mod variables;
 
 pub use machine::{Machine, run_from_entry};

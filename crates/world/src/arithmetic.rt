@@ -30,6 +30,14 @@ pub fn arith_with(op: ArithOp, left: &Value, right: i64) -> Result<i64, ErrorCod
     arith_of(op, a, right)
 }
 
+/// The same of two integers.
+#[inline(always)]
+pub fn arith_integers(op: ArithOp, left: i64, right: i64) -> Result<i64, ErrorCode>
+    ensures { (w : MW) → op_of (answer_map Int result) w ≡ arith_op op (Int left) (Int right) w }
+{
+    arith_of(op, left, right)
+}
+
 /// The integer of a value, or the one with the other sign.
 pub fn sign(op: SignOp, value: &Value) -> Result<Value, ErrorCode>
     ensures { (w : MW) → op_of (answer_map value_of result) w ≡ sign_op op (value_of value.now) w }

@@ -32,7 +32,7 @@ mod world;
 mod world_operators;
 
 pub use arguments::argument;
-pub use arithmetic::{arith, arith_with, sign};
+pub use arithmetic::{arith, arith_integers, arith_with, sign};
 pub use calls::{Given, Kept};
 pub use fault::Fault;
 pub use functions::Function;

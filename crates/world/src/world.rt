@@ -6,7 +6,7 @@ ghost use Rattle.model.specs.Deck.Target as target;
 ghost use Rattle.model.specs.Language.Conversions.{Gives};
 ghost use Rattle.model.specs.Language.Io.{Io};
 ghost use Rattle.model.specs.Language.Operators.{assign_op, fetch_op};
-ghost use Rattle.model.specs.Language.Values.{set_var};
+ghost use Rattle.model.specs.Language.Values.{Int, set_var};
 ghost use Rattle.model.specs.Language.Primitives.{set_reads, set_writes};
 ghost use Rattle.model.specs.Language.Keywords.{key_value};
 ghost use Rattle.model.specs.Laws.Agreement.{first_m};
@@ -298,6 +298,23 @@ impl World {
         let (key, variable) = self.variables.get_index(slot as usize)?;
         if variable.input.is_none() && key == name {
             Some(&variable.value)
+        } else {
+            None
+        }
+    }
+
+    /// The integer in a slot, if the variable there has this name, holds an integer and reads from no unit.
+    #[inline(always)]
+    pub fn plain_integer(&self, name: &Text, slot: u32) -> Option<i64>
+        ensures { IfSome result (λ n. (io : Io)
+            → fetch_op (target.Variable name.now) (world_of self.now io) ≡ Gives (Int n) (world_of self.now io)) }
+    {
+        let (key, variable) = self.variables.get_index(slot as usize)?;
+        let Value::Integer(n) = &variable.value else {
+            return None;
+        };
+        if variable.input.is_none() && key == name {
+            Some(*n)
         } else {
             None
         }
