@@ -2,7 +2,7 @@
 use Rattle.std.proofs.Common.{◌≡◌, ℕ, zero, suc, ◌+◌, ◌<◌, ◌≤◌, List, [], ◌∷◌, ◌++◌, length, map, take, drop, get_or, set, drop-cons, Bool, true, false, true≢false, refl, sym, ap, ◌∙◌, arith, append_assoc, append-nil, bytes_eq}
 use Rattle.std.specs.Prelude.{not, ◌&&◌, ◌||◌, if◌then◌else◌}
 use Rattle.std.specs.List.{list_any}
-use Rattle.std.proofs.lemmas.List.{take_more, take_all, length-map, length-append, length-take-le, length-drop, map-append, take-append-drop}
+use Rattle.std.proofs.lemmas.List.{take_more, take_all, length-map, length-append, length-take-le, map-append, take-append-drop}
 use Rattle.std.proofs.Math.Seq.{get_or-append_seam, set-append_seam}
 use Rattle.std.proofs.lemmas.Slice.Eq.{bytes_eq-Decides}
 use Rattle.model.specs.Deck.Trees.{Bytes}

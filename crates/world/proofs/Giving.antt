@@ -41,9 +41,9 @@ pub put_all : (f : FunctionPrototype) (given before mid after : List Value) (nul
 put_all f given before mid after null n count is arity put all (ns, filled, same, size) =
     let vs : List Value = null ∷ (take n given ++ ns) in
     let whole : after ≡ before ++ vs =
-        filled
-        ∙ ap (λ ws. ws ++ ns) (put ∙ append_assoc before (null ∷ []) (take n given))
-        ∙ append_assoc before (null ∷ take n given) ns in (
+    filled
+    ∙ ap (λ ws. ws ++ ns) (put ∙ append_assoc before (null ∷ []) (take n given))
+    ∙ append_assoc before (null ∷ take n given) ns in (
       vs,
       whole,
       omega (arith, size, all, ap length whole, length-append before vs),

@@ -1,5 +1,5 @@
 -- The end of a call.
-use Rattle.std.proofs.Common.{◌≡◌, ℕ, zero, suc, ◌+◌, ◌-◌, ◌<◌, min, ℤ, List, [], ◌∷◌, ◌++◌, length, map, take, drop, true, arith, refl, Option, Some, None, Result, Ok, Err, sym, ap, subst, ◌∙◌}
+use Rattle.std.proofs.Common.{◌≡◌, ℕ, zero, suc, ◌+◌, ◌-◌, ◌<◌, min, ℤ, List, [], ◌∷◌, ◌++◌, length, map, take, drop, true, arith, Option, Some, None, Result, Ok, Err, sym, ap, subst, ◌∙◌}
 use Rattle.std.specs.Prelude.{option_map}
 use Rattle.std.proofs.lemmas.List.{length-drop, length-take-le}
 use Rattle.std.proofs.Math.Seq.{take-append-add}
@@ -94,7 +94,7 @@ taken_back f saved mid cut rest (suc n) base had h many at some (v ∷ vs, all, 
     let size : length (take base saved) ≡ base = length-take-le base saved (omega (arith, at)) in
     let first : value_of v ≡ values_in h f.name = cc in
     let ends = same_end rest (take base saved) had v
-        (sym last ∙ short ∙ (λ i. take (sym size i + 1) (all i)) ∙ take-append-add (take base saved) (v ∷ vs) 1) in (
+    (sym last ∙ short ∙ (λ i. take (sym size i + 1) (all i)) ∙ take-append-add (take base saved) (v ∷ vs) 1) in (
       ends.0 ∙ ap (λ k. take k saved) (sym (older_is (names_of f) saved (suc n) base many at)),
       ap value_of ends.1 ∙ first,
     )

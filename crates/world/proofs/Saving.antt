@@ -1,16 +1,14 @@
 -- What a call saves and gives back.
-use Rattle.std.proofs.Common.{◌≡◌, ℕ, suc, ◌+◌, ◌<◌, List, [], ◌∷◌, ◌++◌, length, map, take, get_or, min, refl, sym, ap, ◌∙◌, arith, append_assoc, append-nil}
-use Rattle.std.proofs.lemmas.List.{take_more, length-map, map-append, length-append, length-take-le, length-drop, take-append-drop}
+use Rattle.std.proofs.Common.{◌≡◌, List, [], ◌∷◌, ◌++◌, length, map, take, refl, sym, ap, ◌∙◌, arith}
+use Rattle.std.proofs.lemmas.List.{length-map, length-append}
 use Rattle.model.specs.Deck.Trees.{Bytes}
-use Rattle.model.specs.Language.Io.{Io}
-use Rattle.model.specs.Language.Values.{set_var}
-use Rattle.model.specs.Language.Calls.{saved_of, restore}
+use Rattle.model.specs.Language.Calls.{saved_of}
 use Rattle.model.specs.Machine.Steps.{MVal, MW}
 use Rattle.world.specs.Values.{value_of}
 use Rattle.world.specs.Held.{WorldView, value_in, variable_at, world_of}
 use Rattle.model.specs.Language.Prototypes.{FunctionPrototype}
 use Rattle.prototypes.specs.Views.{names_of}
-use Rattle.world.specs.Calling.{AreSaved, IsKept, older, saved_as, saved_below, saved_by}
+use Rattle.world.specs.Calling.{AreSaved, IsKept, saved_as}
 use Rattle.world.specs.declared.calls.Kept.{Kept}
 use Rattle.world.specs.declared.value.Value.{Value}
 

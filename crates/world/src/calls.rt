@@ -98,8 +98,8 @@ fn fill(values: &mut Vec<Value>, count: usize) -> Result<(), AllocError>
     Ok(())
 }
 
-// Puts at the end what a call gives to the variables of its function: null to its name, to each argument its value, which
-// is moved, and null to a missing one and to locals.
+// Puts at the end what a call gives to the variables of its function: null to its name, to each argument its value,
+// which is moved, and null to a missing one and to locals.
 fn put_values(
     prototype: &FunctionPrototype,
     arguments: &mut Vec<Value>,
@@ -148,8 +148,8 @@ impl World {
         Ok(())
     }
 
-    /// Begins a call: puts the values that it changes at the end of `saved`, and gives each argument its value, which is
-    /// moved. Reads no unit. Without memory the keywords stay as they were.
+    /// Begins a call: puts the values that it changes at the end of `saved`, and gives each argument its value, which
+    /// is moved. Reads no unit. Without memory the keywords stay as they were.
     pub fn enter_call(
         &mut self,
         prototype: FunctionPrototype,

@@ -86,6 +86,10 @@ impl Variable {
         ensures had { value.new ≡ self.old.value }
         ensures set { self.new ≡ record self.old { value = value.old } }
     {
+        if let (Value::Integer(had), Value::Integer(n)) = (&mut self.value, &mut *value) {
+            mem::swap(had, n);
+            return;
+        }
         mem::swap(&mut self.value, value);
     }
 

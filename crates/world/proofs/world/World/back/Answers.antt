@@ -15,7 +15,7 @@ returns-then-count-eq0-clause-back c io =
     let statement : to_z w64 (of_z w64 kept.statement) ≡ kept.statement = search rules in
     let level : to_z w64 (of_z w64 kept.level) ≡ kept.level = search rules in
     let none : min (length names) (length saved.items) ≡ 0 =
-        omega (arith, c.min-count.ensures, c.if-count-eq0.true, c.len.ensures, saved.ok.0, ap length c.names-names.ensures.names) in
+    omega (arith, c.min-count.ensures, c.if-count-eq0.true, c.len.ensures, saved.ok.0, ap length c.names-names.ensures.names) in
     gone_back c.args.kind kept names saved.items (to_z w64 (of_z w64 kept.statement)) (to_z w64 (of_z w64 kept.level)) w w (world_of c.put_back.new.self io)
     refl statement level (none_saved kept.prototype saved.items none w).1 (c.put_back.ensures io)
 

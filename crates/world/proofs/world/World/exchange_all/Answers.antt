@@ -1,4 +1,4 @@
-use Rattle.std.proofs.Common.{◌≡◌, ◌-◌, ◌+◌, length, take, drop, refl, ◌∙◌, arith}
+use Rattle.std.proofs.Common.{◌≡◌, ◌+◌, length, take, drop, refl, ◌∙◌, arith}
 use Rattle.std.proofs.lemmas.List.{length-drop, length-set, length-take-le}
 use Rattle.world.proofs.Exchanging.{none_exchanged, exchange_turn, all_exchanged}
 use Rattle.world.proofs.world.World.exchange_all.Goals as goal
