@@ -1,5 +1,6 @@
 pub mod Places
 pub mod Decoding
 pub mod Parts
+pub mod Labels
 pub mod Loaded
 pub mod Answers

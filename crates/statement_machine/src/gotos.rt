@@ -21,6 +21,7 @@ use crate::status::Exit;
 use frames::pop_value;
 use loader::Module;
 use model::{ErrorCode, Instr, ReturnKind};
+use strings::Text;
 use world::Fault;
 
 impl State {
@@ -69,6 +70,33 @@ impl State {
                 Ok(None)
             }
             None => unreachable!(),
+        }
+    }
+
+    /// To the statement of a label, or out of a call, which is told. The label may be the string of this number.
+    #[inline]
+    pub(crate) fn goto_entry(
+        &mut self,
+        program: &Module,
+        label: &Text,
+        number: u32,
+    ) -> Result<Option<ReturnKind>, Exit>
+        requires runnable { IsRunnable program.now }
+        requires operands { self.old.operands.top ≡ [] }
+        requires handlers { self.old.handlers.top ≡ [] }
+        ensures left { (fs : List Frame) (io : Io) →
+            GoesTo program.now fs result self.new io
+            (go_to_return (module_of program.now) label.now (return_of label.now)
+            (waiting program.now fs self.old) (world_of self.old.world io)) }
+        ensures waits { WaitsAsBefore self.old self.new }
+        ensures stop { IfHalted result (λ stop. stop ≡ NoMemory) }
+    {
+        match program.place_labelled(label, number) {
+            Some(place) => {
+                self.place = place;
+                Ok(None)
+            }
+            None => self.goto_label(program, label.as_slice()),
         }
     }
 

@@ -14,7 +14,7 @@ returns-clause-served g c =
     let im = c.args.program.now in
     served_on c.go_to.ensures.served
     (λ io io' l. subst (λ st. Leaves im c.go_to.result c.go_to.new.self io' st)
-    (λ i. go_to_return (module_of im) (c.as_slice.ensures i) (return_of (c.as_slice.ensures i)) (c.in_ok-open_call.ensures.opened im io i) (c.in_ok-open_call.ensures.entered io i)) l)
+    (λ i. go_to_return (module_of im) c.args.entry.now (return_of c.args.entry.now) (c.in_ok-open_call.ensures.opened im io i) (c.in_ok-open_call.ensures.entered io i)) l)
 
 pub returns-clause-sound : goal.returns-clause-sound
 returns-clause-sound g c h =

@@ -15,23 +15,23 @@ pub returns-in-None-clause-served : goal.returns-in-None-clause-served
 returns-in-None-clause-served g c =
     let im = c.args.program.now in
     let r = c.args.self.now in
-    let s = c.goto_label.new.self in
+    let s = c.goto_entry.new.self in
     served_alone g.U.Units c.args.units.now (Ok tt) tt
-    (λ io. left_leaves im (Ok tt) r s io _ c.requires.code (went im r.frames.top c.in_ok-goto_label.field-0 s io _ c.in-None.is (c.in_ok-goto_label.ensures.left r.frames.top io)))
+    (λ io. left_leaves im (Ok tt) r s io _ c.requires.code (went im r.frames.top c.in_ok-goto_entry.field-0 s io _ c.in-None.is (c.in_ok-goto_entry.ensures.left r.frames.top io)))
 
 pub returns-in-None-clause-sound : goal.returns-in-None-clause-sound
 returns-in-None-clause-sound g c h =
     let im = c.args.program.now in
     let r = c.args.self.now in
-    let s = c.goto_label.new.self in
+    let s = c.goto_entry.new.self in
     run_seen im (Ok tt) (record r { state = s }) no_records _
-    (left_leaves im (Ok tt) r s no_records _ c.requires.code (went im r.frames.top c.in_ok-goto_label.field-0 s no_records _ c.in-None.is (c.in_ok-goto_label.ensures.left r.frames.top no_records)))
+    (left_leaves im (Ok tt) r s no_records _ c.requires.code (went im r.frames.top c.in_ok-goto_entry.field-0 s no_records _ c.in-None.is (c.in_ok-goto_entry.ensures.left r.frames.top no_records)))
     (laws.text_label_stands im c.requires.runnable.complete (Got c.args.label.now) (waiting im r.frames.top r.state) (world_of r.state.world no_records) h.0 h.1)
 
 pub returns-in-Some-clause-served : goal.returns-in-Some-clause-served
 returns-in-Some-clause-served g c =
     let im = c.args.program.now in
     let r = c.args.self.now in
-    let s = c.goto_label.new.self in
+    let s = c.goto_entry.new.self in
     served_on c.return_from.ensures.served
-    (λ io io' l. subst (λ st. Leaves im c.return_from.result c.return_from.new.self io' st) (sym (returned im r.frames.top c.in_ok-goto_label.field-0 c.in-Some.kind s io _ c.in-Some.is (c.in_ok-goto_label.ensures.left r.frames.top io))) (l im))
+    (λ io io' l. subst (λ st. Leaves im c.return_from.result c.return_from.new.self io' st) (sym (returned im r.frames.top c.in_ok-goto_entry.field-0 c.in-Some.kind s io _ c.in-Some.is (c.in_ok-goto_entry.ensures.left r.frames.top io))) (l im))
