@@ -1,7 +1,7 @@
 //! The table of labels.
 
 ghost use Rattle.std.specs.Prelude.{◌≡◌, ◌<◌, ◌+◌, ◌*◌, ◌^◌, ◌&&◌, List, ℕ, None, IfOk, length};
-ghost use Rattle.std.specs.Prelude.{slice_get};
+ghost use Rattle.std.specs.Prelude.{IfSome, Some, slice_get};
 ghost use Rattle.std.specs.Str.{bytes_eq};
 ghost use Rattle.std.specs.HashMap.{get_by};
 ghost use Rattle.model.specs.Module.Images.{statement_labelled};
@@ -73,6 +73,14 @@ pub(crate) fn label_map<'a>(
     Ok(found)
 }
 
+// The statement that a name labels, if the name stands at a place of the table.
+fn number_at(found: &IndexMap<&[u8], u32>, place: usize, name: &[u8]) -> Option<u32>
+    ensures { IfSome result (λ n. get_by (λ k. bytes_eq name.now k.now) found.now ≡ Some n) }
+{
+    let (key, number) = found.get_index(place)?;
+    if *key == name { Some(*number) } else { None }
+}
+
 /// The statements of the labels by the numbers of their strings, and 0 for the other strings.
 pub(crate) fn label_numbers(
     alloc: Global,
@@ -86,10 +94,13 @@ pub(crate) fn label_numbers(
     let mut numbers = Vec::new(alloc);
     numbers.resize(image.strings().len(), 0)?;
     let labels = image.labels();
+    // The map has them from the last to the first.
+    let mut place = labels.len();
     for label in labels {
+        place -= 1;
         if let Some(name) = image.string(label.string) {
-            if let Some(number) = found.get(name) {
-                numbers[label.string as usize] = *number;
+            if let Some(number) = number_at(found, place, name) {
+                numbers[label.string as usize] = number;
             }
         }
     }
