@@ -63,8 +63,8 @@ impl Model for Matching {
 }
 
 impl Matching {
-    /// A match before its first step, with memory of its own. `place` is where it goes on if it succeeds, and `keep` whether it then leaves
-    /// what it matched.
+    /// A match before its first step, with memory of its own. `place` is where it goes on if it succeeds, and `keep`
+    /// whether it then leaves what it matched.
     #[cold]
     #[inline(never)]
     pub fn start(
@@ -149,8 +149,8 @@ impl Matching {
         self.held.place
     }
 
-    /// At least one step and at most so many, and fewer only up to an event; how many. The machine makes as many, and goes
-    /// on from the last by that event.
+    /// At least one step and at most so many, and fewer only up to an event; how many. The machine makes as many, and
+    /// goes on from the last by that event.
     pub fn go_on(&mut self, bound: u64) -> Result<u64, AllocError>
         requires running { event_of self.old.search.state ≡ Running }
         requires bound { 0 < bound }

@@ -275,7 +275,8 @@ impl Trail {
             pending: self.pending.len(),
             codes: self.codes.len(),
         };
-        self.choices.push(Choice::new(kept, place, cursor, marks)?)?;
+        let choice = Choice::new(kept, place, cursor, marks)?;
+        self.choices.push_reserved(choice);
         Ok(())
     }
 

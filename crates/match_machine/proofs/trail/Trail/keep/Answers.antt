@@ -16,5 +16,5 @@ returns c =
       code = a.code;
       notes = chain (reverse a.log.items) a.head;
       pending = pending_of a.pending.items;
-      backs = (keep_backs a.codes.items a.codes.items [] a.log.items a.pending.items a.choices.items c.push.new.self.items _ (sym (append-nil a.codes.items)) (c.in_ok-push.ensures.items ∙ ap (λ (x : Choice). a.choices.items ++ x ∷ []) c.in_ok-new.ensures) (c.len-3.ensures ∙ a.codes.ok.0) (c.len.ensures ∙ a.log.ok.0) (c.len-2.ensures ∙ a.pending.ok.0) c.self.invariant.marks ∙ ap at (c.self.invariant.stored c.if-not-self.false)) i;
+      backs = (keep_backs a.codes.items a.codes.items [] a.log.items a.pending.items a.choices.items c.push_reserved.new.self.items _ (sym (append-nil a.codes.items)) (c.push_reserved.ensures.items ∙ ap (λ (x : Choice). a.choices.items ++ x ∷ []) c.in_ok-choice.ensures) (c.len-3.ensures ∙ a.codes.ok.0) (c.len.ensures ∙ a.log.ok.0) (c.len-2.ensures ∙ a.pending.ok.0) c.self.invariant.marks ∙ ap at (c.self.invariant.stored c.if-not-self.false)) i;
     })
