@@ -186,6 +186,7 @@ fn fail(pool: &Pool, shape: Shape) -> Option<Led>
 }
 
 /// The other half of an operation: what it leaves on the stack below what it took.
+#[inline(always)]
 fn put_back(
     pool: &mut Pool,
     leaves: Leaves,

@@ -25,6 +25,7 @@ impl Pool {
     }
 
     /// The stack below what an instruction takes, if that stands uppermost.
+    #[inline(always)]
     pub(crate) fn take(&mut self, takes: Takes, stack: Stack) -> Result<Option<Stack>, AllocError>
         ensures grows { OnOk result (Grows self.old.nodes.keys self.new.nodes.keys) }
         ensures taken { IfOk result (λ k.
@@ -39,6 +40,7 @@ impl Pool {
     }
 
     /// The same by runs of a kind.
+    #[inline(never)]
     fn take_runs(&mut self, takes: Takes, stack: Stack) -> Result<Option<Stack>, AllocError>
         ensures grows { OnOk result (Grows self.old.nodes.keys self.new.nodes.keys) }
         ensures taken { IfOk result (λ k.
@@ -76,6 +78,7 @@ impl Pool {
     }
 
     /// The stack with what an instruction leaves.
+    #[inline(always)]
     pub(crate) fn leave(&mut self, leaves: Leaves, stack: Stack) -> Result<Stack, AllocError>
         requires { (ks : List flow.OperandKind) × Is self.old.nodes.keys stack (runs ks)
             × (length ks < 2 ^ 31) }
@@ -94,6 +97,7 @@ impl Pool {
     }
 
     /// With a name, and one of a kind on it.
+    #[inline(never)]
     fn push_both(&mut self, kind: Kind, stack: Stack) -> Result<Stack, AllocError>
         requires { (ks : List flow.OperandKind) × Is self.old.nodes.keys stack (runs ks)
             × (length ks < 2 ^ 31) }

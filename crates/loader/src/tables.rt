@@ -27,9 +27,11 @@ pub(crate) fn entry_fault(version: Version, image: &ImageView<'_>) -> Option<Mod
     })
 }
 
-// The rule that a statement at an offset breaks, where the last is another. Its place is looked for from another on.
+// The rule that the statement of a number, from 0, breaks at an offset, where the last is another. Its place is looked
+// for first from another on.
 fn statement_rule(
     placed: &PlacedCode<'_>,
+    number: usize,
     near: usize,
     is_last: bool,
     at: u32,
@@ -41,7 +43,7 @@ fn statement_rule(
     if is_last {
         rule(ModuleRule::NoEnd, placed.begins(near, at))
     } else {
-        rule(ModuleRule::BadTarget, placed.is_begin(near, at))
+        rule(ModuleRule::BadTarget, placed.is_begin(number, at))
     }
 }
 
@@ -73,7 +75,7 @@ pub(crate) fn statement_fault(
     let mut offset = place;
     for k in 0..count {
         let near = near_of(places, k);
-        if let Some(rule) = statement_rule(placed, near, k + 1 == count, statements[k]) {
+        if let Some(rule) = statement_rule(placed, k, near, k + 1 == count, statements[k]) {
             return Some(ModuleFault { offset, rule });
         }
         offset += 4;
