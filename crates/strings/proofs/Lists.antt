@@ -1,5 +1,5 @@
-use Rattle.std.proofs.Common.{◌≡◌, ℕ, zero, suc, ◌+◌, ◌-◌, ◌≤◌, ◌<◌, ◌&&◌, true, nat_eq, get_or, subst, List, [], ◌∷◌, ◌++◌, length, take, drop, refl, sym, ap, ◌∙◌, arith, append_assoc, add-one}
-use Rattle.std.proofs.lemmas.List.{drop-take, drop-append-le, append-nil, take-take, take_all, drop-drop, length-append, length-drop, length-take, length-take-le}
+use Rattle.std.proofs.Common.{◌≡◌, ℕ, zero, suc, ◌+◌, ◌-◌, ◌≤◌, ◌<◌, ◌&&◌, true, nat_eq, get_or, List, [], ◌∷◌, ◌++◌, length, take, drop, refl, sym, ap, ◌∙◌, arith, append_assoc, add-one}
+use Rattle.std.proofs.lemmas.List.{take_more_same, drop-take, drop-append-le, append-nil, take-take, take_all, drop-drop, length-append, length-drop, length-take, length-take-le}
 use Rattle.std.proofs.lemmas.Bool.{and_parts}
 use Rattle.std.specs.Cmp.{unsigned_Decides}
 use Rattle.std.specs.List.{repeat, slice_range}
@@ -68,52 +68,38 @@ drop_part xs ys a b le within =
     ∙ ap (λ n. drop a (take n xs) ++ ys) count
     ∙ ap (λ zs. zs ++ ys) (drop-take a (b - a) xs)
 
--- ---- lists that are the same from a place on
+-- ---- lists that are the same up to a place
 
-same_one : (xs ys : List ℕ) (i : ℕ) → i < length xs → length xs ≡ length ys → nat_eq (get_or xs i 0) (get_or ys i 0) ≡ true → drop (suc i) xs ≡ drop (suc i) ys → drop i xs ≡ drop i ys
-same_one [] ys i lt len same rest = absurd (omega arith)
-same_one (x ∷ xs) [] i lt len same rest = absurd (omega arith)
-same_one (x ∷ xs) (y ∷ ys) zero lt len same rest = ap (λ n. n ∷ xs) ((unsigned_Decides x y).0 same) ∙ ap (λ l. y ∷ l) rest
-same_one (x ∷ xs) (y ∷ ys) (suc i) lt len same rest = same_one xs ys i (omega (arith, lt)) (omega (arith, len)) same rest
+same_one : (xs ys : List ℕ) (i j : ℕ) → j ≡ i + 1 → j ≤ length xs → length xs ≡ length ys → nat_eq (get_or xs i 0) (get_or ys i 0) ≡ true → take i xs ≡ take i ys → take j xs ≡ take j ys
+same_one xs ys i j e le len same before =
+    let lt : i < length xs = omega (arith, e, le) in
+    let also : i < length ys = omega (arith, e, le, len) in
+    ap (λ n. take n xs) e
+    ∙ take_more_same xs ys i 0 lt also before ((unsigned_Decides (get_or xs i 0) (get_or ys i 0)).0 same)
+    ∙ ap (λ n. take n ys) (sym e)
 
-same_two : (xs ys : List ℕ) (i j k : ℕ) → j ≡ i + 1 → k ≡ i + 2 → k ≤ length xs → length xs ≡ length ys → (nat_eq (get_or xs i 0) (get_or ys i 0) && nat_eq (get_or xs j 0) (get_or ys j 0)) ≡ true → drop k xs ≡ drop k ys → drop i xs ≡ drop i ys
-same_two xs ys i j k e f le len same rest =
+same_two : (xs ys : List ℕ) (i j k : ℕ) → j ≡ i + 1 → k ≡ j + 1 → k ≤ length xs → length xs ≡ length ys → (nat_eq (get_or xs i 0) (get_or ys i 0) && nat_eq (get_or xs j 0) (get_or ys j 0)) ≡ true → take i xs ≡ take i ys → take k xs ≡ take k ys
+same_two xs ys i j k e f le len same before =
     let parts = and_parts (nat_eq (get_or xs i 0) (get_or ys i 0)) (nat_eq (get_or xs j 0) (get_or ys j 0)) same in
-    let second : k ≡ suc j = omega (arith, e, f) in
-    let first : j ≡ suc i = omega (arith, e) in
-    let later : drop j xs ≡ drop j ys = same_one xs ys j (omega (arith, e, f, le)) len parts.1 (subst (λ n. drop n xs ≡ drop n ys) second rest) in
-    same_one xs ys i (omega (arith, f, le)) len parts.0 (subst (λ n. drop n xs ≡ drop n ys) first later)
+    same_one xs ys j k f le len parts.1 (same_one xs ys i j e (omega (arith, e, f, le)) len parts.0 before)
 
--- eight that are the same, before a rest that is
+-- eight that are the same, after a front that is
 pub same_eight : (xs ys : List ℕ) (i : ℕ) → i + 8 ≤ length xs → length xs ≡ length ys
     → (((nat_eq (get_or xs i 0) (get_or ys i 0) && nat_eq (get_or xs (i + 1) 0) (get_or ys (i + 1) 0)) && (nat_eq (get_or xs (i + 2) 0) (get_or ys (i + 2) 0) && nat_eq (get_or xs (i + 3) 0) (get_or ys (i + 3) 0))) && ((nat_eq (get_or xs (i + 4) 0) (get_or ys (i + 4) 0) && nat_eq (get_or xs (i + 5) 0) (get_or ys (i + 5) 0)) && (nat_eq (get_or xs (i + 6) 0) (get_or ys (i + 6) 0) && nat_eq (get_or xs (i + 7) 0) (get_or ys (i + 7) 0)))) ≡ true
-    → drop (i + 8) xs ≡ drop (i + 8) ys → drop i xs ≡ drop i ys
-same_eight xs ys i le len h rest =
+    → take i xs ≡ take i ys → take (i + 8) xs ≡ take (i + 8) ys
+same_eight xs ys i le len h front =
     let halves = and_parts _ _ h in
     let low = and_parts _ _ halves.0 in
     let high = and_parts _ _ halves.1 in
-    same_two xs ys i (i + 1) (i + 2) refl refl (omega (arith, le)) len low.0
-    (same_two xs ys (i + 2) (i + 3) (i + 4) (omega arith) (omega arith) (omega (arith, le)) len low.1
+    same_two xs ys (i + 6) (i + 7) (i + 8) (omega arith) (omega arith) le len high.1
     (same_two xs ys (i + 4) (i + 5) (i + 6) (omega arith) (omega arith) (omega (arith, le)) len high.0
-    (same_two xs ys (i + 6) (i + 7) (i + 8) (omega arith) (omega arith) le len high.1 rest)))
+    (same_two xs ys (i + 2) (i + 3) (i + 4) (omega arith) (omega arith) (omega (arith, le)) len low.1
+    (same_two xs ys i (i + 1) (i + 2) refl (omega arith) (omega (arith, le)) len low.0 front)))
 
-drop_all : (zs : List ℕ) → drop (length zs) zs ≡ []
-drop_all [] = refl
-drop_all (z ∷ zs) = drop_all zs
+-- less of what is the same
+pub same_less : (a b : ℕ) (xs ys : List ℕ) → a ≤ b → take b xs ≡ take b ys → take a xs ≡ take a ys
+same_less a b xs ys le same = sym (take-take a b xs le) ∙ ap (take a) same ∙ take-take a b ys le
 
--- two of 22 whose last eight, eight in the middle and first eight are the same
-pub same_arrays : (xs ys : List ℕ) → length xs ≡ 22 → length ys ≡ 22 → (drop 8 xs ≡ drop 8 ys → drop 0 xs ≡ drop 0 ys) → (drop 16 xs ≡ drop 16 ys → drop 8 xs ≡ drop 8 ys) → (drop 22 xs ≡ drop 22 ys → drop 14 xs ≡ drop 14 ys) → xs ≡ ys
-same_arrays xs ys m n first second third =
-    let none : (zs : List ℕ) → length zs ≡ 22 → drop 22 zs ≡ [] = λ zs e. ap (λ k. drop k zs) (sym e) ∙ drop_all zs in
-    let last : drop 14 xs ≡ drop 14 ys = third (none xs m ∙ sym (none ys n)) in
-    first (second (sym (drop-drop 2 14 xs) ∙ ap (drop 2) last ∙ drop-drop 2 14 ys))
-
-take_again : (a : ℕ) (xs : List ℕ) → take a xs ≡ take (length (take a xs)) xs
-take_again zero xs = refl
-take_again (suc a) [] = refl
-take_again (suc a) (x ∷ xs) = ap (λ l. x ∷ l) (take_again a xs)
-
--- fronts of the same that are as long
-pub same_fronts : (a b : ℕ) (xs ys : List ℕ) → xs ≡ ys → length (take a xs) ≡ length (take b ys) → take a xs ≡ take b ys
-same_fronts a b xs ys same len =
-    take_again a xs ∙ ap (λ n. take n xs) len ∙ ap (λ l. take (length (take b ys)) l) same ∙ sym (take_again b ys)
+-- the first eight, the next eight and the last eight of 22
+pub same_arrays : (a : ℕ) (xs ys : List ℕ) → a ≤ 22 → (take 0 xs ≡ take 0 ys → take 8 xs ≡ take 8 ys) → (take 8 xs ≡ take 8 ys → take 16 xs ≡ take 16 ys) → (take 14 xs ≡ take 14 ys → take 22 xs ≡ take 22 ys) → take a xs ≡ take a ys
+same_arrays a xs ys le first second third = same_less a 22 xs ys le (third (same_less 14 16 xs ys (omega arith) (second (first refl))))

@@ -1,7 +1,8 @@
 //! A text: a few bytes of its own, or many that are shared by its clones and by the parts cut from it.
 
 ghost use Rattle.std.specs.Prelude.{◌≡◌, ◌+◌, ◌*◌, ◌^◌, ◌<◌, ◌≤◌, ℕ, [], ◌++◌, length, take, drop, map, IfOk, IfErr};
-ghost use Rattle.std.specs.Prelude.{true, IsTrue, Err, ◌↔◌, slice_range, slice_index};
+ghost use Rattle.std.specs.Prelude.{true, IsTrue, Err, ◌↔◌, slice_range, slice_index, nat_eq};
+ghost use Rattle.std.specs.Cmp.Lexicographic.{pointwise};
 ghost use Rattle.std.specs.Fmt.{signed_decimal};
 ghost use Rattle.std.specs.List.{repeat};
 ghost use Rattle.model.specs.Language.Strings.{replaced};
@@ -38,10 +39,23 @@ pub struct Text {
 }
 
 impl Drop for Text {
+    #[inline(always)]
     fn drop(self) {
-        let Text { bytes: _ } = self;
+        let Text { bytes } = self;
+        match bytes {
+            Bytes::Own { len: _, array: _ } => {}
+            Bytes::Shared {
+                start: _,
+                end: _,
+                shared,
+            } => let_go(shared),
+        }
     }
 }
+
+// The end of a share of many bytes, apart from texts of few, which own no memory.
+#[inline(never)]
+fn let_go(_shared: Rc<Vec<u8>>) {}
 
 const _: () = prove!(size_of::<Text>() <= 24);
 
@@ -393,14 +407,63 @@ fn same_eight(left: &[u8; FEW], right: &[u8; FEW], at: usize) -> bool
     requires within { at + 8 ≤ 22 }
     requires left { length left.now ≡ 22 }
     requires right { length right.now ≡ 22 }
-    ensures { result ≡ true → drop (at + 8) left.now ≡ drop (at + 8) right.now
-        → drop at left.now ≡ drop at right.now }
+    ensures { result ≡ true → take at left.now ≡ take at right.now
+        → take (at + 8) left.now ≡ take (at + 8) right.now }
 {
     let first = (left[at] == right[at]) & (left[at + 1] == right[at + 1]);
     let second = (left[at + 2] == right[at + 2]) & (left[at + 3] == right[at + 3]);
     let third = (left[at + 4] == right[at + 4]) & (left[at + 5] == right[at + 5]);
     let fourth = (left[at + 6] == right[at + 6]) & (left[at + 7] == right[at + 7]);
     (first & second) & (third & fourth)
+}
+
+// Whether two arrays are the same as far as a text goes.
+#[inline(always)]
+fn same_fronts(left: &[u8; FEW], right: &[u8; FEW], len: u8) -> bool
+    requires few { len ≤ 22 }
+    requires left { length left.now ≡ 22 }
+    requires right { length right.now ≡ 22 }
+    ensures { result ≡ true → take len left.now ≡ take len right.now }
+{
+    if !same_eight(left, right, 0) {
+        return false;
+    }
+    if len <= 8 {
+        return true;
+    }
+    same_eight(left, right, 8) & same_eight(left, right, 14)
+}
+
+// Whether both are texts of few bytes of their own, and the same.
+#[inline(always)]
+fn are_same_few(left: &Text, right: &Text) -> bool
+    ensures { result ≡ true → left.now ≡ right.now }
+{
+    let Bytes::Own { len, array } = &left.bytes else {
+        return false;
+    };
+    let Bytes::Own {
+        len: other_len,
+        array: others,
+    } = &right.bytes
+    else {
+        return false;
+    };
+    if *len != *other_len {
+        return false;
+    }
+    same_fronts(array, others, *len)
+}
+
+// Whether two texts are the same, wherever their bytes are.
+#[inline(never)]
+fn are_same(left: &Text, right: &Text) -> bool
+    ensures { result ≡ pointwise nat_eq left.now right.now }
+{
+    if left.len() != right.len() {
+        return false;
+    }
+    left.as_slice() == right.as_slice()
 }
 
 impl PartialEq for Text {
@@ -412,22 +475,12 @@ impl PartialEq for Text {
 
     ghost laws = { partial_equiv_from_equiv nat_list_eq_equiv };
 
-    #[inline]
+    #[inline(always)]
     fn eq(&self, other: &Text) -> bool {
-        if self.len() != other.len() {
-            return false;
+        if are_same_few(self, other) {
+            return true;
         }
-        if let Bytes::Own { array, .. } = &self.bytes {
-            if let Bytes::Own { array: others, .. } = &other.bytes {
-                if same_eight(array, others, 0)
-                    && same_eight(array, others, 8)
-                    && same_eight(array, others, 14)
-                {
-                    return true;
-                }
-            }
-        }
-        self.as_slice() == other.as_slice()
+        are_same(self, other)
     }
 }
 
