@@ -42,14 +42,12 @@ fn is_bare(mark: Mark) -> bool
 {
     matches!(
         mark,
-        Mark::One(
-            Shape {
-                mode: Mode::Goto,
-                kinds: None,
-                depth: 0,
-                handlers: None,
-            },
-        )
+        Mark::One(Shape {
+            mode: Mode::Goto,
+            kinds: None,
+            depth: 0,
+            handlers: None,
+        },)
     )
 }
 

@@ -72,8 +72,8 @@ fn place_fits(image: &ImageView<'_>, placed: &PlacedCode<'_>, here: Here, instr:
 {
     match instr {
         Instr::Begin(target) => {
-            is_target(placed, here, target) &&
-                has_statement_near(image.statements(), here.begun, here.at)
+            is_target(placed, here, target)
+                && has_statement_near(image.statements(), here.begun, here.at)
         }
         Instr::Try(target) => is_target(placed, here, target),
         _ => true,
