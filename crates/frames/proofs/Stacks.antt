@@ -129,3 +129,7 @@ cut_same ops d = ap (λ n. drop (n - d) (operands_of ops)) (length-map ops opera
 pub tried : (o : ℕ → ℕ) (t d : ℕ) (hs rest : List Handler) (ops new : List Operand) (fs : List Frame) (w : MW) → hs ≡ Try t d ∷ rest → new ≡ drop (length ops - d) ops
     → fail_to (handlers_of o hs) (operands_of ops) fs w ≡ Run (o t) (operands_of new) (handlers_of o rest) fs w
 tried o t d hs rest ops new fs w h n = rw (h, n) (ap (λ l. Run (o t) l (handlers_of o rest) fs w) (cut_same ops d))
+
+-- the newest one is of the kind that is on top
+pub newest_is : (k : OperandKind) (old new : Stacked Operand) (x : Operand) → old ≡ record new { top = x ∷ new.top } → TopIs k old.top → TopIs k (x ∷ [])
+newest_is k old new x e h = ([], ap (take 1) (ap (λ (l : Stacked Operand). kinds_of l.top) (sym e) ∙ h.1))

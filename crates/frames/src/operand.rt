@@ -25,12 +25,58 @@ pub struct Named {
 }
 
 /// An operand of an instruction.
-#[derive(Drop)]
 pub enum Operand {
     Value(Value),
     Name(Named),
     /// What a replacement replaces: the subject, and where the match in it began and ended.
     Span(Span),
+}
+
+// Whether anything is owned is looked at where an operand is let go.
+impl Drop for Operand {
+    #[inline(always)]
+    fn drop(self) {
+        match self {
+            Operand::Value(_) | Operand::Name(_) | Operand::Span(_) => {}
+        }
+    }
+}
+
+impl Operand {
+    // The value that it is.
+    #[inline(always)]
+    fn into_value(self) -> Value
+        requires { TopIs V (self ∷ []) }
+        ensures { self ≡ operand.Value result }
+    {
+        match self {
+            Operand::Value(value) => value,
+            _ => unreachable!(),
+        }
+    }
+
+    // The name that it is.
+    #[inline(always)]
+    fn into_name(self) -> Named
+        requires { TopIs N (self ∷ []) }
+        ensures { self ≡ operand.Name result }
+    {
+        match self {
+            Operand::Name(named) => named,
+            _ => unreachable!(),
+        }
+    }
+
+    // The part of a subject that it is.
+    fn into_span(self) -> Span
+        requires { TopIs R (self ∷ []) }
+        ensures { self ≡ operand.Span result }
+    {
+        match self {
+            Operand::Span(span) => span,
+            _ => unreachable!(),
+        }
+    }
 }
 
 /// Takes off the newest operand, a value.
@@ -39,10 +85,7 @@ pub fn pop_value(operands: &mut Stack<Operand>) -> Value
     requires { TopIs V operands.old.top }
     ensures { operands.old ≡ record operands.new { top = operand.Value result ∷ operands.new.top } }
 {
-    match operands.pop() {
-        Operand::Value(value) => value,
-        _ => unreachable!(),
-    }
+    operands.pop().into_value()
 }
 
 /// Takes off the newest operand, a name.
@@ -51,10 +94,7 @@ pub fn pop_name(operands: &mut Stack<Operand>) -> Named
     requires { TopIs N operands.old.top }
     ensures { operands.old ≡ record operands.new { top = operand.Name result ∷ operands.new.top } }
 {
-    match operands.pop() {
-        Operand::Name(name) => name,
-        _ => unreachable!(),
-    }
+    operands.pop().into_name()
 }
 
 /// Takes off the newest operand, what a replacement replaces.
@@ -62,10 +102,7 @@ pub fn pop_span(operands: &mut Stack<Operand>) -> Span
     requires { TopIs R operands.old.top }
     ensures { operands.old ≡ record operands.new { top = operand.Span result ∷ operands.new.top } }
 {
-    match operands.pop() {
-        Operand::Span(span) => span,
-        _ => unreachable!(),
-    }
+    operands.pop().into_span()
 }
 
 /// The newest operand, a name, which stays.

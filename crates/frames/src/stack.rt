@@ -61,6 +61,16 @@ impl<T: Drop> Stack<T> {
         self.items[newest] = item;
     }
 
+    /// Another one in the place of the newest two.
+    #[inline(always)]
+    pub fn replace_two(&mut self, item: T)
+        requires { 1 < length self.old.top }
+        ensures { self.new ≡ record self.old { top = item ∷ drop 2 self.old.top } }
+    {
+        self.pop();
+        self.set_top(item);
+    }
+
     /// Takes off the newest.
     #[inline(always)]
     pub fn pop(&mut self) -> T

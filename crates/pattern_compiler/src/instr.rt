@@ -105,6 +105,7 @@ impl Clone for Name {
 // A drop that is written out is one call at each place that lets go, where a derived one stands there whole, arm by
 // arm, and is proved there anew.
 impl Drop for Name {
+    #[inline(always)]
     fn drop(self) {
         match self {
             Name::Variable(_) | Name::StringKey { object: _, key: _ } => {}

@@ -29,6 +29,7 @@ pub enum Value {
 const _: () = prove!(size_of::<Value>() <= 40);
 
 impl Drop for Value {
+    #[inline(always)]
     fn drop(self) {
         match self {
             Value::String(_) | Value::Pattern(_) | Value::Name(_) => {}
