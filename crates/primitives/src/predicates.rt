@@ -29,6 +29,7 @@ pub(crate) enum Comparison {
 }
 
 impl Comparison {
+    #[inline(always)]
     fn holds(self, i: i64, j: i64) -> bool
         ensures { result ≡ test_of self i j }
     {
@@ -61,7 +62,7 @@ pub fn is_test(id: PrimId) -> bool
 }
 
 /// Whether such a primitive holds of two values, which are its arguments. An absent argument is null.
-#[inline]
+#[inline(always)]
 pub fn holds(id: PrimId, first: &Value, second: &Value) -> Result<bool, ErrorCode>
     requires { is_test id ≡ true }
     ensures { (vs : List MVal) (w : MW) → arg_at vs 0 ≡ value_of first.now → arg_at vs 1 ≡ value_of second.now
@@ -80,9 +81,23 @@ pub fn holds(id: PrimId, first: &Value, second: &Value) -> Result<bool, ErrorCod
     }
 }
 
-// Whether a comparison holds of two values.
-#[inline]
+// Whether a comparison holds of two values; integers come first.
+#[inline(always)]
 fn compares(test: Comparison, left: &Value, right: &Value) -> Result<bool, ErrorCode>
+    ensures { (w : MW) → returned (compare_op (test_of test) (value_of left.now) (value_of right.now) w) ≡ tested result w }
+{
+    let Value::Integer(i) = left else {
+        return converted(test, left, right);
+    };
+    let Value::Integer(j) = right else {
+        return converted(test, left, right);
+    };
+    Ok(test.holds(*i, *j))
+}
+
+// Whether a comparison holds of the integers that two values convert to.
+#[inline(never)]
+fn converted(test: Comparison, left: &Value, right: &Value) -> Result<bool, ErrorCode>
     ensures { (w : MW) → returned (compare_op (test_of test) (value_of left.now) (value_of right.now) w) ≡ tested result w }
 {
     let i = left.to_int()?;
