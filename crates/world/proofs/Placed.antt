@@ -1,13 +1,17 @@
 -- Elements by their places.
-use Rattle.std.proofs.Common.{◌≡◌, ℕ, ℤ, List, [], ◌∷◌, Some, sym, ap, ◌∙◌}
+use Rattle.std.proofs.Common.{◌≡◌, ℕ, ℤ, List, [], ◌∷◌, Option, Some, sym, ap, ◌∙◌}
 use Rattle.std.specs.Prelude.{slice_get, option_map}
-use Rattle.model.specs.Deck.Target.{Element}
+use Rattle.model.specs.Deck.Target.{Element, IntegerKey}
 use Rattle.model.specs.Language.Io.{Io}
 use Rattle.model.specs.Language.Conversions.{Gives}
 use Rattle.model.specs.Language.Aggregates.{element_op}
 use Rattle.model.specs.Language.Values.{Obj, Int, Object}
-use Rattle.model.specs.Language.Operators.{element_of, fetch_op, there}
+use Rattle.model.specs.Language.Operators.{assign_op, element_of, fetch_op, there}
+use Rattle.model.specs.Machine.Steps.{MVal}
 use Rattle.aggregates.specs.Objects.{place_in}
+use Rattle.pattern_compiler.specs.View.{name_of}
+use Rattle.pattern_compiler.specs.declared.instr.Name.{Name}
+use Rattle.pattern_compiler.specs.declared.instr.Name.TheVariants as name
 use Rattle.world.specs.Values.{value_of}
 use Rattle.world.specs.Elements.{HoldsAt}
 use Rattle.world.specs.Held.{WorldView, world_of}
@@ -24,15 +28,29 @@ module _ (h : WorldView) (os : List (Object Value)) (same : os ≡ h.objects) (k
       ∙ ap (λ l. there (option_map value_of (element_of (slice_get l k) i)) (world_of h io)) (sym same)
       ∙ ap (λ o. there (option_map value_of o) (world_of h io)) (sym is)
 
-  -- an array has it for its only subscript
-  pub array_holds : (b s v : Value) (z z' : ℤ) → b ≡ value.Object k → s ≡ value.Integer z → z' ≡ z → Some i ≡ place_in (z' ∷ []) (slice_get os k) → Some v ≡ element_of (slice_get os k) i
-      → HoldsAt (value_of b) (value_of s) (value_of v) h
-  array_holds b s v z z' base subscript number place is = (
-    Element k i,
-    λ io. (
+  -- its name, by the only subscript
+  pub array_named : (b s : Value) (z z' : ℤ) → b ≡ value.Object k → s ≡ value.Integer z → z' ≡ z → Some i ≡ place_in (z' ∷ []) (slice_get os k) → (io : Io) → element_op (value_of b) (value_of s ∷ []) (world_of h io) ≡ Gives (Element k i) (world_of h io)
+  array_named b s z z' base subscript number place io =
       ap (λ x. element_op (value_of x) (value_of s ∷ []) (world_of h io)) base
-          ∙ ap (λ x. element_op (Obj k) (value_of x ∷ []) (world_of h io)) subscript
-          ∙ placed_item h os io k same z i (ap (λ y. place_in (y ∷ []) (slice_get os k)) (sym number) ∙ sym place),
-      element_held io v is,
-    ),
-  )
+      ∙ ap (λ x. element_op (Obj k) (value_of x ∷ []) (world_of h io)) subscript
+      ∙ placed_item h os io k same z i (ap (λ y. place_in (y ∷ []) (slice_get os k)) (sym number) ∙ sym place)
+
+  -- an array has it for its only subscript
+  pub array_holds : (b s v : Value) (z z' : ℤ) → b ≡ value.Object k → s ≡ value.Integer z → z' ≡ z → Some i ≡ place_in (z' ∷ []) (slice_get os k) → Some v ≡ element_of (slice_get os k) i → HoldsAt (value_of b) (value_of s) (value_of v) h
+  array_holds b s v z z' base subscript number place is = (Element k i, λ io. (array_named b s z z' base subscript number place io, element_held io v is))
+
+-- what is set by one name is set by the same one
+pub name_set : (n m : Name) (v : MVal) (h new : WorldView) → n ≡ m → ((io : Io) → assign_op (name_of m) v (world_of h io) ≡ Gives (record {}) (world_of new io)) → (io : Io) → assign_op (name_of n) v (world_of h io) ≡ Gives (record {}) (world_of new io)
+name_set n m v h new is f io = ap (λ x. assign_op (name_of x) v (world_of h io)) is ∙ f io
+
+pub key_set : (n : Name) (k : ℕ) (z z' : ℤ) (v : MVal) (h new : WorldView) → n ≡ name.IntegerKey k z → z' ≡ z → ((io : Io) → assign_op (IntegerKey k z') v (world_of h io) ≡ Gives (record {}) (world_of new io))
+    → (io : Io) → assign_op (name_of n) v (world_of h io) ≡ Gives (record {}) (world_of new io)
+key_set n k z z' v h new is same f = name_set n (name.IntegerKey k z') v h new (is ∙ ap (name.IntegerKey k) (sym same)) f
+
+-- what is set to an integer is set to the value that is one
+pub integer_set : (n : Name) (v : Value) (z z' : ℤ) (h new : WorldView) → v ≡ value.Integer z → z' ≡ z → ((io : Io) → assign_op (name_of n) (Int z') (world_of h io) ≡ Gives (record {}) (world_of new io))
+    → (io : Io) → assign_op (name_of n) (value_of v) (world_of h io) ≡ Gives (record {}) (world_of new io)
+integer_set n v z z' h new is same f io =
+    ap (λ x. assign_op (name_of n) (value_of x) (world_of h io)) is
+    ∙ ap (λ y. assign_op (name_of n) (Int y) (world_of h io)) (sym same)
+    ∙ f io

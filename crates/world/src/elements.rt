@@ -1,13 +1,16 @@
 //! Elements of arrays, values of tables and fields of records.
 
-ghost use Rattle.std.specs.Prelude.{◌≡◌, [], slice_get, option_map, IfSome, OnErr};
+ghost use Rattle.std.specs.Prelude.{◌≡◌, ◌∷◌, [], slice_get, option_map, true, false, IfSome, OnErr};
 ghost use Rattle.model.specs.Language.Io.{Io};
 ghost use Rattle.model.specs.Deck.Target.{Element};
-ghost use Rattle.model.specs.Language.Values.{Str};
-ghost use Rattle.model.specs.Language.Operators.{there, entry_of, fetch_op, put_object};
+ghost use Rattle.model.specs.Language.Values.{Int, Str};
+ghost use Rattle.model.specs.Language.Operators.{there, assign_op, entry_of, fetch_op, put_object};
+ghost use Rattle.model.specs.Language.Aggregates.{element_op};
+ghost use Rattle.model.specs.Language.Conversions.{Gives};
 ghost use Rattle.model.specs.declared.run.Stop.TheVariants.{NoMemory};
 ghost use Rattle.aggregates.specs.Keys.{key_of};
 ghost use Rattle.aggregates.specs.Objects.{stored_at};
+ghost use Rattle.pattern_compiler.specs.View.{name_of};
 ghost use Rattle.world.specs.Values.{value_of};
 ghost use Rattle.world.specs.Held.{world_of};
 ghost use Rattle.world.specs.Elements.{HoldsAt};
@@ -18,6 +21,7 @@ use crate::value::Value;
 use crate::world::World;
 use aggregates::{Key, Kind, Place};
 use model::ErrorCode;
+use pattern_compiler::Name;
 
 impl World {
     /// The value of an array's element, by the array and the only subscript, an integer; what isn't so has none here.
@@ -39,6 +43,87 @@ impl World {
             return None;
         };
         Some(value)
+    }
+
+    /// The name of an array's element, by the array and the only subscript, an integer; what isn't so has none here.
+    #[inline(always)]
+    pub fn named(&self, base: &Value, subscript: &Value) -> Option<Name>
+        ensures { IfSome result (λ name. (io : Io)
+            → element_op (value_of base.now) (value_of subscript.now ∷ []) (world_of self.now io)
+            ≡ Gives (name_of name) (world_of self.now io)) }
+    {
+        let Value::Object(object) = base else {
+            return None;
+        };
+        let Value::Integer(n) = subscript else {
+            return None;
+        };
+        let Some(index) = self.heap.place_of_one(*object, *n) else {
+            return None;
+        };
+        Some(Name::Element {
+            object: *object,
+            index,
+        })
+    }
+
+    /// Gives an element, a field or a key another value, and tells whether it did; else nothing changed.
+    #[inline]
+    pub fn replace(&mut self, name: &Name, value: &Value) -> bool
+        ensures set { result ≡ true → (io : Io)
+            → assign_op (name_of name.now) (value_of value.now) (world_of self.old io)
+            ≡ Gives (record {}) (world_of self.new io) }
+        ensures kept { result ≡ false → self.new ≡ self.old }
+    {
+        match name {
+            Name::Variable(_) => false,
+            Name::Element { object, index } => match value {
+                Value::Integer(n) => self.put_integer(*object, *index, *n),
+                _ => self.put_at(*object, Place::Element(*index), value),
+            },
+            Name::IntegerKey { object, key } => {
+                self.put_at(*object, Place::Key(Key::Integer(*key)), value)
+            }
+            Name::StringKey { object, key } => {
+                let Ok(key) = key.clone() else {
+                    return false;
+                };
+                self.put_at(*object as usize, Place::Key(Key::String(key)), value)
+            }
+        }
+    }
+
+    // An integer at a place of an array or a record, if that was stored.
+    #[inline(always)]
+    fn put_integer(&mut self, object: usize, index: usize, n: i64) -> bool
+        ensures set { result ≡ true → (io : Io)
+            → put_object object (stored_at (Place.Element index) (Int n)
+            (slice_get (world_of self.old io).objects object)) (world_of self.old io)
+            ≡ Gives (record {}) (world_of self.new io) }
+        ensures kept { result ≡ false → self.new ≡ self.old }
+    {
+        let Ok(()) = self.store(object, Place::Element(index), Value::Integer(n)) else {
+            return false;
+        };
+        true
+    }
+
+    // A copy of a value at a place of an object, if that was stored.
+    #[inline(never)]
+    fn put_at(&mut self, object: usize, place: Place, value: &Value) -> bool
+        ensures set { result ≡ true → (io : Io)
+            → put_object object (stored_at place (value_of value.now)
+            (slice_get (world_of self.old io).objects object)) (world_of self.old io)
+            ≡ Gives (record {}) (world_of self.new io) }
+        ensures kept { result ≡ false → self.new ≡ self.old }
+    {
+        let Ok(value) = value.clone() else {
+            return false;
+        };
+        let Ok(()) = self.store(object, place, value) else {
+            return false;
+        };
+        true
     }
 
     /// An element of an array, or a field of a record.
@@ -72,6 +157,7 @@ impl World {
     }
 
     /// Another value at a place of an object.
+    #[inline]
     pub(crate) fn store(&mut self, object: usize, place: Place, value: Value) -> Result<(), Fault>
         ensures stored { (io : Io)
             → AnswersAs (done result) (world_of self.new io)

@@ -248,7 +248,7 @@ impl World {
     {
         let slot = slot as usize;
         if let Some((key, _variable)) = self.variables.get_index(slot) {
-            if key == name {
+            if *key == *name {
                 return Some(slot);
             }
         }
@@ -270,7 +270,7 @@ impl World {
         ensures { option_copied result ≡ variable_at name.now self.now.variables }
     {
         if let Some((key, variable)) = self.variables.get_index(slot as usize) {
-            if key == name {
+            if *key == *name {
                 return Some(variable);
             }
         }
@@ -285,7 +285,7 @@ impl World {
             ≡ Gives (value_of value.now) (world_of self.now io)) }
     {
         let (key, variable) = self.variables.get_index(slot as usize)?;
-        if variable.input.is_none() && key == name {
+        if variable.input.is_none() && *key == *name {
             Some(&variable.value)
         } else {
             None
@@ -299,7 +299,7 @@ impl World {
     {
         match (name, self.variables.get_index(slot as usize)) {
             (Name::Variable(name), Some((key, variable))) => {
-                variable.output.is_none() && key == name
+                variable.output.is_none() && *key == *name
             }
             _ => false,
         }
