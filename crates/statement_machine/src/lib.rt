@@ -20,6 +20,7 @@ mod gotos;
 mod instructions;
 mod joined;
 mod joined_elements;
+mod joined_ends;
 mod joined_tests;
 mod joined_texts;
 mod machine;

@@ -132,11 +132,12 @@ impl State {
     }
 
     /// The newest value is dropped.
+    #[inline(always)]
     pub(crate) fn drop_value(&mut self, next: usize)
         requires { AreOnTop (V ∷ []) self.old.operands.top }
         ensures { Does Instr.Drop next (Ok tt) self.old self.new }
     {
-        let _value = pop_value(&mut self.operands);
+        pop_value(&mut self.operands);
         self.place = next;
     }
 
