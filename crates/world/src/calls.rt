@@ -176,7 +176,7 @@ impl World {
     }
 
     // The name that the end of a call gives.
-    fn named(&self, alloc: Global, name: &Text, slot: u32) -> Result<Name, Fault>
+    fn name_given(&self, alloc: Global, name: &Text, slot: u32) -> Result<Name, Fault>
         ensures given { (io : Io) (c : calls.Kept PCode ℕ) → c.name ≡ name.now
             → LeavesTo (answer_map (λ n. Some (given.Name n)) result) (world_of self.now io)
             (back_to_caller ReturnKind.NReturn c (world_of self.now io))
@@ -238,7 +238,7 @@ impl World {
         ensures stop { IfStopped result (λ stop. stop ≡ NoMemory) }
     {
         let slot = slot_at(kept.prototype.slots(), 0);
-        let name = self.named(alloc, kept.prototype.name(), slot)?;
+        let name = self.name_given(alloc, kept.prototype.name(), slot)?;
         self.back(ReturnKind::NReturn, kept, saved)?;
         Ok(Some(Given::Name(name)))
     }
