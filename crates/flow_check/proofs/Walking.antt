@@ -6,7 +6,7 @@ use Rattle.model.specs.declared.image.Image.{Image}
 use Rattle.model.specs.Machine.Steps.{At}
 use Rattle.model.specs.Module.Images.{fetch_from}
 use Rattle.model.specs.Module.Flow as flow
-use Rattle.model.specs.Module.Flow.{Asks, Begins, Reaches, BreaksFlow, IsLeast, begins_at, is_jump_target}
+use Rattle.model.specs.Module.Flow.{Asks, Reaches, BreaksFlow, IsLeast, begins_at, is_jump_target}
 use Rattle.model.proofs.Module.CodeBytes.{fetch_lies, some_bytes}
 use Rattle.flow_check.specs.declared.pool.Node.{Node}
 use Rattle.flow_check.specs.declared.shapes.Shape.{Shape}

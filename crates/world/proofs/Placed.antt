@@ -1,5 +1,5 @@
 -- Elements by their places.
-use Rattle.std.proofs.Common.{◌≡◌, ℕ, ℤ, List, [], ◌∷◌, Option, Some, sym, ap, ◌∙◌}
+use Rattle.std.proofs.Common.{◌≡◌, ℕ, ℤ, List, [], ◌∷◌, Some, sym, ap, ◌∙◌}
 use Rattle.std.specs.Prelude.{slice_get, option_map}
 use Rattle.model.specs.Deck.Target.{Element, IntegerKey}
 use Rattle.model.specs.Language.Io.{Io}

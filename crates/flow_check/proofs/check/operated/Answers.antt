@@ -1,4 +1,4 @@
-use Rattle.std.proofs.Common.{◌≡◌, ℕ, Bool, true, false, Option, Some, None, refl}
+use Rattle.std.proofs.Common.{◌≡◌, ℕ, Bool, Option, Some, None, refl}
 use Rattle.std.specs.Prelude.{is_some}
 use Rattle.flow_check.specs.declared.marks.Mark.{Mark}
 use Rattle.flow_check.specs.declared.shapes.Shape.{Shape}

@@ -1,4 +1,4 @@
-use Rattle.std.proofs.Common.{ℕ, None, ◌∙◌}
+use Rattle.std.proofs.Common.{None, ◌∙◌}
 use Rattle.flow_check.specs.Marks.{seeded}
 use Rattle.flow_check.specs.Shapes.{empty_shape}
 use Rattle.flow_check.specs.declared.shapes.Mode.TheVariants.{Goto}

@@ -1,6 +1,5 @@
-use Rattle.std.proofs.Common.{Err, subst, sym}
 use Rattle.model.specs.declared.instr.Instr.TheVariants.{Elem}
-use Rattle.statement_machine.specs.Held.{Left, after}
+use Rattle.statement_machine.specs.Held.{after}
 use Rattle.statement_machine.proofs.Named.{on_named, on_none}
 use Rattle.statement_machine.proofs.state.State.element.Goals as goal
 

@@ -1,4 +1,4 @@
-use Rattle.std.proofs.Common.{ap, sym, subst, ◌∙◌, Some, Ok, Err, Result, Option}
+use Rattle.std.proofs.Common.{ap, sym, subst, ◌∙◌, Some, Err, Result, Option}
 use Rattle.std.specs.Prelude.{map, option_map}
 use Rattle.std.proofs.lemmas.Result.{err_from_is_err_and}
 use Rattle.model.specs.Language.Conversions.{Bad}
