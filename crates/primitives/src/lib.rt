@@ -7,6 +7,8 @@
 //!
 //! `holds(id, first, second)` is a call of one that `is_test`: it says something of two values and takes no memory.
 //!
+//! `counted(id, value)` is a call of one whose pattern is a part that has a count, and takes no memory either.
+//!
 //! Promised: each is its row of the table, `prim_op` of `model`; a call that gives an error or stops changes nothing.
 //! CALLING.md says how another primitive is added.
 #![tactic(auto)]
@@ -23,4 +25,5 @@ mod units;
 
 pub use call::call_prim;
 pub use outcome::Outcome;
+pub use patterns::counted;
 pub use predicates::{holds, is_test};

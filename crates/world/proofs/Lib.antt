@@ -15,3 +15,4 @@ pub mod Named
 pub mod TypeFunctions
 pub mod Recorded
 pub mod Placed
+pub mod Joined
