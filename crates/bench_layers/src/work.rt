@@ -6,7 +6,7 @@ use driver::compile_deck;
 use lexer::lex;
 use loader::load;
 use match_machine::Matcher;
-use pattern_compiler::{Basic, PatCode, Set};
+use pattern_compiler::{Basic, Pattern as Made, Set};
 use std::alloc::Global;
 use strings::{ByteSet, StrFault, Text, break_end, span_end};
 
@@ -59,35 +59,36 @@ fn texts(alloc: Global, call: TextCall, bytes: &[u8]) -> Option<u64> {
     Some(count)
 }
 
-fn lit(alloc: Global, bytes: &[u8]) -> Result<PatCode, StrFault> {
-    Ok(PatCode::lit(alloc, &Text::from_slice(alloc, bytes)?)?)
+fn lit(alloc: Global, bytes: &[u8]) -> Result<Made, StrFault> {
+    Ok(Made::lit(Text::from_slice(alloc, bytes)?))
 }
 
-fn code_of(alloc: Global, pattern: Pattern) -> Result<PatCode, StrFault> {
+fn made(alloc: Global, pattern: Pattern) -> Result<Made, StrFault> {
     Ok(match pattern {
         Pattern::Arb => {
-            let arb = PatCode::prim(alloc, Basic::Arb)?;
-            PatCode::cat(alloc, &arb, &arb)?
+            let arb = Made::part(alloc, Basic::Arb)?;
+            Made::cat(alloc, arb.clone()?, arb)?
         }
         Pattern::Alternation => {
-            let first = PatCode::alt(alloc, &lit(alloc, b"B")?, &lit(alloc, b"C")?)?;
-            let any = PatCode::alt(alloc, &first, &lit(alloc, b"A")?)?;
-            PatCode::arbno(alloc, &any)?
+            let first = Made::alt(alloc, lit(alloc, b"B")?, lit(alloc, b"C")?)?;
+            let any = Made::alt(alloc, first, lit(alloc, b"A")?)?;
+            Made::arbno(alloc, any)?
         }
         Pattern::Span => {
-            let span = PatCode::prim(
+            let span = Made::part(
                 alloc,
                 Basic::Span(Set::of(alloc, Text::from_slice(alloc, b"A")?)?),
             )?;
-            let turn = PatCode::cat(alloc, &span, &lit(alloc, b"B")?)?;
-            PatCode::arbno(alloc, &turn)?
+            let turn = Made::cat(alloc, span, lit(alloc, b"B")?)?;
+            Made::arbno(alloc, turn)?
         }
     })
 }
 
 // How many steps a match takes that fails.
 fn steps(alloc: Global, pattern: Pattern, bytes: &[u8]) -> Result<u64, StrFault> {
-    let code = PatCode::cat(alloc, &code_of(alloc, pattern)?, &lit(alloc, b"Z")?)?;
+    let whole = Made::cat(alloc, made(alloc, pattern)?, lit(alloc, b"Z")?)?;
+    let code = whole.into_code(alloc)?;
     let subject = Text::from_slice(alloc, bytes)?;
     let (_, steps) = Matcher::start(alloc, code, subject, false).advance(u64::MAX)?;
     Ok(steps)

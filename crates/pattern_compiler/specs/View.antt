@@ -1,7 +1,7 @@
 -- What code at run time is in the definitions.
 use Rattle.std.specs.Prelude.{List, [], map, Option, Some, None}
-use Rattle.std.specs.Rc.{rc_slice_items}
-use Rattle.std.specs.declared.rc.RcSlice.{RcSlice}
+use Rattle.std.specs.declared.rc.Rc.{Rc}
+use Rattle.std.specs.declared.vec.Vec.{Vec}
 use Rattle.std.specs.declared.alloc.Global.{Global}
 use Rattle.model.specs.Deck.Target as target
 use Rattle.model.specs.Pattern.Patterns as p
@@ -67,6 +67,6 @@ instr_of (instr.EvalBasic k e) = p.EvalBasic (kind_of k) e
 abbrev pub code_of : List Instr → Code
 code_of xs = map instr_of xs
 
-abbrev pub shared_code : Option (RcSlice Instr Global) → Code
+abbrev pub shared_code : Option (Rc (Vec Instr Global) Global) → Code
 shared_code None = []
-shared_code (Some it) = code_of (rc_slice_items it)
+shared_code (Some it) = code_of it.value.items

@@ -1,16 +1,16 @@
 //! Pattern code, shared.
 
-ghost use Rattle.std.specs.Prelude.{◌≡◌, [], IfOk, length, map, slice_get, option_map};
+ghost use Rattle.std.specs.Prelude.{◌≡◌, ◌<◌, ◌^◌, ◌++◌, [], IfOk, OnOk, length, map, slice_get, option_map};
 ghost use Rattle.pattern_compiler.specs.View.{instr_of, code_of, shared_code};
 
 use crate::instr::Instr;
-use std::alloc::AllocError;
+use std::alloc::{AllocError, Global};
 use std::marker::Model;
-use std::rc::RcSlice;
+use std::rc::Rc;
 
 /// Code of a pattern, which its clones share and which never changes. Code without an instruction takes no memory.
 pub struct PatCode {
-    shared: Option<RcSlice<Instr>>,
+    shared: Option<Rc<Vec<Instr>>>,
 }
 
 impl Drop for PatCode {
@@ -40,7 +40,7 @@ impl PatCode {
     pub fn from_list(instrs: Vec<Instr>) -> Result<PatCode, AllocError>
         ensures { IfOk result (λ code. code ≡ code_of instrs.items) }
     {
-        let shared = RcSlice::from_vec(instrs)?;
+        let shared = Rc::new(*instrs.allocator(), instrs)?;
         Ok(PatCode {
             shared: Some(shared),
         })
@@ -51,8 +51,46 @@ impl PatCode {
         ensures { code_of result.now ≡ self.now }
     {
         match &self.shared {
-            Some(shared) => shared.as_slice(),
+            Some(shared) => shared.as_ref().as_slice(),
             None => &[],
+        }
+    }
+
+    /// The instructions, copied only if other code shares them, and then with room for so many more.
+    pub(crate) fn into_list(self, alloc: Global, room: usize) -> Result<Vec<Instr>, AllocError>
+        requires { room < 2 ^ 63 }
+        ensures { IfOk result (λ instrs. code_of instrs.items ≡ self) }
+    {
+        let PatCode { shared } = self;
+        let Some(shared) = shared else {
+            return Ok(Vec::with_capacity(alloc, room)?);
+        };
+        match Rc::try_unwrap(shared) {
+            Ok(instrs) => Ok(instrs),
+            Err(shared) => {
+                let items = shared.as_ref().as_slice();
+                let mut instrs = Vec::with_capacity(alloc, items.len() + room)?;
+                put(&mut instrs, items)?;
+                Ok(instrs)
+            }
+        }
+    }
+
+    /// Puts the instructions at the end, copied only if other code shares them.
+    pub(crate) fn put_in(self, instrs: &mut Vec<Instr>) -> Result<(), AllocError>
+        ensures { OnOk result
+            (code_of instrs.new.items ≡ code_of instrs.old.items ++ self) }
+    {
+        let PatCode { shared } = self;
+        let Some(shared) = shared else {
+            return Ok(());
+        };
+        match Rc::try_unwrap(shared) {
+            Ok(items) => {
+                let mut items = items;
+                instrs.append(&mut items)
+            }
+            Err(shared) => put(instrs, shared.as_ref().as_slice()),
         }
     }
 
@@ -61,7 +99,7 @@ impl PatCode {
         ensures { result ≡ length self.now }
     {
         match &self.shared {
-            Some(shared) => shared.as_slice().len(),
+            Some(shared) => shared.as_ref().as_slice().len(),
             None => 0,
         }
     }
@@ -71,10 +109,21 @@ impl PatCode {
         ensures { option_map (λ i. instr_of i.now) result ≡ slice_get self.now place }
     {
         match &self.shared {
-            Some(shared) => shared.as_slice().get(place),
+            Some(shared) => shared.as_ref().as_slice().get(place),
             None => None,
         }
     }
+}
+
+/// Puts copies of the instructions at the end.
+pub(crate) fn put(instrs: &mut Vec<Instr>, part: &[Instr]) -> Result<(), AllocError>
+    ensures { OnOk result
+        (code_of instrs.new.items ≡ code_of instrs.old.items ++ code_of part.now) }
+{
+    for instr in part {
+        instrs.push(instr.clone()?)?;
+    }
+    Ok(())
 }
 
 impl Clone for PatCode {

@@ -11,116 +11,115 @@ ghost use Rattle.pattern_compiler.specs.View.{instr_of, name_of, code_of};
 
 use crate::code::PatCode;
 use crate::instr::{Instr, Name};
+use crate::pattern::Pattern;
 use std::alloc::{AllocError, Global};
 
-impl PatCode {
-    /// One pattern and then the other. Where one of them has no instruction, the other is shared.
-    pub fn cat(alloc: Global, left: &PatCode, right: &PatCode) -> Result<PatCode, AllocError>
-        ensures code { IfOk result (λ code. code ≡ cat_code left.now right.now) }
+impl Pattern {
+    /// One pattern and then the other. Code that nothing else shares isn't copied.
+    pub fn cat(alloc: Global, left: Pattern, right: Pattern) -> Result<Pattern, AllocError>
+        ensures code { IfOk result (λ code. code ≡ cat_code left right) }
         ensures stands { IfOk result (λ code.
-            (xs : ℕ → Option Expr) (p q : Pat) → Stands xs p left.now → Stands xs q right.now
+            (xs : ℕ → Option Expr) (p q : Pat) → Stands xs p left → Stands xs q right
             → Stands xs (pattern.Cat p q) code) }
     {
-        let first = left.as_slice();
-        let second = right.as_slice();
-        if first.is_empty() {
-            return right.clone();
-        }
-        if second.is_empty() {
-            return left.clone();
-        }
-        let mut instrs = Vec::with_capacity(alloc, first.len() + second.len())?;
-        put(&mut instrs, first)?;
-        put(&mut instrs, second)?;
-        PatCode::from_list(instrs)
+        let instrs = match left.into_instr() {
+            Ok(first) => {
+                let mut instrs = right.into_list(alloc, 1)?;
+                instrs.insert(0, first)?;
+                instrs
+            }
+            Err(code) => behind(alloc, code, right)?,
+        };
+        Ok(Pattern::of(PatCode::from_list(instrs)?))
     }
 
     /// One pattern, or else the other. Where the first's code leads to its end, it leads past the second.
-    pub fn alt(alloc: Global, left: &PatCode, right: &PatCode) -> Result<PatCode, AllocError>
-        ensures code { IfOk result (λ code. code ≡ alt_code left.now right.now) }
+    pub fn alt(alloc: Global, left: Pattern, right: Pattern) -> Result<Pattern, AllocError>
+        ensures code { IfOk result (λ code. code ≡ alt_code left right) }
         ensures stands { IfOk result (λ code.
-            (xs : ℕ → Option Expr) (p q : Pat) → Stands xs p left.now → Stands xs q right.now
+            (xs : ℕ → Option Expr) (p q : Pat) → Stands xs p left → Stands xs q right
             → Stands xs (pattern.Alt p q) code) }
     {
-        let first = left.as_slice();
-        let second = right.as_slice();
-        let mut instrs = Vec::with_capacity(alloc, first.len() + second.len() + 2)?;
+        let front = left.into_code(alloc)?;
+        let first = front.as_slice();
+        let mut second = right.into_list(alloc, 0)?;
+        let past = second.as_slice().len() + 1;
+        let mut instrs = Vec::with_capacity(alloc, first.len() + past + 1)?;
         instrs.push(Instr::Split((first.len() + 2) as i64))?;
-        put_led_past(&mut instrs, first, second.len() + 1)?;
-        instrs.push(Instr::Jmp((second.len() + 1) as i64))?;
-        put(&mut instrs, second)?;
-        PatCode::from_list(instrs)
+        put_led_past(&mut instrs, first, past)?;
+        instrs.push(Instr::Jmp(past as i64))?;
+        instrs.append(&mut second)?;
+        Ok(Pattern::of(PatCode::from_list(instrs)?))
     }
 
     /// The pattern as often as need be, at first not at all.
-    pub fn arbno(alloc: Global, part: &PatCode) -> Result<PatCode, AllocError>
-        ensures code { IfOk result (λ code. code ≡ arbno_code part.now) }
+    pub fn arbno(alloc: Global, part: Pattern) -> Result<Pattern, AllocError>
+        ensures code { IfOk result (λ code. code ≡ arbno_code part) }
         ensures stands { IfOk result (λ code.
-            (xs : ℕ → Option Expr) (p : Pat) → Stands xs p part.now
+            (xs : ℕ → Option Expr) (p : Pat) → Stands xs p part
             → Stands xs (pattern.Arbno p) code) }
     {
-        let turn = part.as_slice();
-        let past = (turn.len() + 2) as i64;
-        let mut instrs = Vec::with_capacity(alloc, turn.len() + 3)?;
+        let mut turn = part.into_list(alloc, 0)?;
+        let past = (turn.as_slice().len() + 2) as i64;
+        let mut instrs = Vec::with_capacity(alloc, turn.as_slice().len() + 3)?;
         instrs.push(Instr::Split(2))?;
         instrs.push(Instr::Jmp(past))?;
-        put(&mut instrs, turn)?;
+        instrs.append(&mut turn)?;
         instrs.push(Instr::Jmp(-past))?;
-        PatCode::from_list(instrs)
+        Ok(Pattern::of(PatCode::from_list(instrs)?))
     }
 
     /// The pattern, of which the first end alone is taken.
-    pub fn fence_of(alloc: Global, part: &PatCode) -> Result<PatCode, AllocError>
-        ensures code { IfOk result (λ code. code ≡ fence_code part.now) }
+    pub fn fence_of(alloc: Global, part: Pattern) -> Result<Pattern, AllocError>
+        ensures code { IfOk result (λ code. code ≡ fence_code part) }
         ensures stands { IfOk result (λ code.
-            (xs : ℕ → Option Expr) (p : Pat) → Stands xs p part.now
+            (xs : ℕ → Option Expr) (p : Pat) → Stands xs p part
             → Stands xs (pattern.FenceOf p) code) }
     {
         between(alloc, Instr::OpenFence, part, Instr::CloseFence)
     }
 
     /// The pattern with a conditional assignment of what it matched.
-    pub fn cond(alloc: Global, part: &PatCode, name: Name) -> Result<PatCode, AllocError>
-        ensures code { IfOk result (λ code. code ≡ cond_code part.now (name_of name)) }
+    pub fn cond(alloc: Global, part: Pattern, name: Name) -> Result<Pattern, AllocError>
+        ensures code { IfOk result (λ code. code ≡ cond_code part (name_of name)) }
         ensures stands { IfOk result (λ code.
-            (xs : ℕ → Option Expr) (p : Pat) → Stands xs p part.now
+            (xs : ℕ → Option Expr) (p : Pat) → Stands xs p part
             → Stands xs (pattern.Cond p (name_of name)) code) }
     {
         between(alloc, Instr::Open, part, Instr::Close(name))
     }
 
     /// The pattern with an immediate assignment of what it matched.
-    pub fn imm(alloc: Global, part: &PatCode, name: Name) -> Result<PatCode, AllocError>
-        ensures code { IfOk result (λ code. code ≡ imm_code part.now (name_of name)) }
+    pub fn imm(alloc: Global, part: Pattern, name: Name) -> Result<Pattern, AllocError>
+        ensures code { IfOk result (λ code. code ≡ imm_code part (name_of name)) }
         ensures stands { IfOk result (λ code.
-            (xs : ℕ → Option Expr) (p : Pat) → Stands xs p part.now
+            (xs : ℕ → Option Expr) (p : Pat) → Stands xs p part
             → Stands xs (pattern.Imm p (name_of name)) code) }
     {
         between(alloc, Instr::Open, part, Instr::Say(name))
     }
 }
 
-// The part between two instructions.
-fn between(alloc: Global, first: Instr, part: &PatCode, last: Instr) -> Result<PatCode, AllocError>
-    ensures { IfOk result (λ code. code ≡ instr_of first ∷ (part.now ++ instr_of last ∷ [])) }
+// A pattern behind code.
+fn behind(alloc: Global, code: PatCode, right: Pattern) -> Result<Vec<Instr>, AllocError>
+    ensures { IfOk result (λ instrs. code_of instrs.items ≡ code ++ right) }
 {
-    let middle = part.as_slice();
-    let mut instrs = Vec::with_capacity(alloc, middle.len() + 2)?;
-    instrs.push(first)?;
-    put(&mut instrs, middle)?;
-    instrs.push(last)?;
-    PatCode::from_list(instrs)
+    let mut instrs = code.into_list(alloc, right.room())?;
+    match right.into_instr() {
+        Ok(last) => instrs.push(last)?,
+        Err(others) => others.put_in(&mut instrs)?,
+    }
+    Ok(instrs)
 }
 
-// Puts copies of the instructions at the end.
-fn put(instrs: &mut Vec<Instr>, part: &[Instr]) -> Result<(), AllocError>
-    ensures { OnOk result
-        (code_of instrs.new.items ≡ code_of instrs.old.items ++ code_of part.now) }
+// The part between two instructions.
+fn between(alloc: Global, first: Instr, part: Pattern, last: Instr) -> Result<Pattern, AllocError>
+    ensures { IfOk result (λ code. code ≡ instr_of first ∷ (part ++ instr_of last ∷ [])) }
 {
-    for instr in part {
-        instrs.push(instr.clone()?)?;
-    }
-    Ok(())
+    let mut instrs = part.into_list(alloc, 2)?;
+    instrs.insert(0, first)?;
+    instrs.push(last)?;
+    Ok(Pattern::of(PatCode::from_list(instrs)?))
 }
 
 // Puts copies of the instructions at the end; what led to the end of the part leads `by` further.

@@ -9,6 +9,7 @@ ghost use Rattle.pattern_compiler.specs.View.{basic_of, instr_of, kind_of, name_
 
 use crate::code::PatCode;
 use crate::instr::{Basic, Instr, Kind, Name};
+use crate::pattern::ROOM;
 use std::alloc::{AllocError, Global};
 use strings::Text;
 
@@ -93,11 +94,11 @@ impl PatCode {
     }
 }
 
-// The code of one instruction.
-fn one(alloc: Global, instr: Instr) -> Result<PatCode, AllocError>
+/// The code of one instruction.
+pub(crate) fn one(alloc: Global, instr: Instr) -> Result<PatCode, AllocError>
     ensures { IfOk result (λ code. code ≡ instr_of instr ∷ []) }
 {
-    let mut instrs = Vec::with_capacity(alloc, 1)?;
+    let mut instrs = Vec::with_capacity(alloc, ROOM)?;
     instrs.push(instr)?;
     PatCode::from_list(instrs)
 }

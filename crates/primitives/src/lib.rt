@@ -8,6 +8,8 @@
 //! `holds(id, first, second)` is a call of one that `is_test`: it says something of two values and takes no memory;
 //! `integers_hold` is the same of two integers.
 //!
+//! `counted(id, value)` is a call of one whose pattern is a part that has a count, and takes no memory either.
+//!
 //! Promised: each is its row of the table, `prim_op` of `model`; a call that gives an error or stops changes nothing.
 //! CALLING.md says how another primitive is added.
 #![tactic(auto)]
@@ -24,4 +26,5 @@ mod units;
 
 pub use call::call_prim;
 pub use outcome::Outcome;
+pub use patterns::counted;
 pub use predicates::{holds, integers_hold, is_test};

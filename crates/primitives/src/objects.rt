@@ -17,6 +17,7 @@ ghost use Rattle.primitives.specs.Answers.{AnswersAs, Changes, ComesTo};
 use crate::functions::type_name;
 use crate::outcome::Outcome;
 use model::ErrorCode;
+use pattern_compiler::Pattern;
 use prototypes::{dimensions, type_prototype};
 use std::alloc::Global;
 use world::{Fault, Value, World};
@@ -163,7 +164,7 @@ fn as_pattern(alloc: Global, value: &Value) -> Result<Outcome, Fault>
     ensures stop { IfStopped result (λ stop. stop ≡ NoMemory) }
 {
     match value.to_pattern(alloc) {
-        Ok(code) => Ok(Outcome::Value(Value::Pattern(code))),
+        Ok(code) => Ok(Outcome::Value(Value::Pattern(Pattern::of(code)))),
         Err(Fault::Error(_)) => Ok(Outcome::Failure),
         Err(stop) => Err(stop),
     }

@@ -63,7 +63,7 @@ impl State {
     {
         let right = pop_value(&mut self.operands);
         let left = pop_value(&mut self.operands);
-        match alt(self.alloc, &left, &right) {
+        match alt(self.alloc, left, right) {
             Ok(value) => self.put(value, next),
             Err(fault) => Err(Exit::Fault(fault)),
         }
@@ -77,7 +77,7 @@ impl State {
     {
         let Named { name, slot: _ } = pop_name(&mut self.operands);
         let value = pop_value(&mut self.operands);
-        match cond(self.alloc, &value, name) {
+        match cond(self.alloc, value, name) {
             Ok(pattern) => self.put(pattern, next),
             Err(fault) => Err(Exit::Fault(fault)),
         }
@@ -91,7 +91,7 @@ impl State {
     {
         let Named { name, slot: _ } = pop_name(&mut self.operands);
         let value = pop_value(&mut self.operands);
-        match imm(self.alloc, &value, name) {
+        match imm(self.alloc, value, name) {
             Ok(pattern) => self.put(pattern, next),
             Err(fault) => Err(Exit::Fault(fault)),
         }

@@ -12,7 +12,7 @@ use crate::state::State;
 use crate::status::Exit;
 use loader::Module;
 use model::{Instr, PatInstr};
-use pattern_compiler::{Basic, Instr as Part, PatCode, Set};
+use pattern_compiler::{Basic, Instr as Part, PatCode, Pattern, Set};
 use std::alloc::{AllocError, Global};
 use world::Value;
 
@@ -98,6 +98,6 @@ impl State {
         let Some(code) = code_of(self.alloc, program, parts)? else {
             unreachable!()
         };
-        self.put(Value::Pattern(code), next)
+        self.put(Value::Pattern(Pattern::of(code)), next)
     }
 }

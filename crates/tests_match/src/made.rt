@@ -1,6 +1,6 @@
 //! Patterns in short.
 
-use pattern_compiler::{Basic, Kind, Name, PatCode, Set};
+use pattern_compiler::{Basic, Kind, Name, PatCode, Pattern, Set};
 use std::alloc::{AllocError, Global};
 use strings::{StrFault, Text};
 
@@ -23,49 +23,50 @@ fn basic(alloc: Global, letter: u8) -> Result<Basic, StrFault> {
     })
 }
 
-fn part(alloc: Global, sign: u8) -> Result<PatCode, StrFault> {
-    Ok(match sign {
+fn part(alloc: Global, sign: u8) -> Result<Pattern, StrFault> {
+    let code = match sign {
         b's' => PatCode::succeed(alloc)?,
         b'?' => PatCode::defer(alloc, 7)?,
         b'#' => PatCode::defer_prim(alloc, Kind::Len, 8)?,
         b'%' => PatCode::defer_prim(alloc, Kind::Span, 9)?,
         b'@' => PatCode::at(alloc, name(alloc)?)?,
-        _ => PatCode::prim(alloc, basic(alloc, sign)?)?,
-    })
+        _ => return Ok(Pattern::part(alloc, basic(alloc, sign)?)?),
+    };
+    Ok(Pattern::of(code))
 }
 
 fn name(alloc: Global) -> Result<Name, StrFault> {
     Ok(Name::Variable(Text::from_slice(alloc, b"X")?))
 }
 
-fn last(parts: &mut Vec<PatCode>) -> PatCode {
+fn last(parts: &mut Vec<Pattern>) -> Pattern {
     match parts.pop() {
         Some(part) => part,
-        None => PatCode::null(),
+        None => Pattern::of(PatCode::null()),
     }
 }
 
 // One part behind another, or one or the other.
-fn joined(alloc: Global, sign: u8, parts: &mut Vec<PatCode>) -> Result<PatCode, AllocError> {
+fn joined(alloc: Global, sign: u8, parts: &mut Vec<Pattern>) -> Result<Pattern, AllocError> {
     let right = last(parts);
     let left = last(parts);
     match sign {
-        b'&' => PatCode::cat(alloc, &left, &right),
-        _ => PatCode::alt(alloc, &left, &right),
+        b'&' => Pattern::cat(alloc, left, right),
+        _ => Pattern::alt(alloc, left, right),
     }
 }
 
 // The part again and again, its first end alone, or assigned.
-fn around(alloc: Global, sign: u8, parts: &mut Vec<PatCode>) -> Result<PatCode, StrFault> {
+fn around(alloc: Global, sign: u8, parts: &mut Vec<Pattern>) -> Result<Pattern, StrFault> {
     let part = last(parts);
     Ok(match sign {
-        b'*' => PatCode::arbno(alloc, &part)?,
-        b'!' => PatCode::fence_of(alloc, &part)?,
-        _ => PatCode::imm(alloc, &part, name(alloc)?)?,
+        b'*' => Pattern::arbno(alloc, part)?,
+        b'!' => Pattern::fence_of(alloc, part)?,
+        _ => Pattern::imm(alloc, part, name(alloc)?)?,
     })
 }
 
-fn next(alloc: Global, sign: u8, parts: &mut Vec<PatCode>) -> Result<PatCode, StrFault> {
+fn next(alloc: Global, sign: u8, parts: &mut Vec<Pattern>) -> Result<Pattern, StrFault> {
     Ok(match sign {
         b'&' | b'|' => joined(alloc, sign, parts)?,
         b'*' | b'!' | b'$' => around(alloc, sign, parts)?,
@@ -83,5 +84,5 @@ pub fn pattern(alloc: Global, signs: &str) -> Result<PatCode, StrFault> {
         let part = next(alloc, *sign, &mut parts)?;
         parts.push(part)?;
     }
-    Ok(last(&mut parts))
+    Ok(last(&mut parts).into_code(alloc)?)
 }

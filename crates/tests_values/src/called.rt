@@ -1,9 +1,9 @@
 //! Calls with values that no deck makes today, and what they come to: plain values, which are cheap to prove.
 
 use model::{ErrorCode, Level, PrimId};
-use pattern_compiler::{Instr, Name, PatCode};
+use pattern_compiler::{Instr, Name, PatCode, Pattern};
 use primitives::{Outcome, call_prim};
-use std::alloc::Global;
+use std::alloc::{AllocError, Global};
 use strings::Text;
 use world::{Fault, Value, World, alt, cond, imm};
 
@@ -69,7 +69,7 @@ fn value(alloc: Global, arg: Arg<'_>) -> Result<Value, Fault> {
         Arg::Null => Value::null(),
         Arg::Text(bytes) => Value::String(Text::from_slice(alloc, bytes.as_bytes())?),
         Arg::Int(n) => Value::Integer(n),
-        Arg::Abort => Value::Pattern(PatCode::abort(alloc)?),
+        Arg::Abort => Value::Pattern(Pattern::of(PatCode::abort(alloc)?)),
         Arg::Variable(bytes) => {
             let name = Text::from_slice(alloc, bytes.as_bytes())?;
             Value::Name(Name::Variable(name))
@@ -87,7 +87,7 @@ fn converted(alloc: Global, call: Call, value: &Value) -> Result<Value, Fault> {
     match call {
         Call::ToText => Ok(Value::String(value.to_text(alloc)?)),
         Call::ToInt => Ok(Value::Integer(value.to_int()?)),
-        Call::ToPattern => Ok(Value::Pattern(value.to_pattern(alloc)?)),
+        Call::ToPattern => Ok(Value::Pattern(Pattern::of(value.to_pattern(alloc)?))),
         Call::ToName => Ok(Value::Name(value.to_name(alloc)?)),
         Call::ToLabel => Ok(Value::String(value.to_label(alloc)?)),
         _ => Ok(Value::String(value.to_variable(alloc)?)),
@@ -119,7 +119,7 @@ fn in_world(
         Call::Prim(id) | Call::Older(id) => primitive(alloc, world, id, left, right),
         Call::Begin => {
             let begun = world.begin_match(alloc, left, right)?;
-            Ok(Some(Value::Pattern(begun.pattern)))
+            Ok(Some(Value::Pattern(Pattern::of(begun.pattern))))
         }
         _ => Ok(Some(world.cat(alloc, left.clone()?, right.clone()?)?)),
     }
@@ -127,9 +127,9 @@ fn in_world(
 
 fn called(alloc: Global, call: Call, left: &Value, right: &Value) -> Result<Option<Value>, Fault> {
     match call {
-        Call::Alt => Ok(Some(alt(alloc, left, right)?)),
-        Call::Cond => Ok(Some(cond(alloc, left, right.to_name(alloc)?)?)),
-        Call::Imm => Ok(Some(imm(alloc, left, right.to_name(alloc)?)?)),
+        Call::Alt => Ok(Some(alt(alloc, left.clone()?, right.clone()?)?)),
+        Call::Cond => Ok(Some(cond(alloc, left.clone()?, right.to_name(alloc)?)?)),
+        Call::Imm => Ok(Some(imm(alloc, left.clone()?, right.to_name(alloc)?)?)),
         Call::Cat | Call::Begin | Call::Prim(_) => {
             in_world(
                 alloc,
@@ -168,14 +168,14 @@ fn code(code: &PatCode) -> Seen {
     }
 }
 
-fn shown(value: &Value) -> Seen {
-    match value {
+fn shown(alloc: Global, value: &Value) -> Result<Seen, AllocError> {
+    Ok(match value {
         Value::String(bytes) => text(bytes),
         Value::Integer(n) => Seen::Integer(*n),
-        Value::Pattern(pattern) => code(pattern),
+        Value::Pattern(pattern) => code(&pattern.to_code(alloc)?),
         Value::Name(Name::Variable(name)) => text(name),
         _ => Seen::Other,
-    }
+    })
 }
 
 fn answer(
@@ -190,7 +190,7 @@ fn answer(
 /// What a call comes to, in the world as a run begins.
 pub fn seen_of(alloc: Global, call: Call, left: Arg<'_>, right: Arg<'_>) -> Seen {
     match answer(alloc, call, left, right) {
-        Ok(Some(value)) => shown(&value),
+        Ok(Some(value)) => shown(alloc, &value).unwrap_or(Seen::Stopped),
         Ok(None) => Seen::Failure,
         Err(Fault::Error(error)) => Seen::Error(error),
         Err(Fault::Stop(_)) => Seen::Stopped,

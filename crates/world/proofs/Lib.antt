@@ -17,3 +17,4 @@ pub mod Recorded
 pub mod Placed
 pub mod Exchanging
 pub mod Giving
+pub mod Joined

@@ -49,7 +49,7 @@ impl Value {
         match self {
             Value::String(text) => Ok(PatCode::lit(alloc, text)?),
             Value::Integer(n) => Ok(PatCode::lit(alloc, &Text::int_text(alloc, *n)?)?),
-            Value::Pattern(code) => Ok(code.clone()?),
+            Value::Pattern(pattern) => Ok(pattern.to_code(alloc)?),
             Value::Expression(expr) => Ok(PatCode::defer(alloc, *expr)?),
             Value::Name(_) | Value::Object(_) => Err(Fault::Error(ErrorCode::WrongType)),
         }

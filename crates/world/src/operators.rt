@@ -11,48 +11,48 @@ ghost use Rattle.world.specs.Answers.{answer_map, AnswersAs, IfStopped};
 
 use crate::fault::Fault;
 use crate::value::Value;
-use pattern_compiler::{Name, PatCode};
+use pattern_compiler::{Name, PatCode, Pattern};
 use std::alloc::{AllocError, Global};
 
 /// One pattern, or else the other.
-pub fn alt(alloc: Global, left: &Value, right: &Value) -> Result<Value, Fault>
+pub fn alt(alloc: Global, left: Value, right: Value) -> Result<Value, Fault>
     ensures value { (w : MW)
         → AnswersAs (answer_map value_of result) w
-        (alt_op codes_of (value_of left.now) (value_of right.now) w) }
+        (alt_op codes_of (value_of left) (value_of right) w) }
     ensures stop { IfStopped result (λ stop. stop ≡ NoMemory) }
 {
-    let first = left.to_pattern(alloc)?;
-    let second = right.to_pattern(alloc)?;
-    Ok(Value::Pattern(PatCode::alt(alloc, &first, &second)?))
+    let first = left.into_pattern(alloc)?;
+    let second = right.into_pattern(alloc)?;
+    Ok(Value::Pattern(Pattern::alt(alloc, first, second)?))
 }
 
 /// A pattern with a conditional assignment of what it matches.
-pub fn cond(alloc: Global, value: &Value, name: Name) -> Result<Value, Fault>
+pub fn cond(alloc: Global, value: Value, name: Name) -> Result<Value, Fault>
     ensures value { (w : MW)
         → AnswersAs (answer_map value_of result) w
-        (cond_op codes_of (value_of value.now) (name_of name) w) }
+        (cond_op codes_of (value_of value) (name_of name) w) }
     ensures stop { IfStopped result (λ stop. stop ≡ NoMemory) }
 {
-    let part = value.to_pattern(alloc)?;
-    Ok(Value::Pattern(PatCode::cond(alloc, &part, name)?))
+    let part = value.into_pattern(alloc)?;
+    Ok(Value::Pattern(Pattern::cond(alloc, part, name)?))
 }
 
 /// A pattern with an immediate assignment of what it matches.
-pub fn imm(alloc: Global, value: &Value, name: Name) -> Result<Value, Fault>
+pub fn imm(alloc: Global, value: Value, name: Name) -> Result<Value, Fault>
     ensures value { (w : MW)
         → AnswersAs (answer_map value_of result) w
-        (imm_op codes_of (value_of value.now) (name_of name) w) }
+        (imm_op codes_of (value_of value) (name_of name) w) }
     ensures stop { IfStopped result (λ stop. stop ≡ NoMemory) }
 {
-    let part = value.to_pattern(alloc)?;
-    Ok(Value::Pattern(PatCode::imm(alloc, &part, name)?))
+    let part = value.into_pattern(alloc)?;
+    Ok(Value::Pattern(Pattern::imm(alloc, part, name)?))
 }
 
 /// A pattern that matches null, and assigns where it stands.
 pub fn cursor(alloc: Global, name: Name) -> Result<Value, AllocError>
     ensures { IfOk result (λ value. value_of value ≡ Pat (codes_of.cursor (name_of name))) }
 {
-    Ok(Value::Pattern(PatCode::at(alloc, name)?))
+    Ok(Value::Pattern(Pattern::of(PatCode::at(alloc, name)?)))
 }
 
 /// The name that a value stands for.

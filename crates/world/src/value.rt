@@ -1,8 +1,9 @@
 //! Values.
 
-ghost use Rattle.std.specs.Prelude.{◌≡◌, []};
+ghost use Rattle.std.specs.Prelude.{◌≡◌, [], IfOk};
 ghost use Rattle.model.specs.Language.Values.{Str};
-ghost use Rattle.model.specs.Language.Conversions.{is_null, to_text};
+ghost use Rattle.model.specs.Language.Conversions.{is_null, to_pattern, to_text};
+ghost use Rattle.model.specs.Machine.Steps.{codes_of};
 ghost use Rattle.model.specs.declared.run.Stop.TheVariants.{NoMemory};
 ghost use Rattle.world.specs.Answers.{Converts, IfStopped};
 ghost use Rattle.world.specs.Values.{value_of, has_text};
@@ -10,7 +11,7 @@ ghost use Rattle.world.specs.Values.{value_of, has_text};
 use crate::fault::Fault;
 use aggregates::{Element, Key};
 use model::ErrorCode;
-use pattern_compiler::{Name, PatCode};
+use pattern_compiler::{Name, PatCode, Pattern};
 use std::alloc::{AllocError, Global};
 use strings::Text;
 
@@ -18,7 +19,7 @@ use strings::Text;
 pub enum Value {
     String(Text),
     Integer(i64),
-    Pattern(PatCode),
+    Pattern(Pattern),
     Name(Name),
     /// An expression that isn't evaluated, by its number.
     Expression(u32),
@@ -45,15 +46,31 @@ impl Clone for Value {
 
     #[inline(always)]
     fn clone(&self) -> Result<Value, AllocError> {
-        Ok(match self {
-            Value::String(text) => Value::String(text.clone()?),
-            Value::Integer(n) => Value::Integer(*n),
-            Value::Pattern(code) => Value::Pattern(code.clone()?),
-            Value::Name(name) => Value::Name(name.clone()?),
-            Value::Expression(expr) => Value::Expression(*expr),
-            Value::Object(object) => Value::Object(*object),
-        })
+        match self {
+            Value::String(text) => Ok(Value::String(text.clone()?)),
+            Value::Integer(n) => Ok(Value::Integer(*n)),
+            Value::Pattern(pattern) => of_pattern(pattern),
+            Value::Name(name) => of_name(name),
+            Value::Expression(expr) => Ok(Value::Expression(*expr)),
+            Value::Object(object) => Ok(Value::Object(*object)),
+        }
     }
+}
+
+// The same pattern. It stands apart, so that a copy of what is usual has no room for it.
+#[inline(never)]
+fn of_pattern(pattern: &Pattern) -> Result<Value, AllocError>
+    ensures { IfOk result (λ value. value ≡ Value.Pattern pattern.now) }
+{
+    Ok(Value::Pattern(pattern.clone()?))
+}
+
+// The same name.
+#[inline(never)]
+fn of_name(name: &Name) -> Result<Value, AllocError>
+    ensures { IfOk result (λ value. value ≡ Value.Name name.now) }
+{
+    Ok(Value::Name(name.clone()?))
 }
 
 impl Element for Value {
@@ -121,6 +138,20 @@ impl Value {
             Value::Pattern(_) | Value::Name(_) | Value::Expression(_) | Value::Object(_) => {
                 Err(Fault::Error(ErrorCode::WrongType))
             }
+        }
+    }
+
+    /// `to_pattern` of a value that isn't needed any more, whose text and code aren't copied.
+    pub fn into_pattern(self, alloc: Global) -> Result<Pattern, Fault>
+        ensures pattern { Converts result (to_pattern codes_of (value_of self)) }
+        ensures stop { IfStopped result (λ stop. stop ≡ NoMemory) }
+    {
+        match self {
+            Value::String(text) => Ok(Pattern::lit(text)),
+            Value::Integer(n) => Ok(Pattern::lit(Text::int_text(alloc, n)?)),
+            Value::Pattern(pattern) => Ok(pattern),
+            Value::Expression(expr) => Ok(Pattern::of(PatCode::defer(alloc, expr)?)),
+            Value::Name(_) | Value::Object(_) => Err(Fault::Error(ErrorCode::WrongType)),
         }
     }
 }

@@ -25,7 +25,7 @@ use aggregates::Heap;
 use indexmap::IndexMap;
 use keywords::{KeyValue, Keywords};
 use model::{KeyId, Level};
-use pattern_compiler::{Basic, Name, PatCode};
+use pattern_compiler::{Basic, Name, PatCode, Pattern};
 use std::alloc::{AllocError, Global};
 use std::marker::Model;
 use std::mem;
@@ -199,7 +199,11 @@ impl World {
     fn put_pattern(&mut self, alloc: Global, name: &[u8], code: PatCode) -> Result<(), AllocError>
         ensures { OnOk result (self.new ≡ with_variable name.now (pattern_variable code) self.old) }
     {
-        self.put(alloc, name, Variable::holding(Value::Pattern(code)))
+        self.put(
+            alloc,
+            name,
+            Variable::holding(Value::Pattern(Pattern::of(code))),
+        )
     }
 
     fn put(&mut self, alloc: Global, name: &[u8], variable: Variable) -> Result<(), AllocError>

@@ -16,7 +16,7 @@ use crate::value::Value;
 use crate::world::{World, is_zero};
 use keywords::KeyValue;
 use model::{ErrorCode, KeyId};
-use pattern_compiler::PatCode;
+use pattern_compiler::{PatCode, Pattern};
 use std::alloc::Global;
 use strings::{StrFault, Text};
 
@@ -116,9 +116,9 @@ impl World {
             let text = Text::append(alloc, front, &back, self.keywords.longest())?;
             return Ok(Value::String(text));
         }
-        let first = left.to_pattern(alloc)?;
-        let second = right.to_pattern(alloc)?;
-        Ok(Value::Pattern(PatCode::cat(alloc, &first, &second)?))
+        let first = left.into_pattern(alloc)?;
+        let second = right.into_pattern(alloc)?;
+        Ok(Value::Pattern(Pattern::cat(alloc, first, second)?))
     }
 
     /// Two values one after the other, if the first is a short string and the second a string or an integer, and

@@ -1,0 +1,200 @@
+//! Patterns as values have them.
+
+ghost use Rattle.std.specs.Prelude.{◌≡◌, ◌<◌, ◌^◌, [], ◌∷◌, ℕ, Option, IfOk, MatchResult, length};
+ghost use Rattle.model.specs.Pattern.Patterns as pattern;
+ghost use Rattle.model.specs.Pattern.Code.{basic_code};
+ghost use Rattle.model.specs.Pattern.Stands.{Stands};
+ghost use Rattle.model.specs.Deck.Trees.{Expr};
+ghost use Rattle.pattern_compiler.specs.Forms.{counted_of};
+ghost use Rattle.pattern_compiler.specs.View.{basic_of, instr_of, code_of};
+
+use crate::code::PatCode;
+use crate::instr::{Basic, Instr};
+use crate::single::one;
+use std::alloc::{AllocError, Global};
+use std::marker::Model;
+use strings::Text;
+
+/// For how many instructions there is room at least where codes are joined.
+pub(crate) const ROOM: usize = 4;
+
+/// A part that has a count.
+#[derive(Clone, Copy)]
+pub enum Counted {
+    Len(u64),
+    Pos(u64),
+    RPos(u64),
+    Tab(u64),
+    RTab(u64),
+}
+
+// What a pattern is kept as.
+#[derive(Drop)]
+enum Form {
+    // A literal, which isn't null.
+    Lit(Text),
+    Counted(Counted),
+    Code(PatCode),
+}
+
+/// A pattern as a value, which contracts see as its code. A literal and a part that has a count take no memory of their
+/// own, and clones share code.
+pub struct Pattern {
+    form: Form,
+}
+
+impl Drop for Pattern {
+    #[inline(never)]
+    fn drop(self) {
+        let Pattern { form: _ } = self;
+    }
+}
+
+impl Model for Pattern {
+    ghost use Rattle.model.specs.Pattern.Steps.{Code};
+    ghost use Rattle.pattern_compiler.specs.Forms.{form_code};
+
+    ghost Value = { Code };
+
+    ghost view = { λ p. form_code p.form };
+}
+
+impl Counted {
+    // The part.
+    fn basic(self) -> Basic
+        ensures { basic_of result ≡ counted_of self }
+    {
+        match self {
+            Counted::Len(n) => Basic::Len(n),
+            Counted::Pos(n) => Basic::Pos(n),
+            Counted::RPos(n) => Basic::RPos(n),
+            Counted::Tab(n) => Basic::Tab(n),
+            Counted::RTab(n) => Basic::RTab(n),
+        }
+    }
+}
+
+impl Pattern {
+    /// The pattern that has this code. Takes no memory.
+    pub fn of(code: PatCode) -> Pattern
+        ensures { result ≡ code }
+    {
+        Pattern {
+            form: Form::Code(code),
+        }
+    }
+
+    /// A literal. Takes no memory.
+    pub fn lit(text: Text) -> Pattern
+        ensures code { result ≡ basic_code (pattern.Lit text) }
+        ensures stands { (xs : ℕ → Option Expr) → Stands xs (pattern.Plain (pattern.Lit text)) result }
+    {
+        if text.is_empty() {
+            return Pattern::of(PatCode::null());
+        }
+        Pattern {
+            form: Form::Lit(text),
+        }
+    }
+
+    /// A part that has a count. Takes no memory.
+    pub fn counted(part: Counted) -> Pattern
+        ensures code { result ≡ basic_code (counted_of part) }
+        ensures stands { (xs : ℕ → Option Expr) → Stands xs (pattern.Plain (counted_of part)) result }
+    {
+        Pattern {
+            form: Form::Counted(part),
+        }
+    }
+
+    /// A part without parts and without effect.
+    pub fn part(alloc: Global, part: Basic) -> Result<Pattern, AllocError>
+        ensures code { IfOk result (λ code. code ≡ basic_code (basic_of part)) }
+        ensures stands { IfOk result (λ code.
+            (xs : ℕ → Option Expr) → Stands xs (pattern.Plain (basic_of part)) code) }
+    {
+        Ok(match &part {
+            Basic::Len(n) => Pattern::counted(Counted::Len(*n)),
+            Basic::Pos(n) => Pattern::counted(Counted::Pos(*n)),
+            Basic::RPos(n) => Pattern::counted(Counted::RPos(*n)),
+            Basic::Tab(n) => Pattern::counted(Counted::Tab(*n)),
+            Basic::RTab(n) => Pattern::counted(Counted::RTab(*n)),
+            _ => Pattern::of(PatCode::prim(alloc, part)?),
+        })
+    }
+
+    /// Its code.
+    pub fn to_code(&self, alloc: Global) -> Result<PatCode, AllocError>
+        ensures { IfOk result (λ code. code ≡ self.now) }
+    {
+        match &self.form {
+            Form::Lit(text) => one(alloc, Instr::Do(Basic::Lit(text.clone()?))),
+            Form::Counted(part) => one(alloc, Instr::Do(part.basic())),
+            Form::Code(code) => code.clone(),
+        }
+    }
+
+    /// `to_code` of a pattern that isn't needed any more.
+    pub fn into_code(self, alloc: Global) -> Result<PatCode, AllocError>
+        ensures { IfOk result (λ code. code ≡ self) }
+    {
+        match self.into_instr() {
+            Ok(part) => one(alloc, part),
+            Err(code) => Ok(code),
+        }
+    }
+
+    /// For how many instructions it needs room.
+    pub(crate) fn room(&self) -> usize
+        ensures { result < 2 ^ 63 }
+    {
+        match &self.form {
+            Form::Lit(_) | Form::Counted(_) => 1,
+            Form::Code(code) => code.as_slice().len(),
+        }
+    }
+
+    /// Its only instruction, or else its code.
+    #[inline(always)]
+    pub(crate) fn into_instr(self) -> Result<Instr, PatCode>
+        ensures { MatchResult result (λ part. self ≡ instr_of part ∷ []) (λ code. self ≡ code) }
+    {
+        let Pattern { form } = self;
+        match form {
+            Form::Lit(text) => Ok(Instr::Do(Basic::Lit(text))),
+            Form::Counted(part) => Ok(Instr::Do(part.basic())),
+            Form::Code(code) => Err(code),
+        }
+    }
+
+    /// Its instructions.
+    pub(crate) fn into_list(self, alloc: Global, room: usize) -> Result<Vec<Instr>, AllocError>
+        requires { room < 2 ^ 63 }
+        ensures { IfOk result (λ instrs. code_of instrs.items ≡ self) }
+    {
+        match self.into_instr() {
+            Ok(part) => {
+                let mut instrs = Vec::with_capacity(alloc, ROOM)?;
+                instrs.push(part)?;
+                Ok(instrs)
+            }
+            Err(code) => code.into_list(alloc, room),
+        }
+    }
+}
+
+impl Clone for Pattern {
+    ghost use Rattle.std.specs.Prelude.{◌≡◌};
+
+    ghost is_clone = { λ pattern copy. copy ≡ pattern };
+
+    #[inline(never)]
+    fn clone(&self) -> Result<Pattern, AllocError> {
+        let form = match &self.form {
+            Form::Lit(text) => Form::Lit(text.clone()?),
+            Form::Counted(part) => Form::Counted(*part),
+            Form::Code(code) => Form::Code(code.clone()?),
+        };
+        Ok(Pattern { form })
+    }
+}
