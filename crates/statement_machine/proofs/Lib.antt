@@ -21,3 +21,4 @@ pub mod Printing
 pub mod Tests
 pub mod Placed
 pub mod Reckoning
+pub mod Assigning

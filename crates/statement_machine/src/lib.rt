@@ -12,6 +12,7 @@
 #![tactic(auto)]
 
 mod alone;
+mod assigned;
 mod callers;
 mod calls;
 mod elements;

@@ -321,7 +321,7 @@ impl World {
         let Value::Integer(n) = &variable.value else {
             return None;
         };
-        if variable.input.is_none() && key == name {
+        if variable.input.is_none() && *key == *name {
             Some(*n)
         } else {
             None
@@ -329,6 +329,20 @@ impl World {
     }
 
     /// Whether the variable in a slot has this name and writes to no unit.
+    #[inline(always)]
+    pub fn takes(&self, name: &Text, slot: u32) -> bool
+        ensures { result ≡ true → IsPlain (target.Variable name.now) slot self.now }
+    {
+        let Some((key, variable)) = self.variables.get_index(slot as usize) else {
+            return false;
+        };
+        match variable.output {
+            None => *key == *name,
+            Some(_) => false,
+        }
+    }
+
+    /// Whether the variable of a name stands in a slot and writes to no unit.
     #[inline(always)]
     pub fn is_plain(&self, name: &Name, slot: u32) -> bool
         ensures { result ≡ true → IsPlain (name_of name.now) slot self.now }
