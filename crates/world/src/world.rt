@@ -321,7 +321,7 @@ impl World {
         let Value::Integer(n) = &variable.value else {
             return None;
         };
-        if variable.input.is_none() && *key == *name {
+        if *key == *name && variable.input.is_none() {
             Some(*n)
         } else {
             None
