@@ -6,6 +6,7 @@ pub mod Evaluations
 pub mod Fetching
 pub mod Flowing
 pub mod Going
+pub mod Indexing
 pub mod Joining
 pub mod Keys
 pub mod Operations

@@ -6,5 +6,6 @@ pub mod Calling
 pub mod Resuming
 pub use Rattle.world.specs.Answers
 pub mod Elements
+pub mod Items
 pub mod Joined
 pub mod Sums

@@ -22,6 +22,7 @@ mod instructions;
 mod joined;
 mod joined_elements;
 mod joined_ends;
+mod joined_items;
 mod joined_tests;
 mod joined_texts;
 mod machine;

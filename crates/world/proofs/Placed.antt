@@ -1,14 +1,18 @@
--- Elements by their places.
-use Rattle.std.proofs.Common.{◌≡◌, ℕ, ℤ, List, [], ◌∷◌, Some, sym, ap, ◌∙◌}
+-- Elements by their places, and values of tables by their keys.
+use Rattle.std.proofs.Common.{◌≡◌, ℕ, ℤ, List, [], ◌∷◌, Option, None, Some, refl, sym, ap, ◌∙◌}
 use Rattle.std.specs.Prelude.{slice_get, option_map}
-use Rattle.model.specs.Deck.Target.{Element, IntegerKey}
+use Rattle.model.specs.Deck.Target.{Element, IntegerKey, StringKey}
+use Rattle.model.specs.Deck.Trees.{Bytes}
 use Rattle.model.specs.Language.Io.{Io}
 use Rattle.model.specs.Language.Conversions.{Gives}
 use Rattle.model.specs.Language.Aggregates.{element_op}
-use Rattle.model.specs.Language.Values.{Obj, Int, Object}
+use Rattle.model.specs.Language.Values.{ArrayOf, Int, Key, Obj, Object, RecordOf, Str, StringAt, TableOf}
 use Rattle.model.specs.Language.Operators.{assign_op, element_of, fetch_op, there}
 use Rattle.model.specs.Machine.Steps.{MVal}
-use Rattle.aggregates.specs.Objects.{place_in}
+use Rattle.aggregates.specs.Made.{kind_of}
+use Rattle.aggregates.specs.Objects.{place_in, value_in}
+use Rattle.aggregates.specs.declared.object.Kind.{Kind}
+use Rattle.aggregates.specs.declared.object.Kind.TheVariants as kind
 use Rattle.pattern_compiler.specs.View.{name_of}
 use Rattle.pattern_compiler.specs.declared.instr.Name.{Name}
 use Rattle.pattern_compiler.specs.declared.instr.Name.TheVariants as name
@@ -17,8 +21,8 @@ use Rattle.world.specs.Elements.{HoldsAt}
 use Rattle.world.specs.Held.{WorldView, world_of}
 use Rattle.world.specs.declared.value.Value.{Value}
 use Rattle.world.specs.declared.value.Value.TheVariants as value
-use Rattle.world.proofs.Named.{placed_item}
-use Rattle.world.proofs.Objects.{element_is}
+use Rattle.world.proofs.Named.{in_table, placed_item}
+use Rattle.world.proofs.Objects.{element_is, entry_by, entry_is}
 
 module _ (h : WorldView) (os : List (Object Value)) (same : os ≡ h.objects) (k i : ℕ) where
   -- the value of an element
@@ -54,3 +58,32 @@ integer_set n v z z' h new is same f io =
     ap (λ x. assign_op (name_of n) (value_of x) (world_of h io)) is
     ∙ ap (λ y. assign_op (name_of n) (Int y) (world_of h io)) (sym same)
     ∙ f io
+
+-- ---- values of tables
+
+table_kind : (key : Key) (v : Value) (o : Option (Object Value)) → Some v ≡ value_in key o → option_map kind_of o ≡ Some kind.Table
+table_kind key v None e = absurd (cc)
+table_kind key v (Some (ArrayOf bs es)) e = absurd (cc)
+table_kind key v (Some (TableOf es)) e = refl
+table_kind key v (Some (RecordOf t fs es)) e = absurd (cc)
+
+module _ (h : WorldView) (os : List (Object Value)) (same : os ≡ h.objects) (k : ℕ) where
+  -- the name of the value for a key
+  pub key_named : (kd : Option Kind) (s t : Bytes) → kd ≡ option_map kind_of (slice_get os k) → kd ≡ Some kind.Table → t ≡ s → (io : Io) → element_op (Obj k) (Str s ∷ []) (world_of h io) ≡ Gives (StringKey k t) (world_of h io)
+  key_named kd s t by table is io = in_table h os io k (Str s ∷ []) same kd by table ∙ ap (λ x. Gives (StringKey k x) (world_of h io)) (sym is)
+
+  -- a table has it for its key
+  pub table_holds : (v : Value) (s t : Bytes) → Some v ≡ value_in (StringAt t) (slice_get os k) → t ≡ s → HoldsAt (Obj k) (Str s) (value_of v) h
+  table_holds v s t got is =
+      let here : Some v ≡ value_in (StringAt s) (slice_get os k) = got ∙ ap (λ x. value_in (StringAt x) (slice_get os k)) is in
+      let table : option_map kind_of (slice_get os k) ≡ Some kind.Table = table_kind (StringAt s) v (slice_get os k) here in (
+        StringKey k s,
+        λ io.
+        let w = world_of h io in (
+          key_named (option_map kind_of (slice_get os k)) s s refl table refl io,
+          entry_is h io k (StringAt s)
+              ∙ ap (λ xs. there (entry_by (Str []) (option_map kind_of (slice_get xs k)) (option_map value_of (value_in (StringAt s) (slice_get xs k)))) w) (sym same)
+              ∙ ap (λ x. there (entry_by (Str []) x (option_map value_of (value_in (StringAt s) (slice_get os k)))) w) table
+              ∙ ap (λ x. there (entry_by (Str []) (Some kind.Table) (option_map value_of x)) w) (sym here),
+        ),
+      )

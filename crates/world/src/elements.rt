@@ -3,7 +3,7 @@
 ghost use Rattle.std.specs.Prelude.{◌≡◌, ◌∷◌, [], slice_get, option_map, true, false, IfSome, OnErr};
 ghost use Rattle.model.specs.Language.Io.{Io};
 ghost use Rattle.model.specs.Deck.Target.{Element};
-ghost use Rattle.model.specs.Language.Values.{Int, Str};
+ghost use Rattle.model.specs.Language.Values.{Int, Obj, Str};
 ghost use Rattle.model.specs.Language.Operators.{there, assign_op, entry_of, fetch_op, put_object};
 ghost use Rattle.model.specs.Language.Aggregates.{element_op};
 ghost use Rattle.model.specs.Language.Conversions.{Gives};
@@ -22,9 +22,47 @@ use crate::world::World;
 use aggregates::{Key, Kind, Place};
 use model::ErrorCode;
 use pattern_compiler::Name;
+use strings::Text;
 
 impl World {
-    /// The value of an array's element, by the array and the only subscript, an integer; what isn't so has none here.
+    /// The place of an array's element, by its only subscript; what isn't an array has none here.
+    #[inline(always)]
+    pub fn place_in(&self, object: usize, subscript: i64) -> Option<usize>
+        ensures { IfSome result (λ index. (io : Io)
+            → element_op (Obj object) (Int subscript ∷ []) (world_of self.now io)
+            ≡ Gives (Element object index) (world_of self.now io)) }
+    {
+        self.heap.place_of_one(object, subscript)
+    }
+
+    /// The integer that an element is, if it is one.
+    #[inline(always)]
+    pub fn integer_at(&self, object: usize, index: usize) -> Option<i64>
+        ensures { IfSome result (λ n. (io : Io)
+            → fetch_op (Element object index) (world_of self.now io) ≡ Gives (Int n) (world_of self.now io)) }
+    {
+        match self.heap.get(object, &Place::Element(index)) {
+            Some(Value::Integer(n)) => Some(*n),
+            _ => None,
+        }
+    }
+
+    // The value of a table for a key that was assigned.
+    #[inline(never)]
+    fn held_for(&self, object: usize, key: &Text) -> Option<&Value>
+        ensures { IfSome result (λ value.
+            HoldsAt (Obj object) (Str key.now) (value_of value.now) self.now) }
+    {
+        let Ok(key) = key.clone() else {
+            return None;
+        };
+        let Some(value) = self.heap.get(object, &Place::Key(Key::String(key))) else {
+            return None;
+        };
+        Some(value)
+    }
+
+    /// The value of an element, by an array and an integer or a table and a string; what isn't so has none here.
     #[inline(always)]
     pub fn held(&self, base: &Value, subscript: &Value) -> Option<&Value>
         ensures { IfSome result (λ value.
@@ -34,7 +72,10 @@ impl World {
             return None;
         };
         let Value::Integer(n) = subscript else {
-            return None;
+            let Value::String(key) = subscript else {
+                return None;
+            };
+            return self.held_for(*object, key);
         };
         let Some(index) = self.heap.place_of_one(*object, *n) else {
             return None;
@@ -45,7 +86,26 @@ impl World {
         Some(value)
     }
 
-    /// The name of an array's element, by the array and the only subscript, an integer; what isn't so has none here.
+    // The name of a table's value for a key.
+    #[inline(never)]
+    fn named_for(&self, object: usize, key: &Text) -> Option<Name>
+        ensures { IfSome result (λ name. (io : Io)
+            → element_op (Obj object) (Str key.now ∷ []) (world_of self.now io)
+            ≡ Gives (name_of name) (world_of self.now io)) }
+    {
+        let Some(Kind::Table) = self.heap.kind(object) else {
+            return None;
+        };
+        let Ok(object) = u32::try_from(object) else {
+            return None;
+        };
+        let Ok(key) = key.clone() else {
+            return None;
+        };
+        Some(Name::StringKey { object, key })
+    }
+
+    /// The name of an element, by an array and an integer or a table and a string; what isn't so has none here.
     #[inline(always)]
     pub fn named(&self, base: &Value, subscript: &Value) -> Option<Name>
         ensures { IfSome result (λ name. (io : Io)
@@ -56,7 +116,10 @@ impl World {
             return None;
         };
         let Value::Integer(n) = subscript else {
-            return None;
+            let Value::String(key) = subscript else {
+                return None;
+            };
+            return self.named_for(*object, key);
         };
         let Some(index) = self.heap.place_of_one(*object, *n) else {
             return None;
@@ -93,12 +156,11 @@ impl World {
         }
     }
 
-    // An integer at a place of an array or a record, if that was stored.
+    /// An integer at a place of an array or a record, if that was stored; else nothing changed.
     #[inline(always)]
-    fn put_integer(&mut self, object: usize, index: usize, n: i64) -> bool
+    pub fn put_integer(&mut self, object: usize, index: usize, n: i64) -> bool
         ensures set { result ≡ true → (io : Io)
-            → put_object object (stored_at (Place.Element index) (Int n)
-            (slice_get (world_of self.old io).objects object)) (world_of self.old io)
+            → assign_op (Element object index) (Int n) (world_of self.old io)
             ≡ Gives (record {}) (world_of self.new io) }
         ensures kept { result ≡ false → self.new ≡ self.old }
     {
