@@ -1,5 +1,6 @@
 pub mod Singly
 pub mod Beginning
+pub mod Called
 pub mod Calling
 pub mod Deciding
 pub mod Evaluations

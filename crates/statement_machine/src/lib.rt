@@ -20,6 +20,7 @@ mod failing;
 mod gotos;
 mod instructions;
 mod joined;
+mod joined_calls;
 mod joined_elements;
 mod joined_ends;
 mod joined_items;

@@ -3,8 +3,9 @@
 ghost use Rattle.std.specs.Prelude.{◌≡◌, ◌+◌, ◌≤◌, ◌++◌, ◌∷◌, ℕ, [], map, length, take, drop};
 ghost use Rattle.std.specs.Prelude.{true, option_map, Some, IfOk, OnOk, OnErr};
 ghost use Rattle.model.specs.Language.Io.{Io};
-ghost use Rattle.model.specs.Language.Calls.{as_name, as_value, back_to_caller, bind_arguments, enter_call, leave_op};
+ghost use Rattle.model.specs.Language.Calls.{AValue, as_name, as_value, back_to_caller, bind_arguments, enter_call, leave_op};
 ghost use Rattle.model.specs.Language.Calls as calls;
+ghost use Rattle.model.specs.Language.Conversions.{Gives};
 ghost use Rattle.model.specs.Language.Prototypes.{are_distinct};
 ghost use Rattle.model.specs.Machine.Steps.{MW, PCode};
 ghost use Rattle.model.specs.declared.run.Stop.TheVariants.{NoMemory};
@@ -98,6 +99,19 @@ fn fill(values: &mut Vec<Value>, count: usize) -> Result<(), AllocError>
     Ok(())
 }
 
+// Drops values at the end, down to so many. Each is let go in line.
+#[inline(always)]
+fn shorten(values: &mut Vec<Value>, count: usize)
+    ensures { values.new.items ≡ take count values.old.items }
+{
+    while values.len() > count {
+        match values.pop() {
+            Some(_value) => {}
+            None => unreachable!(),
+        }
+    }
+}
+
 // Puts at the end what a call gives to the variables of its function: null to its name, to each argument its value,
 // which is moved, and null to a missing one and to locals.
 fn put_values(
@@ -150,6 +164,7 @@ impl World {
 
     /// Begins a call: puts the values that it changes at the end of `saved`, and gives each argument its value, which
     /// is moved. Reads no unit. Without memory the keywords stay as they were.
+    #[inline(always)]
     pub fn enter_call(
         &mut self,
         prototype: FunctionPrototype,
@@ -216,7 +231,7 @@ impl World {
         let base = saved.len() - count;
         self.exchange_all(&names[..count], slots, base, saved)?;
         self.put_back(kind, kept.statement, kept.level);
-        saved.truncate(base + 1);
+        shorten(saved, base + 1);
         match saved.pop() {
             Some(had) => Ok(had),
             None => unreachable!(),
@@ -267,6 +282,23 @@ impl World {
             ReturnKind::FReturn => Ok(None),
             ReturnKind::NReturn => unreachable!(),
         }
+    }
+
+    /// Ends a call by RETURN, where a value is wanted, as `leave` does: tells what it gives.
+    #[inline(always)]
+    pub fn leave_with_value(
+        &mut self,
+        kept: &Kept,
+        saved: &mut Vec<Value>,
+    ) -> Result<Value, AllocError>
+        ensures values { OnOk result
+            (saved.new.items ≡ saved_below (names_of kept.now.prototype) saved.old.items) }
+        ensures left { IfOk result (λ value. (io : Io)
+            → leave_op ReturnKind.Return (kept_with kept.now saved.old.items) (world_of self.old io)
+            ≡ Gives (AValue (value_of value)) (world_of self.new io)) }
+    {
+        let value = self.back(ReturnKind::Return, kept, saved)?;
+        Ok(value)
     }
 
     /// The value of what a call gave, where a value is wanted. That of a name is fetched.

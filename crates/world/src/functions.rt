@@ -75,7 +75,7 @@ impl Model for FunctionTable {
 }
 
 // The function of a name, which stands in this place or else where the look-up finds it.
-#[inline]
+#[inline(always)]
 fn find<'a>(
     functions: &'a IndexMap<Text, Function>,
     place: u32,
@@ -84,7 +84,7 @@ fn find<'a>(
     ensures { option_copied result ≡ function_at name.now functions.now.entries }
 {
     if let Some((key, function)) = functions.get_index(place as usize) {
-        if key == name {
+        if *key == *name {
             return Some(function);
         }
     }
@@ -103,6 +103,7 @@ impl FunctionTable {
     }
 
     // The function of a name, whose variable may stand in a slot.
+    #[inline(always)]
     fn get(&self, name: &Text, slot: u32) -> Option<&Function>
         ensures function { option_copied result ≡ function_at name.now self.now }
         ensures named { IfSome result (λ f. IsNamed name.now f.now) }
@@ -175,6 +176,17 @@ impl World {
             Some(function) => Ok(Some(function.clone()?)),
             None => Ok(None),
         }
+    }
+
+    /// The function of a name where it is held, if it has one that isn't primitive. The variable of the name may stand in
+    /// the slot.
+    #[inline(always)]
+    pub fn held_function(&self, name: &Text, slot: u32) -> Option<&Function>
+        ensures function { (io : Io)
+            → option_map function_of (option_copied result) ≡ (world_of self.now io).plain.functions name.now }
+        ensures named { IfSome result (λ f. IsNamed name.now f.now) }
+    {
+        self.functions.get(name, slot)
     }
 
     /// Gives a name another function.

@@ -90,6 +90,9 @@ impl Variable {
             mem::swap(had, n);
             return;
         }
+        if self.value.is_null() && value.is_null() {
+            return;
+        }
         mem::swap(&mut self.value, value);
     }
 

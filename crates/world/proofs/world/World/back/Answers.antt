@@ -47,8 +47,8 @@ returns-clause-had c =
     let count = c.min-count.result in
     let base = c.len-2.result - count in
     let some : 0 < count = omega (arith, c.if-count-eq0.false) in
-    (taken_back f saved.items c.exchange_all.new.values.items c.truncate.new.self.items c.pop.new.self.items count base c.in-Some.had c.args.self.now
+    (taken_back f saved.items c.exchange_all.new.values.items c.shorten.new.values.items c.pop.new.self.items count base c.in-Some.had c.args.self.now
     (c.min-count.ensures ∙ ap (min (length names)) (c.len.ensures ∙ saved.ok.0) ∙ ap (λ xs. min (length xs) (length saved.items)) c.names-names.ensures.names)
     (ap (λ n. n - count) (c.len-2.ensures ∙ saved.ok.0)) some
     (subst (λ xs. AreSaved (take count xs) (take base saved.items) c.exchange_all.new.values.items c.args.self.now) c.names-names.ensures.names c.in_ok-exchange_all.ensures.had)
-    c.truncate.ensures.items c.in-Some.ensures.items).1
+    c.shorten.ensures c.in-Some.ensures.items).1
