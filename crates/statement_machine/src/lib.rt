@@ -15,6 +15,7 @@ mod alone;
 mod callers;
 mod calls;
 mod elements;
+mod evaluating;
 mod failing;
 mod gotos;
 mod instructions;
