@@ -11,6 +11,7 @@
 #![tactic(auto)]
 
 mod act;
+mod answers;
 mod arbs;
 mod choice;
 mod ends;

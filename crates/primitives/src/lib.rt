@@ -26,5 +26,5 @@ mod units;
 
 pub use call::call_prim;
 pub use outcome::Outcome;
-pub use patterns::counted;
+pub use patterns::call_one;
 pub use predicates::{holds, integers_hold, is_test};

@@ -1,3 +1,4 @@
+pub mod Seeking
 pub mod Singly
 pub mod Beginning
 pub mod Called

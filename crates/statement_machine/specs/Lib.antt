@@ -1,3 +1,4 @@
+pub mod Evaluating
 pub mod Runnable
 pub mod Held
 pub mod Runs

@@ -16,6 +16,7 @@ mod assigned;
 mod callers;
 mod calls;
 mod elements;
+mod evaluating;
 mod failing;
 mod gotos;
 mod instructions;
