@@ -116,6 +116,7 @@ fn operated(
 }
 
 /// The same of any other rule.
+#[inline(always)]
 fn advanced(walk: &mut Walk, at: u32, rule: Rule, shape: Shape) -> Result<bool, AllocError>
     requires { (s : flow.Shape) × IsShape walk.old.pool.nodes.keys shape s
         × (length s.kinds < 2 ^ 31) }

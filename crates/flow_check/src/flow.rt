@@ -108,6 +108,7 @@ fn is_one_value(pool: &Pool, shape: Shape) -> bool
     }
 }
 
+#[inline(never)]
 fn jump(pool: &Pool, shape: Shape) -> Option<Led>
     ensures { (s : flow.Shape) → IsShape pool.now.nodes.keys shape s
         → Advances pool.now.nodes.keys result rules.Jump s }
@@ -118,6 +119,7 @@ fn jump(pool: &Pool, shape: Shape) -> Option<Led>
     }
 }
 
+#[inline(never)]
 fn answer(pool: &Pool, shape: Shape) -> Option<Led>
     ensures { (s : flow.Shape) → IsShape pool.now.nodes.keys shape s
         → Advances pool.now.nodes.keys result rules.Answer s }
@@ -136,6 +138,7 @@ fn is_kept(pool: &Pool, shape: Shape) -> bool
     pool.floor(shape.handlers) <= shape.depth
 }
 
+#[inline(never)]
 fn enter_try(pool: &mut Pool, target: u32, shape: Shape) -> Result<Option<Led>, AllocError>
     ensures grows { OnOk result (Grows pool.old.nodes.keys pool.new.nodes.keys) }
     ensures advanced { IfOk result (λ led.
@@ -153,6 +156,7 @@ fn enter_try(pool: &mut Pool, target: u32, shape: Shape) -> Result<Option<Led>, 
     }))
 }
 
+#[inline(never)]
 fn leave_try(pool: &Pool, shape: Shape) -> Option<Led>
     ensures { (s : flow.Shape) → IsShape pool.now.nodes.keys shape s
         → Advances pool.now.nodes.keys result rules.Untry s }
@@ -247,6 +251,7 @@ fn led_by(next: Option<Shape>) -> Option<Led>
 }
 
 /// Whether what the rule asks is there, and where it leads.
+#[inline(always)]
 pub(crate) fn advance(pool: &mut Pool, rule: Rule, shape: Shape) -> Result<Option<Led>, AllocError>
     requires { (s : flow.Shape) × IsShape pool.old.nodes.keys shape s × (length s.kinds < 2 ^ 31) }
     ensures grows { OnOk result (Grows pool.old.nodes.keys pool.new.nodes.keys) }
