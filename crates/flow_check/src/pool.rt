@@ -75,13 +75,15 @@ fn numbered(index: usize) -> Result<Stack, AllocError>
 }
 
 impl Pool {
-    pub(crate) fn new(alloc: Global) -> Pool
-        ensures { result.nodes.keys ≡ [] }
+    /// No stacks, with room for so many.
+    pub(crate) fn new(alloc: Global, room: usize) -> Result<Pool, AllocError>
+        ensures { IfOk result (λ pool. pool.nodes.keys ≡ []) }
     {
-        Pool {
-            nodes: IndexSet::new(alloc),
+        let nodes = IndexSet::with_capacity(alloc, room)?;
+        Ok(Pool {
+            nodes,
             recent: [EMPTY; RECENT],
-        }
+        })
     }
 
     /// The number of the stack with one more on it.
