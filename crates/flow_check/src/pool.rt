@@ -116,6 +116,7 @@ impl Pool {
     }
 
     /// Whether a stack is a run on this one.
+    #[inline(always)]
     fn is_run(&self, stack: Stack, kind: Kind, count: u32, below: Stack) -> bool
         ensures { result ≡ true
             → node_at self.now.nodes.keys stack ≡ Some (node (Run kind count) below) }
@@ -132,6 +133,7 @@ impl Pool {
     }
 
     /// The top of a stack.
+    #[inline(always)]
     pub(crate) fn top(&self, stack: Stack) -> Option<Node>
         ensures { result ≡ node_at self.now.nodes.keys stack }
     {
