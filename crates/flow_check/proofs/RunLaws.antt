@@ -192,7 +192,7 @@ popped_kinds k (suc n) (j ∷ ks) =
           (λ below e. ne.1 (let z : k ≡ j = cc in z))
     ]
 
-taken_by : (ns : List Node) (r : Option (Option ℕ)) (p : Option (List Top)) (n : ℕ) (k : flow.OperandKind) (ks : List flow.OperandKind)
+taken_by : (ns : List Node) (r : Option ℕ) (p : Option (List Top)) (n : ℕ) (k : flow.OperandKind) (ks : List flow.OperandKind)
     → AreBoth ns r p → PoppedIs p n k ks → IsTaken ns r (replicate n k) ks
 taken_by ns None None n k ks a h = h
 taken_by ns None (Some ts) n k ks a h = absurd a
@@ -200,7 +200,7 @@ taken_by ns (Some i) None n k ks a h = absurd a
 taken_by ns (Some i) (Some ts) n k ks a h = (h.0, h.1, subst (λ l. Is ns i l) h.2 a)
 
 -- a pop takes as many of the kind
-pub pop_takes : (ns : List Node) (r : Option (Option ℕ)) (n : ℕ) (k : flow.OperandKind) (ks : List flow.OperandKind) → AreBoth ns r (popped (to_kind k) n (runs ks)) → IsTaken ns r (replicate n k) ks
+pub pop_takes : (ns : List Node) (r : Option ℕ) (n : ℕ) (k : flow.OperandKind) (ks : List flow.OperandKind) → AreBoth ns r (popped (to_kind k) n (runs ks)) → IsTaken ns r (replicate n k) ks
 pop_takes ns r n k ks a = taken_by ns r (popped (to_kind k) n (runs ks)) n k ks a (popped_kinds k n ks)
 
 pub kind_there : (k : Kind) → to_kind (kind_of k) ≡ k
@@ -208,7 +208,7 @@ kind_there Value = refl
 kind_there Name = refl
 kind_there Span = refl
 
-pub run_takes : (ns : List Node) (r : Option (Option ℕ)) (n : ℕ) (k : Kind) (ks : List flow.OperandKind) → AreBoth ns r (popped k n (runs ks)) → IsTaken ns r (replicate n (kind_of k)) ks
+pub run_takes : (ns : List Node) (r : Option ℕ) (n : ℕ) (k : Kind) (ks : List flow.OperandKind) → AreBoth ns r (popped k n (runs ks)) → IsTaken ns r (replicate n (kind_of k)) ks
 run_takes ns r n k ks a = pop_takes ns r n (kind_of k) ks (subst (λ j. AreBoth ns r (popped j n (runs ks))) (sym (kind_there k)) a)
 
 pub cancel : (ts a b : List flow.OperandKind) → ts ++ a ≡ ts ++ b → a ≡ b
@@ -216,12 +216,12 @@ cancel [] a b e = e
 cancel (t ∷ ts) a b e = cancel ts a b (let z : ts ++ a ≡ ts ++ b = cc in z)
 
 -- what is taken after more was
-pub then_taken : (ns : List Node) (r : Option (Option ℕ)) (ts us ks below : List flow.OperandKind) → ks ≡ ts ++ below → IsTaken ns r us below → IsTaken ns r (ts ++ us) ks
+pub then_taken : (ns : List Node) (r : Option ℕ) (ts us ks below : List flow.OperandKind) → ks ≡ ts ++ below → IsTaken ns r us below → IsTaken ns r (ts ++ us) ks
 then_taken ns None ts us ks below e h = λ b f. h b (cancel ts below (us ++ b) (sym e ∙ f ∙ append_assoc ts us b))
 then_taken ns (Some k) ts us ks below e h = (h.0, e ∙ ap (λ l. ts ++ l) h.1 ∙ sym (append_assoc ts us h.0), h.2)
 
 -- one more operand
-pub pushed : (ns more : List Node) → Grows ns more → (k : Kind) (n : ℕ) (below i : Option ℕ) (ks : List flow.OperandKind)
+pub pushed : (ns more : List Node) → Grows ns more → (k : Kind) (n : ℕ) (below i : ℕ) (ks : List flow.OperandKind)
     → n ≡ run_length k (runs ks) → Is ns below (below_run k (runs ks)) → node_at more i ≡ Some (node (Run k (n + 1)) below)
     → Is more i (runs (kind_of k ∷ ks))
 pushed ns more g k n below i ks e h at =
@@ -232,23 +232,23 @@ pub count_fits : (k : Kind) (n : ℕ) (ks : List flow.OperandKind) → n ≡ run
 count_fits k n ks e h = let w = run_within k ks in omega (arith, e, w, h)
 
 -- the same of what a call gave
-pub then_some : (a b : List Node) (r r' : Option (Option ℕ)) (rest : Option ℕ) (ts us ks : List flow.OperandKind)
+pub then_some : (a b : List Node) (r r' : Option ℕ) (rest : ℕ) (ts us ks : List flow.OperandKind)
     → r ≡ Some rest → IsTaken a r ts ks → ((below : List flow.OperandKind) → Is a rest (runs below) → IsTaken b r' us below) → IsTaken b r' (ts ++ us) ks
 then_some a b r r' rest ts us ks e h next =
     let g : IsTaken a (Some rest) ts ks = subst (λ x. IsTaken a x ts ks) e h in
     then_taken b r' ts us ks g.0 g.1 (next g.0 g.2)
 
-pub then_none : (a b : List Node) (r : Option (Option ℕ)) (ts us ks : List flow.OperandKind) → r ≡ None → IsTaken a r ts ks → IsTaken b None (ts ++ us) ks
+pub then_none : (a b : List Node) (r : Option ℕ) (ts us ks : List flow.OperandKind) → r ≡ None → IsTaken a r ts ks → IsTaken b None (ts ++ us) ks
 then_none a b r ts us ks e h =
     let g : IsTaken a None ts ks = subst (λ x. IsTaken a x ts ks) e h in
     λ below f. g (us ++ below) (f ∙ append_assoc ts us below)
 
-pub none_empty : (ns : List Node) (i : Option ℕ) (ts : List Top) → i ≡ None → Is ns i ts → ts ≡ []
+pub none_empty : (ns : List Node) (i : ℕ) (ts : List Top) → i ≡ 0 → Is ns i ts → ts ≡ []
 none_empty ns i [] e h = refl
-none_empty ns i (t ∷ ts) e h = let f : node_at ns None ≡ Some (node t h.0) = subst (λ j. node_at ns j ≡ Some (node t h.0)) e h.1 in absurd (cc)
+none_empty ns i (t ∷ ts) e h = let f : node_at ns 0 ≡ Some (node t h.0) = subst (λ j. node_at ns j ≡ Some (node t h.0)) e h.1 in absurd (cc)
 
-module _ (ns : List Node) (n : ℕ) (below : Option ℕ) (ks : List flow.OperandKind) (long : n ≡ run_length Value (runs ks)) (rest : Is ns below (below_run Value (runs ks))) where
-  pub one_value : n ≡ 1 → below ≡ None → ks ≡ V ∷ []
+module _ (ns : List Node) (n : ℕ) (below : ℕ) (ks : List flow.OperandKind) (long : n ≡ run_length Value (runs ks)) (rest : Is ns below (below_run Value (runs ks))) where
+  pub one_value : n ≡ 1 → below ≡ 0 → ks ≡ V ∷ []
   one_value e b =
       let z = none_empty ns below (below_run Value (runs ks)) b rest in
       elim (split Value (runs ks) (positive_runs ks)) [
@@ -259,11 +259,8 @@ module _ (ns : List Node) (n : ℕ) (below : Option ℕ) (ks : List flow.Operand
   pub value_once : ks ≡ V ∷ [] → n ≡ 1
   value_once e = long ∙ ap (λ l. run_length Value (runs l)) e
 
-  pub value_alone : ks ≡ V ∷ [] → below ≡ None
+  pub value_alone : ks ≡ V ∷ [] → below ≡ 0
   value_alone e = subst (λ l. Is ns below (below_run Value (runs l))) e rest
 
-pub none_from : (o : Option ℕ) (b : Bool) → is_some o ≡ not b → Decides b (o ≡ None)
-none_from None true e = (λ t. refl, λ t. refl)
-none_from None false e = absurd (cc)
-none_from (Some x) true e = absurd (cc)
-none_from (Some x) false e = (λ t. absurd (cc), λ t. absurd (cc))
+pub zero_test : (n : ℕ) → Decides (n == 0) (n ≡ 0)
+zero_test n = (λ t. grind (arith, nat_tests, t), λ z. grind (arith, nat_tests, z))

@@ -1,5 +1,6 @@
 -- Equal numbers exactly for equal shapes.
-use Rattle.std.proofs.Common.{◌≡◌, ℕ, List, [], ◌∷◌, map, refl, sym, ap, ◌∙◌, subst, arith, Option, Some, None, Bool, true, ◌&&◌}
+use Rattle.std.proofs.Common.{◌≡◌, ℕ, List, [], ◌∷◌, map, refl, sym, ap, ◌∙◌, subst, arith, Bool, true, ◌&&◌}
+use Rattle.std.specs.Prelude.{◌==◌}
 use Rattle.std.specs.Bool.{Decides}
 use Rattle.std.proofs.lemmas.Bool.Decides.{nat_tests}
 use Rattle.std.proofs.lemmas.Bool.{and_parts}
@@ -10,7 +11,7 @@ use Rattle.flow_check.specs.declared.shapes.Mode.{Mode}
 use Rattle.flow_check.specs.declared.shapes.Mode.TheVariants.{Body, Goto, Evaluation}
 use Rattle.flow_check.specs.declared.shapes.Shape.{Shape}
 use Rattle.flow_check.specs.Numbers.{Is, Distinct, Grows}
-use Rattle.flow_check.specs.Shapes.{IsShape, mode_of, top_of, runs, same_mode, same_stack, same_shape, empty_shape}
+use Rattle.flow_check.specs.Shapes.{IsShape, mode_of, top_of, runs, same_mode, same_shape, empty_shape}
 use Rattle.flow_check.proofs.Stacks.{one_stack, one_number, grown}
 use Rattle.flow_check.proofs.RunLaws.{runs_one}
 
@@ -36,18 +37,11 @@ mode_back Evaluation Body e = absurd (cc)
 mode_back Evaluation Goto e = absurd (cc)
 mode_back Evaluation Evaluation e = refl
 
-stack_same : (i j : Option ℕ) → same_stack i j ≡ true → i ≡ j
-stack_same None None e = refl
-stack_same None (Some j) e = absurd (cc)
-stack_same (Some i) None e = absurd (cc)
-stack_same (Some i) (Some j) e = let h : i ≡ j = grind (arith, nat_tests) in ap Some h
+stack_same : (i j : ℕ) → (i == j) ≡ true → i ≡ j
+stack_same i j e = grind (arith, nat_tests)
 
-stack_itself : (i : Option ℕ) → same_stack i i ≡ true
-stack_itself None = refl
-stack_itself (Some i) = grind (arith, nat_tests)
-
-stack_back : (i j : Option ℕ) → i ≡ j → same_stack i j ≡ true
-stack_back i j e = subst (λ x. same_stack i x ≡ true) e (stack_itself i)
+stack_back : (i j : ℕ) → i ≡ j → (i == j) ≡ true
+stack_back i j e = grind (arith, nat_tests)
 
 top_one : (h g : Handler) → top_of h ≡ top_of g → h ≡ g
 top_one (OnBegin t) (OnBegin u) e = cc
@@ -69,8 +63,8 @@ shapes m n ks js hs gs e f g = ap (λ x. flow.shape x ks hs) e ∙ ap (λ x. flo
 
 pub same_true : (ns : List Node) (a b : Shape) (s t : flow.Shape) → IsShape ns a s → IsShape ns b t → same_shape a b ≡ true → s ≡ t
 same_true ns a b s t h g e =
-    let p = and_parts (same_mode a.mode b.mode) (same_stack a.kinds b.kinds && same_stack a.handlers b.handlers) e in
-    let q = and_parts (same_stack a.kinds b.kinds) (same_stack a.handlers b.handlers) p.1 in
+    let p = and_parts (same_mode a.mode b.mode) ((a.kinds == b.kinds) && (a.handlers == b.handlers)) e in
+    let q = and_parts (a.kinds == b.kinds) (a.handlers == b.handlers) p.1 in
     let k : Is ns b.kinds (runs s.kinds) = subst (λ i. Is ns i (runs s.kinds)) (stack_same a.kinds b.kinds q.0) h.kinds in
     let l : Is ns b.handlers (map top_of s.handlers) = subst (λ i. Is ns i (map top_of s.handlers)) (stack_same a.handlers b.handlers q.1) h.handlers in
     shapes s.mode t.mode s.kinds t.kinds s.handlers t.handlers
@@ -83,7 +77,7 @@ all_true a b c e f g = rw (e, f, g) refl
 
 pub same_back : (ns : List Node) → Distinct ns → (a b : Shape) (s t : flow.Shape) → IsShape ns a s → IsShape ns b t → s ≡ t → same_shape a b ≡ true
 same_back ns d a b s t h g e =
-    all_true (same_mode a.mode b.mode) (same_stack a.kinds b.kinds) (same_stack a.handlers b.handlers)
+    all_true (same_mode a.mode b.mode) (a.kinds == b.kinds) (a.handlers == b.handlers)
     (mode_back a.mode b.mode (h.mode ∙ ap (λ (x : flow.Shape). x.mode) e ∙ sym g.mode))
     (stack_back a.kinds b.kinds (one_number ns d a.kinds b.kinds (runs t.kinds) (subst (λ (x : flow.Shape). Is ns a.kinds (runs x.kinds)) e h.kinds) g.kinds))
     (stack_back a.handlers b.handlers (one_number ns d a.handlers b.handlers (map top_of t.handlers) (subst (λ (x : flow.Shape). Is ns a.handlers (map top_of x.handlers)) e h.handlers) g.handlers))
@@ -103,8 +97,8 @@ pub bare_test : (ns : List Node) (a b : Shape) (s : flow.Shape) (r : Bool) → r
 bare_test ns a b s r e f h =
     let g : r ≡ same_shape a (empty_shape Goto) = e ∙ ap (same_shape a) f in (
       λ t. same_true ns a (empty_shape Goto) s flow.bare h (empty_is ns Goto) (sym g ∙ t),
-      λ x. g ∙ all_true (same_mode a.mode Goto) (same_stack a.kinds None) (same_stack a.handlers None)
+      λ x. g ∙ all_true (same_mode a.mode Goto) (a.kinds == 0) (a.handlers == 0)
           (mode_back a.mode Goto (h.mode ∙ ap (λ (y : flow.Shape). y.mode) x))
-          (stack_back a.kinds None (subst (λ (y : flow.Shape). Is ns a.kinds (runs y.kinds)) x h.kinds))
-          (stack_back a.handlers None (subst (λ (y : flow.Shape). Is ns a.handlers (map top_of y.handlers)) x h.handlers)),
+          (stack_back a.kinds 0 (subst (λ (y : flow.Shape). Is ns a.kinds (runs y.kinds)) x h.kinds))
+          (stack_back a.handlers 0 (subst (λ (y : flow.Shape). Is ns a.handlers (map top_of y.handlers)) x h.handlers)),
     )

@@ -14,11 +14,11 @@ get_more [] ys k x e = absurd (cc)
 get_more (y ∷ xs) ys zero x e = e
 get_more (y ∷ xs) ys (suc k) x e = get_more xs ys k x e
 
-pub node_grown : (ns more : List Node) → Grows ns more → (k : Option ℕ) (n : Node) → node_at ns k ≡ Some n → node_at more k ≡ Some n
-node_grown ns more g None n e = absurd (cc)
-node_grown ns more g (Some k) n e = subst (λ l. slice_get l k ≡ Some n) (sym g.longer) (get_more ns g.late k n e)
+pub node_grown : (ns more : List Node) → Grows ns more → (k : ℕ) (n : Node) → node_at ns k ≡ Some n → node_at more k ≡ Some n
+node_grown ns more g zero n e = absurd (cc)
+node_grown ns more g (suc k) n e = subst (λ l. slice_get l k ≡ Some n) (sym g.longer) (get_more ns g.late k n e)
 
-pub grown : (ns more : List Node) → Grows ns more → (k : Option ℕ) (ts : List Top) → Is ns k ts → Is more k ts
+pub grown : (ns more : List Node) → Grows ns more → (k : ℕ) (ts : List Top) → Is ns k ts → Is more k ts
 grown ns more g k [] h = h
 grown ns more g k (t ∷ ts) h = (h.0, node_grown ns more g k (node t h.0) h.1, grown ns more g h.0 ts h.2)
 
@@ -54,10 +54,10 @@ put_grows eq itself ns more n e d = elim (list_any (eq n) ns) as (λ b. more ≡
 ] e
 
 -- a number is of one stack
-pub one_stack : (ns : List Node) (k : Option ℕ) (ts us : List Top) → Is ns k ts → Is ns k us → ts ≡ us
+pub one_stack : (ns : List Node) (k : ℕ) (ts us : List Top) → Is ns k ts → Is ns k us → ts ≡ us
 one_stack ns k [] [] h g = refl
-one_stack ns k [] (u ∷ us) h g = let P : Option ℕ → Type 0 = λ z. node_at ns z ≡ Some (node u g.0) in let e = subst P h g.1 in absurd (cc)
-one_stack ns k (t ∷ ts) [] h g = let P : Option ℕ → Type 0 = λ z. node_at ns z ≡ Some (node t h.0) in let e = subst P g h.1 in absurd (cc)
+one_stack ns k [] (u ∷ us) h g = let P : ℕ → Type 0 = λ z. node_at ns z ≡ Some (node u g.0) in let e = subst P h g.1 in absurd (cc)
+one_stack ns k (t ∷ ts) [] h g = let P : ℕ → Type 0 = λ z. node_at ns z ≡ Some (node t h.0) in let e = subst P g h.1 in absurd (cc)
 one_stack ns k (t ∷ ts) (u ∷ us) h g =
     let e : Some (node t h.0) ≡ Some (node u g.0) = sym h.1 ∙ g.1 in
     let n : node t h.0 ≡ node u g.0 = cc in
@@ -75,13 +75,13 @@ pop_part k n there ts e z l d =
     rw z (rw l' (rw d' (ap (λ m. Some (Run k (m - n) ∷ below_run k ts)) (sym e))))
 
 -- and where no node stands twice, a stack has one number
-pub one_number : (ns : List Node) → Distinct ns → (i j : Option ℕ) (ts : List Top) → Is ns i ts → Is ns j ts → i ≡ j
+pub one_number : (ns : List Node) → Distinct ns → (i j : ℕ) (ts : List Top) → Is ns i ts → Is ns j ts → i ≡ j
 one_number ns d i j [] h g = h ∙ sym g
 one_number ns d i j (t ∷ ts) h g =
     let b : h.0 ≡ g.0 = one_number ns d h.0 g.0 ts h.2 g.2 in
     one_node ns d i j (node t g.0) (subst (λ z. node_at ns i ≡ Some (node t z)) b h.1) g.1
   where
-    one_node : (ns : List Node) → Distinct ns → (i j : Option ℕ) (n : Node) → node_at ns i ≡ Some n → node_at ns j ≡ Some n → i ≡ j
-    one_node ns d None j n e f = absurd (cc)
-    one_node ns d (Some i) None n e f = absurd (cc)
-    one_node ns d (Some i) (Some j) n e f = ap Some (d i j n e f)
+    one_node : (ns : List Node) → Distinct ns → (i j : ℕ) (n : Node) → node_at ns i ≡ Some n → node_at ns j ≡ Some n → i ≡ j
+    one_node ns d zero j n e f = absurd (cc)
+    one_node ns d (suc i) zero n e f = absurd (cc)
+    one_node ns d (suc i) (suc j) n e f = ap suc (d i j n e f)

@@ -18,11 +18,11 @@ use Rattle.flow_check.proofs.Stacks.{one_stack}
 use Rattle.flow_check.proofs.RunLaws.{runs_one, none_empty, cancel}
 use Rattle.flow_check.proofs.SameShapes.{shapes, tops_one}
 
-module _ (ns : List Node) (i : Option ℕ) (n : Node) (at : node_at ns i ≡ Some n) (hs : List Handler) (h : Is ns i (map top_of hs)) where
-  pub one_begin : (t : ℕ) → n.top ≡ Begin t → n.below ≡ None → hs ≡ OnBegin t ∷ []
+module _ (ns : List Node) (i : ℕ) (n : Node) (at : node_at ns i ≡ Some n) (hs : List Handler) (h : Is ns i (map top_of hs)) where
+  pub one_begin : (t : ℕ) → n.top ≡ Begin t → n.below ≡ 0 → hs ≡ OnBegin t ∷ []
   one_begin t e b = tops_one hs (OnBegin t ∷ []) (one_stack ns i (map top_of hs) (Begin t ∷ []) h (n.below, at ∙ ap (λ x. Some (node x n.below)) e, b))
 
-  pub begin_alone : (t : ℕ) → hs ≡ OnBegin t ∷ [] → n.below ≡ None
+  pub begin_alone : (t : ℕ) → hs ≡ OnBegin t ∷ [] → n.below ≡ 0
   begin_alone t e =
       let g : Is ns i (Begin t ∷ []) = subst (λ l. Is ns i (map top_of l)) e h in
       let f : Some n ≡ Some (node (Begin t) g.0) = sym at ∙ g.1 in
@@ -34,16 +34,16 @@ length_both [] bs = omega arith
 length_both (t ∷ ts) bs = let r = length_both ts bs in omega (arith, r)
 
 module _ (ns : List Node) (a : Shape) (s : flow.Shape) (h : IsShape ns a s) where
-  no_kinds : a.kinds ≡ None → s.kinds ≡ []
+  no_kinds : a.kinds ≡ 0 → s.kinds ≡ []
   no_kinds e = runs_one s.kinds [] (none_empty ns a.kinds (runs s.kinds) e h.kinds)
 
-  no_handlers : a.handlers ≡ None → s.handlers ≡ []
+  no_handlers : a.handlers ≡ 0 → s.handlers ≡ []
   no_handlers e = tops_one s.handlers [] (none_empty ns a.handlers (map top_of s.handlers) e h.handlers)
 
-  pub in_body : (t : ℕ) → a.mode ≡ Body → a.kinds ≡ None → s.handlers ≡ OnBegin t ∷ [] → s ≡ flow.shape flow.InBody [] (OnBegin t ∷ [])
+  pub in_body : (t : ℕ) → a.mode ≡ Body → a.kinds ≡ 0 → s.handlers ≡ OnBegin t ∷ [] → s ≡ flow.shape flow.InBody [] (OnBegin t ∷ [])
   in_body t m k e = shapes s.mode flow.InBody s.kinds [] s.handlers (OnBegin t ∷ []) (sym h.mode ∙ ap mode_of m) (no_kinds k) e
 
-  pub with_value : a.handlers ≡ None → s.kinds ≡ flow.V ∷ [] → s ≡ flow.shape s.mode (flow.V ∷ []) []
+  pub with_value : a.handlers ≡ 0 → s.kinds ≡ flow.V ∷ [] → s ≡ flow.shape s.mode (flow.V ∷ []) []
   with_value e k = shapes s.mode s.mode s.kinds (flow.V ∷ []) s.handlers [] refl k (no_handlers e)
 
   pub fewer_fit : (ts bs : List flow.OperandKind) → s.kinds ≡ ts ++ bs → length ts ≤ a.depth
@@ -67,7 +67,7 @@ not_above s ts bs e l (below, f, g) =
 taken_put : (m : flow.Mode) (s : flow.Shape) (ts us bs : List flow.OperandKind) → m ≡ s.mode → s.kinds ≡ ts ++ bs → flow.shape m (us ++ bs) s.handlers ≡ flow.shape s.mode (us ++ drop (length ts) s.kinds) s.handlers
 taken_put m s ts us bs e f = shapes m s.mode (us ++ bs) (us ++ drop (length ts) s.kinds) s.handlers s.handlers e (ap (λ l. us ++ l) (sym (ap (drop (length ts)) f ∙ drop_all ts bs))) refl
 
-pub taken_at : (ns : List Node) (r : Option (Option ℕ)) (k : Option ℕ) (ts ks : List flow.OperandKind) → r ≡ Some k → IsTaken ns r ts ks → IsTaken ns (Some k) ts ks
+pub taken_at : (ns : List Node) (r : Option ℕ) (k : ℕ) (ts ks : List flow.OperandKind) → r ≡ Some k → IsTaken ns r ts ks → IsTaken ns (Some k) ts ks
 taken_at ns r k ts ks e h = subst (λ x. IsTaken ns x ts ks) e h
 
 -- an operation is what it takes and what it leaves

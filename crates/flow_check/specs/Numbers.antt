@@ -1,5 +1,5 @@
 -- Stacks by their numbers.
-use Rattle.std.specs.Prelude.{◌≡◌, ℕ, List, [], ◌∷◌, ◌++◌, Option, Some, None, Bool, true, false, ◌==◌, ◌+◌, ◌-◌, nat_lt, if◌then◌else◌, slice_get}
+use Rattle.std.specs.Prelude.{◌≡◌, ℕ, zero, suc, List, [], ◌∷◌, ◌++◌, Option, Some, None, Bool, true, false, ◌==◌, ◌+◌, ◌-◌, nat_lt, if◌then◌else◌, slice_get}
 use Rattle.flow_check.specs.declared.pool.Kind.{Kind}
 use Rattle.flow_check.specs.declared.pool.Kind.TheVariants.{Value, Name, Span}
 use Rattle.flow_check.specs.declared.pool.Top.TheVariants.{Run}
@@ -7,17 +7,17 @@ use Rattle.flow_check.specs.declared.pool.Top.{Top}
 use Rattle.flow_check.specs.declared.pool.Node.{Node}
 
 -- the node of a number
-abbrev pub node_at : List Node → Option ℕ → Option Node
-node_at ns None = None
-node_at ns (Some k) = slice_get ns k
+abbrev pub node_at : List Node → ℕ → Option Node
+node_at ns zero = None
+node_at ns (suc k) = slice_get ns k
 
-abbrev pub node : Top → Option ℕ → Node
+abbrev pub node : Top → ℕ → Node
 node t b = record { top = t; below = b }
 
 -- this is the number of the stack
-abbrev pub Is : List Node → Option ℕ → List Top → Type 0
-Is ns k [] = k ≡ None
-Is ns k (t ∷ ts) = (below : Option ℕ) × (node_at ns k ≡ Some (node t below)) × Is ns below ts
+abbrev pub Is : List Node → ℕ → List Top → Type 0
+Is ns k [] = k ≡ 0
+Is ns k (t ∷ ts) = (below : ℕ) × (node_at ns k ≡ Some (node t below)) × Is ns below ts
 
 -- no node stands twice
 abbrev pub Distinct : List Node → Type 0
@@ -30,7 +30,7 @@ pub record Grows (ns more : List Node) : Type 0 where
   pub distinct : Distinct ns → Distinct more
 
 -- it is the number of the stack where there is one
-abbrev pub AreBoth : List Node → Option (Option ℕ) → Option (List Top) → Type 0
+abbrev pub AreBoth : List Node → Option ℕ → Option (List Top) → Type 0
 AreBoth ns None None = Unit {0}
 AreBoth ns (Some k) (Some ts) = Is ns k ts
 AreBoth ns _ _ = ⊥

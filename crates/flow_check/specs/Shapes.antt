@@ -51,19 +51,14 @@ same_mode Goto Goto = true
 same_mode Evaluation Evaluation = true
 same_mode _ _ = false
 
-abbrev pub same_stack : Option ℕ → Option ℕ → Bool
-same_stack None None = true
-same_stack (Some n) (Some m) = n == m
-same_stack _ _ = false
-
 -- whether they are the numbers of one shape
 abbrev pub same_shape : Shape → Shape → Bool
-same_shape a b = same_mode a.mode b.mode && (same_stack a.kinds b.kinds && same_stack a.handlers b.handlers)
+same_shape a b = same_mode a.mode b.mode && ((a.kinds == b.kinds) && (a.handlers == b.handlers))
 
 -- ---- what an instruction takes and leads to
 
 -- whether the newest operands were these, and the number of those below them
-abbrev pub IsTaken : List Node → Option (Option ℕ) → List flow.OperandKind → List flow.OperandKind → Type 0
+abbrev pub IsTaken : List Node → Option ℕ → List flow.OperandKind → List flow.OperandKind → Type 0
 IsTaken ns None ts ks = (below : List flow.OperandKind) → ks ≡ ts ++ below → ⊥
 IsTaken ns (Some k) ts ks = (below : List flow.OperandKind) × (ks ≡ ts ++ below) × Is ns k (runs below)
 
@@ -94,4 +89,4 @@ Advances ns (Some led) r s = Asked r s × IsNext ns led.next (next_of r s) × Is
 
 -- in a mode, with nothing
 abbrev pub empty_shape : Mode → Shape
-empty_shape m = record { mode = m; kinds = None; depth = 0; handlers = None }
+empty_shape m = record { mode = m; kinds = 0; depth = 0; handlers = 0 }

@@ -116,6 +116,7 @@ fn operated(
 }
 
 /// The same of any other rule.
+#[inline(always)]
 fn advanced(walk: &mut Walk, at: u32, rule: Rule, shape: Shape) -> Result<bool, AllocError>
     requires { (s : flow.Shape) × IsShape walk.old.pool.nodes.keys shape s
         × (length s.kinds < 2 ^ 31) }
@@ -152,8 +153,26 @@ fn step(walk: &mut Walk, at: u32, instr: Instr) -> Result<bool, AllocError>
 }
 
 /// The same where there may be a mark.
-#[inline(never)]
+#[inline(always)]
 fn step_marked(walk: &mut Walk, at: u32, instr: Instr) -> Result<bool, AllocError>
+    requires { (a : shapes.Shape) → met walk.old.carried (marked walk.old.marks at) ≡ Some (One a)
+        → (s : flow.Shape) × IsShape walk.old.pool.nodes.keys a s × (length s.kinds < 2 ^ 31) }
+    ensures { IfOk result (λ fine.
+        Stepped walk.old.pool.nodes.keys walk.new.pool.nodes.keys (marked walk.old.marks)
+        (marked walk.new.marks) walk.new.carried at (rule_of instr)
+        (met walk.old.carried (marked walk.old.marks at)) fine) }
+{
+    if walk.marks.is_usual(at, walk.carried) {
+        if let Instr::Begin(target) = instr {
+            return advanced(walk, at, Rule::Begin(target), empty(Mode::Goto));
+        }
+    }
+    step_met(walk, at, instr)
+}
+
+/// The same of any mark.
+#[inline(never)]
+fn step_met(walk: &mut Walk, at: u32, instr: Instr) -> Result<bool, AllocError>
     requires { (a : shapes.Shape) → met walk.old.carried (marked walk.old.marks at) ≡ Some (One a)
         → (s : flow.Shape) × IsShape walk.old.pool.nodes.keys a s × (length s.kinds < 2 ^ 31) }
     ensures { IfOk result (λ fine.
@@ -178,8 +197,9 @@ pub fn check_flow(alloc: Global, image: &ImageView<'_>) -> Result<Option<u32>, A
     ensures least { IfOk result (λ flow. IsLeast (BreaksFlow image.now) flow) }
 {
     let marks = roots(alloc, image)?;
+    let pool = Pool::new(alloc, image.statements().len())?;
     let mut walk = Walk {
-        pool: Pool::new(alloc),
+        pool,
         marks,
         carried: None,
     };

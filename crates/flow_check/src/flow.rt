@@ -10,7 +10,7 @@ ghost use Rattle.flow_check.specs.Numbers.{Is, Grows};
 ghost use Rattle.flow_check.specs.Shapes.{IsShape, IsPut, Advances, empty_shape, led_by, top_of, runs};
 ghost use Rattle.flow_check.specs.Rules.{left};
 
-use crate::pool::{Node, Pool, Stack, Top};
+use crate::pool::{EMPTY, Node, Pool, Stack, Top};
 use crate::rules::{Leaves, Rule, Takes};
 use crate::shapes::{Led, Mode, Shape};
 use std::alloc::AllocError;
@@ -21,9 +21,9 @@ pub(crate) fn empty(mode: Mode) -> Shape
 {
     Shape {
         mode,
-        kinds: None,
+        kinds: EMPTY,
         depth: 0,
-        handlers: None,
+        handlers: EMPTY,
     }
 }
 
@@ -56,10 +56,10 @@ fn begin(pool: &mut Pool, target: u32, shape: Shape) -> Result<Option<Led>, Allo
     if !is_bare(shape) {
         return Ok(None);
     }
-    let handlers = pool.put(Top::Begin(target), None)?;
+    let handlers = pool.put(Top::Begin(target), EMPTY)?;
     let next = Shape {
         mode: Mode::Body,
-        kinds: None,
+        kinds: EMPTY,
         depth: 0,
         handlers,
     };
@@ -78,7 +78,7 @@ fn is_in_begin(pool: &Pool, handlers: Stack) -> bool
         return false;
     };
     match node.top {
-        Top::Begin(_) => node.below.is_none(),
+        Top::Begin(_) => node.below == EMPTY,
         _ => false,
     }
 }
@@ -88,7 +88,7 @@ fn body(pool: &Pool, shape: Shape) -> Option<Led>
         → Advances pool.now.nodes.keys result rules.Body s }
 {
     match shape.mode {
-        Mode::Body if shape.kinds.is_none() && is_in_begin(pool, shape.handlers) => Some(Led {
+        Mode::Body if shape.kinds == EMPTY && is_in_begin(pool, shape.handlers) => Some(Led {
             next: Some(empty(Mode::Goto)),
             target: None,
         }),
@@ -101,13 +101,14 @@ fn is_one_value(pool: &Pool, shape: Shape) -> bool
     ensures { (s : flow.Shape) → IsShape pool.now.nodes.keys shape s
         → Decides result (s ≡ flow.shape s.mode (flow.V ∷ []) []) }
 {
-    if shape.handlers.is_none() {
+    if shape.handlers == EMPTY {
         pool.is_value(shape.kinds)
     } else {
         false
     }
 }
 
+#[inline(never)]
 fn jump(pool: &Pool, shape: Shape) -> Option<Led>
     ensures { (s : flow.Shape) → IsShape pool.now.nodes.keys shape s
         → Advances pool.now.nodes.keys result rules.Jump s }
@@ -118,6 +119,7 @@ fn jump(pool: &Pool, shape: Shape) -> Option<Led>
     }
 }
 
+#[inline(never)]
 fn answer(pool: &Pool, shape: Shape) -> Option<Led>
     ensures { (s : flow.Shape) → IsShape pool.now.nodes.keys shape s
         → Advances pool.now.nodes.keys result rules.Answer s }
@@ -136,6 +138,7 @@ fn is_kept(pool: &Pool, shape: Shape) -> bool
     pool.floor(shape.handlers) <= shape.depth
 }
 
+#[inline(never)]
 fn enter_try(pool: &mut Pool, target: u32, shape: Shape) -> Result<Option<Led>, AllocError>
     ensures grows { OnOk result (Grows pool.old.nodes.keys pool.new.nodes.keys) }
     ensures advanced { IfOk result (λ led.
@@ -153,6 +156,7 @@ fn enter_try(pool: &mut Pool, target: u32, shape: Shape) -> Result<Option<Led>, 
     }))
 }
 
+#[inline(never)]
 fn leave_try(pool: &Pool, shape: Shape) -> Option<Led>
     ensures { (s : flow.Shape) → IsShape pool.now.nodes.keys shape s
         → Advances pool.now.nodes.keys result rules.Untry s }
@@ -247,6 +251,7 @@ fn led_by(next: Option<Shape>) -> Option<Led>
 }
 
 /// Whether what the rule asks is there, and where it leads.
+#[inline(always)]
 pub(crate) fn advance(pool: &mut Pool, rule: Rule, shape: Shape) -> Result<Option<Led>, AllocError>
     requires { (s : flow.Shape) × IsShape pool.old.nodes.keys shape s × (length s.kinds < 2 ^ 31) }
     ensures grows { OnOk result (Grows pool.old.nodes.keys pool.new.nodes.keys) }

@@ -8,6 +8,7 @@ ghost use Rattle.flow_check.specs.declared.marks.Slot.TheVariants.{Other};
 ghost use Rattle.flow_check.specs.declared.shapes.Mode.TheVariants.{Goto};
 
 use crate::flow::empty;
+use crate::pool::EMPTY;
 use crate::shapes::{Mode, Shape};
 use indexmap::IndexMap;
 use std::alloc::{AllocError, Global};
@@ -44,9 +45,9 @@ fn is_bare(mark: Mark) -> bool
         mark,
         Mark::One(Shape {
             mode: Mode::Goto,
-            kinds: None,
+            kinds: EMPTY,
             depth: 0,
-            handlers: None,
+            handlers: EMPTY,
         },)
     )
 }
@@ -107,6 +108,28 @@ impl Marks {
         }
     }
 
+    /// Whether it is known at once that the usual shape leaves the usual mark at an offset.
+    fn is_plain(&self, at: u32) -> bool
+        ensures { result ≡ true
+            → joined (empty_shape Goto) (marked self.now at) ≡ Some (One (empty_shape Goto)) }
+    {
+        match self.slot(at) {
+            Slot::Free | Slot::Bare => true,
+            Slot::Other => false,
+        }
+    }
+
+    /// Whether it is known at once that the usual mark is met at an offset to which this was carried.
+    #[inline(always)]
+    pub(crate) fn is_usual(&self, at: u32, carried: Option<Shape>) -> bool
+        ensures { result ≡ true → met carried (marked self.now at) ≡ Some (One (empty_shape Goto)) }
+    {
+        match carried {
+            None => matches!(self.slot(at), Slot::Bare),
+            Some(shape) => is_bare(Mark::One(shape)) && self.is_plain(at),
+        }
+    }
+
     /// The mark at an offset to which this was carried from the instruction before it.
     pub(crate) fn meet(&self, at: u32, carried: Option<Shape>) -> Option<Mark>
         ensures { result ≡ met carried (marked self.now at) }
@@ -119,7 +142,21 @@ impl Marks {
     }
 
     /// One more way to a target.
+    #[inline(always)]
     pub(crate) fn note(&mut self, target: u32, shape: Shape) -> Result<(), AllocError>
+        ensures { OnOk result
+            ((y : ℕ) → marked self.new y ≡ noted target shape (marked self.old) y) }
+    {
+        let mark = Mark::One(shape);
+        if is_bare(mark) && self.is_plain(target) {
+            return self.put(target, mark);
+        }
+        self.note_other(target, shape)
+    }
+
+    /// The same of any shape and target.
+    #[inline(never)]
+    fn note_other(&mut self, target: u32, shape: Shape) -> Result<(), AllocError>
         ensures { OnOk result
             ((y : ℕ) → marked self.new y ≡ noted target shape (marked self.old) y) }
     {
@@ -130,6 +167,7 @@ impl Marks {
     }
 
     /// The mark of a target in place of the one it had.
+    #[inline(always)]
     fn put(&mut self, target: u32, mark: Mark) -> Result<(), AllocError>
         ensures { OnOk result ((y : ℕ) → marked self.new y
             ≡ (if nat_eq target y then Some mark else marked self.old y)) }

@@ -9,11 +9,12 @@ ghost use Rattle.flow_check.specs.Numbers.{Is, Grows};
 ghost use Rattle.flow_check.specs.Rules.{taken, left, run_kinds};
 ghost use Rattle.flow_check.specs.Shapes.{runs, top_of, kind_of, IsTaken};
 
-use crate::pool::{Kind, Node, Pool, Stack, Top};
+use crate::pool::{EMPTY, Kind, Node, Pool, Stack, Top};
 use crate::rules::{Leaves, Run, Takes, name, values};
 use std::alloc::AllocError;
 
 impl Pool {
+    #[inline(always)]
     fn pop_run(&mut self, run: Run, stack: Stack) -> Result<Option<Stack>, AllocError>
         ensures grows { OnOk result (Grows self.old.nodes.keys self.new.nodes.keys) }
         ensures taken { IfOk result (λ k.
@@ -35,6 +36,7 @@ impl Pool {
         match takes {
             Takes::Values(count) => self.pop_run(values(count), stack),
             Takes::Name => self.pop_run(name(), stack),
+            Takes::ValueName => self.pop_both(values(1), name(), stack),
             _ => self.take_runs(takes, stack),
         }
     }
@@ -57,6 +59,7 @@ impl Pool {
         }
     }
 
+    #[inline(always)]
     fn pop_both(
         &mut self,
         upper: Run,
@@ -133,6 +136,6 @@ impl Pool {
             → Decides result (ks ≡ V ∷ []) }
     {
         let (count, below) = self.run(Kind::Value, stack);
-        if count == 1 { below.is_none() } else { false }
+        if count == 1 { below == EMPTY } else { false }
     }
 }

@@ -1,6 +1,6 @@
 //! Stacks of operands and of handlers, with equal numbers for equal stacks.
 
-ghost use Rattle.std.specs.Prelude.{◌≡◌, ◌<◌, ◌-◌, ◌^◌, List, [], ◌∷◌, length, IfOk, OnErr, OnOk, IfSome};
+ghost use Rattle.std.specs.Prelude.{◌≡◌, ◌<◌, ◌+◌, ◌-◌, ◌^◌, List, [], ◌∷◌, length, IfOk, OnErr, OnOk, IfSome};
 ghost use Rattle.std.specs.Prelude.{IfNone, Some, None, true, option_map, slice_get};
 ghost use Rattle.flow_check.specs.declared.pool.Top.{Top};
 ghost use Rattle.flow_check.specs.declared.pool.Top.TheVariants.{Run};
@@ -28,8 +28,11 @@ pub(crate) enum Top {
     Try(u32, u32),
 }
 
-/// The number of a stack; the empty one has none.
-pub(crate) type Stack = Option<usize>;
+/// The number of a stack, from 1; the empty one has 0.
+pub(crate) type Stack = u32;
+
+/// The empty stack.
+pub(crate) const EMPTY: Stack = 0;
 
 /// A stack: its top, and the stack below.
 #[derive(Clone, Copy, PartialEq, Eq, Hash)]
@@ -57,34 +60,46 @@ fn recent_place(kind: Kind, count: u32, below: Stack) -> usize
         Kind::Name => 16,
         Kind::Span => 32,
     };
-    let under = match below {
-        None => 0,
-        Some(index) => index % 4,
-    };
-    first + (count % 4) as usize * 4 + under
+    first + (count % 4) as usize * 4 + (below % 4) as usize
+}
+
+/// The number of the stack whose node stands at a place; a place that has no such number is one that there is no room
+/// for.
+fn numbered(index: usize) -> Result<Stack, AllocError>
+    ensures { IfOk result (λ k. k ≡ index + 1) }
+{
+    if index >= u32::MAX as usize {
+        return Err(AllocError);
+    }
+    Ok(index as u32 + 1)
 }
 
 impl Pool {
-    pub(crate) fn new(alloc: Global) -> Pool
-        ensures { result.nodes.keys ≡ [] }
+    /// No stacks, with room for so many.
+    pub(crate) fn new(alloc: Global, room: usize) -> Result<Pool, AllocError>
+        ensures { IfOk result (λ pool. pool.nodes.keys ≡ []) }
     {
-        Pool {
-            nodes: IndexSet::new(alloc),
-            recent: [None; RECENT],
-        }
+        let nodes = IndexSet::with_capacity(alloc, room)?;
+        Ok(Pool {
+            nodes,
+            recent: [EMPTY; RECENT],
+        })
     }
 
     /// The number of the stack with one more on it.
+    #[inline(never)]
     pub(crate) fn put(&mut self, top: Top, below: Stack) -> Result<Stack, AllocError>
         ensures grows { OnOk result (Grows self.old.nodes.keys self.new.nodes.keys) }
         ensures put { IfOk result (λ k.
             node_at self.new.nodes.keys k ≡ Some (record { top = top; below = below })) }
     {
         let (index, _) = self.nodes.insert_full(Node { top, below })?;
-        Ok(Some(index))
+        let stack = numbered(index)?;
+        Ok(stack)
     }
 
     /// The number of the stack with a run on it.
+    #[inline(always)]
     fn put_run(&mut self, kind: Kind, count: u32, below: Stack) -> Result<Stack, AllocError>
         ensures grows { OnOk result (Grows self.old.nodes.keys self.new.nodes.keys) }
         ensures put { IfOk result (λ k.
@@ -101,6 +116,7 @@ impl Pool {
     }
 
     /// Whether a stack is a run on this one.
+    #[inline(always)]
     fn is_run(&self, stack: Stack, kind: Kind, count: u32, below: Stack) -> bool
         ensures { result ≡ true
             → node_at self.now.nodes.keys stack ≡ Some (node (Run kind count) below) }
@@ -117,16 +133,16 @@ impl Pool {
     }
 
     /// The top of a stack.
+    #[inline(always)]
     pub(crate) fn top(&self, stack: Stack) -> Option<Node>
         ensures { result ≡ node_at self.now.nodes.keys stack }
     {
-        match stack {
-            None => None,
-            Some(index) => self.nodes.get_index(index).copied(),
-        }
+        let index = stack.checked_sub(1)?;
+        self.nodes.get_index(index as usize).copied()
     }
 
     /// How many operands of a kind stand uppermost, and the stack below them.
+    #[inline(always)]
     pub(crate) fn run(&self, kind: Kind, stack: Stack) -> (u32, Stack)
         ensures { (ts : List Top) → Is self.now.nodes.keys stack ts
             → (result.0 ≡ run_length kind ts)
@@ -144,6 +160,7 @@ impl Pool {
     }
 
     /// The stack with one more operand.
+    #[inline(always)]
     pub(crate) fn push(&mut self, kind: Kind, stack: Stack) -> Result<Stack, AllocError>
         requires { (ks : List flow.OperandKind) × Is self.old.nodes.keys stack (runs ks)
             × (length ks < 2 ^ 32 - 1) }
@@ -158,6 +175,7 @@ impl Pool {
     }
 
     /// The stack without so many operands of a kind, if they stand uppermost.
+    #[inline(always)]
     pub(crate) fn pop(
         &mut self,
         kind: Kind,

@@ -61,7 +61,7 @@ struct Here {
 fn is_target(placed: &PlacedCode<'_>, here: Here, target: u32) -> bool
     ensures { result ≡ (nat_lt here.at target && is_fetched (fetch_from 0 placed.now target)) }
 {
-    here.at < target && placed.begins(here.place, target)
+    here.at < target && placed.begins_next(here.begun.saturating_add(1), here.place, target)
 }
 
 // Whether an instruction's targets and its own place are as they must be.

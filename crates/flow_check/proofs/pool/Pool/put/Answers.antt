@@ -7,17 +7,12 @@ use Rattle.flow_check.specs.Numbers.{node}
 use Rattle.flow_check.proofs.Stacks.{put_grows}
 use Rattle.flow_check.proofs.pool.Pool.put.Goals as goal
 
-like : (t : Top) (b : Option ℕ) → node_eq.ghosts.eq (node t b) (node t b) ≡ true
-like (Run Value n) None = search rules
-like (Run Name n) None = search rules
-like (Run Span n) None = search rules
-like (Begin n) None = search rules
-like (Try n d) None = search rules
-like (Run Value n) (Some b) = search rules
-like (Run Name n) (Some b) = search rules
-like (Run Span n) (Some b) = search rules
-like (Begin n) (Some b) = search rules
-like (Try n d) (Some b) = search rules
+like : (t : Top) (b : ℕ) → node_eq.ghosts.eq (node t b) (node t b) ≡ true
+like (Run Value n) b = search rules
+like (Run Name n) b = search rules
+like (Run Span n) b = search rules
+like (Begin n) b = search rules
+like (Try n d) b = search rules
 
 pub returns-clause-grows : goal.returns-clause-grows
 returns-clause-grows c = put_grows node_eq.ghosts.eq (λ n. like n.top n.below) _ _ _ c.in_ok-index.ensures.keys c.in_ok-index.ensures.unique
