@@ -71,6 +71,7 @@ impl<V: Element> Array<V> {
     }
 
     /// The element at a place.
+    #[inline(always)]
     pub(crate) fn get(&self, place: usize) -> Option<&V>
         ensures { option_copied result ≡ slice_get self.now.1 place }
     {
@@ -93,6 +94,7 @@ impl<V: Element> Array<V> {
     }
 
     /// The place of the element with this subscript alone.
+    #[inline(always)]
     pub(crate) fn place_of_one(&self, subscript: i64) -> Option<usize>
         ensures { result ≡ place_from 0 self.now.0 (subscript ∷ []) }
     {
@@ -100,6 +102,7 @@ impl<V: Element> Array<V> {
     }
 
     /// Another element at a place, if there is one.
+    #[inline(always)]
     pub(crate) fn set(&mut self, place: usize, value: V) -> bool
         ensures bounds { self.new.0 ≡ self.old.0 }
         ensures stored { if_stored result self.new.1 ≡ with_item place value self.old.1 }

@@ -49,6 +49,7 @@ impl Bounds {
     }
 
     /// How many subscripts stand below this one, if it is one of them.
+    #[inline(always)]
     pub(crate) fn offset(&self, subscript: i64) -> Option<u64>
         ensures offset { result ≡ offset_in self.now subscript }
         ensures below { IfSome result (λ o. o < self.now.count) }
@@ -118,6 +119,7 @@ pub(crate) fn place_of(bounds: &[Bounds], subscripts: &[i64]) -> Option<usize>
 }
 
 /// The place of the element with this subscript, where there is no other one. Takes no memory.
+#[inline(always)]
 #[tactic(auto, using(crate::proofs::Subscripts::one_place, crate::proofs::Subscripts::no_one_place))]
 pub(crate) fn place_of_one(bounds: &[Bounds], subscript: i64) -> Option<usize>
     ensures { result ≡ place_from 0 bounds.now (subscript ∷ []) }

@@ -56,6 +56,7 @@ impl<V: Element> Heap<V> {
 
     /// What an object holds at a place. Outside an array's bounds, and for a key that was never assigned, it is `None`.
     /// Takes no memory.
+    #[inline(always)]
     pub fn get(&self, object: usize, place: &Place) -> Option<&V>
         ensures { option_copied result ≡ held_at place.now (slice_get self.now object) }
     {
@@ -94,6 +95,7 @@ impl<V: Element> Heap<V> {
     }
 
     /// The place of an array's element, by its only subscript. Takes no memory.
+    #[inline(always)]
     pub fn place_of_one(&self, object: usize, subscript: i64) -> Option<usize>
         ensures { result ≡ place_in (subscript ∷ []) (slice_get self.now object) }
     {
@@ -124,6 +126,7 @@ impl<V: Element> Heap<V> {
     }
 
     /// Stores a value at a place of an object, if it has that place. Only a table takes memory.
+    #[inline(always)]
     pub fn set(&mut self, object: usize, place: Place, value: V) -> Result<bool, AllocError>
         ensures stored { IfOk result (λ stored.
             if_stored stored self.new
@@ -226,6 +229,7 @@ impl<V: Element> Heap<V> {
     }
 
     // The object of this number.
+    #[inline(always)]
     #[tactic(auto, using(crate::proofs::Objects::objects_at, crate::proofs::Objects::objects_past))]
     fn object(&self, number: usize) -> Option<&Object<V>>
         ensures { option_map object_of (option_copied result) ≡ slice_get self.now number }

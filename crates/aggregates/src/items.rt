@@ -36,6 +36,7 @@ pub(crate) fn repeated<T: Clone + Drop>(
 }
 
 /// Another item at an index, if there is one.
+#[inline(always)]
 #[tactic(auto, using(crate::proofs::Lists::with_item_past, crate::proofs::Lists::with_item_set))]
 pub(crate) fn put<T: Drop>(items: &mut Vec<T>, index: usize, item: T) -> bool
     ensures stored { if_stored result items.new.items ≡ with_item index item items.old.items }

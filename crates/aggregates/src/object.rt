@@ -52,6 +52,7 @@ impl<V: Element> Object<V> {
     }
 
     /// The value at a place, if there is one. Takes no memory.
+    #[inline(always)]
     pub(crate) fn get(&self, place: &Place) -> Option<&V>
         ensures { option_copied result ≡ held_at place.now (Some (object_of self.now)) }
     {
@@ -64,6 +65,7 @@ impl<V: Element> Object<V> {
     }
 
     /// Another value at a place, if the object has that place.
+    #[inline(always)]
     pub(crate) fn set(&mut self, place: Place, value: V) -> Result<bool, AllocError>
         ensures stored { IfOk result (λ stored.
             if_stored stored (object_of self.new)

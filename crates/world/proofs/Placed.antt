@@ -79,11 +79,11 @@ module _ (h : WorldView) (os : List (Object Value)) (same : os ≡ h.objects) (k
       let table : option_map kind_of (slice_get os k) ≡ Some kind.Table = table_kind (StringAt s) v (slice_get os k) here in (
         StringKey k s,
         λ io.
-        let w = world_of h io in (
-          key_named (option_map kind_of (slice_get os k)) s s refl table refl io,
-          entry_is h io k (StringAt s)
-              ∙ ap (λ xs. there (entry_by (Str []) (option_map kind_of (slice_get xs k)) (option_map value_of (value_in (StringAt s) (slice_get xs k)))) w) (sym same)
-              ∙ ap (λ x. there (entry_by (Str []) x (option_map value_of (value_in (StringAt s) (slice_get os k)))) w) table
-              ∙ ap (λ x. there (entry_by (Str []) (Some kind.Table) (option_map value_of x)) w) (sym here),
-        ),
+            let w = world_of h io in (
+              key_named (option_map kind_of (slice_get os k)) s s refl table refl io,
+              entry_is h io k (StringAt s)
+                  ∙ ap (λ xs. there (entry_by (Str []) (option_map kind_of (slice_get xs k)) (option_map value_of (value_in (StringAt s) (slice_get xs k)))) w) (sym same)
+                  ∙ ap (λ x. there (entry_by (Str []) x (option_map value_of (value_in (StringAt s) (slice_get os k)))) w) table
+                  ∙ ap (λ x. there (entry_by (Str []) (Some kind.Table) (option_map value_of x)) w) (sym here),
+            ),
       )

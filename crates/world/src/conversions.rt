@@ -1,6 +1,7 @@
 //! Conversions of values.
 
-ghost use Rattle.std.specs.Prelude.{◌≡◌};
+ghost use Rattle.std.specs.Prelude.{◌≡◌, ◌<◌, ◌^◌, IfSome};
+ghost use Rattle.std.specs.Str.Parse.{AllDigits, digits_value};
 ghost use Rattle.model.specs.Language.Conversions.{to_text, to_integer, to_pattern, to_name, to_label};
 ghost use Rattle.model.specs.Language.Conversions.{to_variable, then_conv, count_of, set_of, read_integer};
 ghost use Rattle.model.specs.Machine.Steps.{codes_of};
@@ -129,8 +130,27 @@ fn integer_of(text: &[u8]) -> Result<i64, ErrorCode>
     if text.is_empty() {
         return Ok(0);
     }
+    if let Some(n) = digits_of(text) {
+        return Ok(n as i64);
+    }
     match read_int(text) {
         Some(n) => Ok(n),
         None => Err(ErrorCode::NotAnInteger),
     }
+}
+
+// What up to 17 digits write, if nothing else stands there.
+#[inline(always)]
+fn digits_of(text: &[u8]) -> Option<u64>
+    ensures { IfSome result (λ n. AllDigits 10 text.now × (n ≡ digits_value 10 text.now) × (n < 2 ^ 63)) }
+{
+    let mut n = 0u64;
+    for byte in text {
+        let byte = *byte;
+        if byte < b'0' || byte > b'9' || n >= 10_000_000_000_000_000 {
+            return None;
+        }
+        n = n * 10 + (byte - b'0') as u64;
+    }
+    Some(n)
 }

@@ -35,16 +35,17 @@ impl World {
         self.heap.place_of_one(object, subscript)
     }
 
-    /// The integer that an element is, if it is one.
+    /// The value of an element by its place.
     #[inline(always)]
-    pub fn integer_at(&self, object: usize, index: usize) -> Option<i64>
-        ensures { IfSome result (λ n. (io : Io)
-            → fetch_op (Element object index) (world_of self.now io) ≡ Gives (Int n) (world_of self.now io)) }
+    pub fn value_at(&self, object: usize, index: usize) -> Option<&Value>
+        ensures { IfSome result (λ value. (io : Io)
+            → fetch_op (Element object index) (world_of self.now io)
+            ≡ Gives (value_of value.now) (world_of self.now io)) }
     {
-        match self.heap.get(object, &Place::Element(index)) {
-            Some(Value::Integer(n)) => Some(*n),
-            _ => None,
-        }
+        let Some(value) = self.heap.get(object, &Place::Element(index)) else {
+            return None;
+        };
+        Some(value)
     }
 
     // The value of a table for a key that was assigned.
