@@ -11,7 +11,7 @@ ghost use Rattle.pattern_compiler.specs.View.{instr_of, name_of, code_of};
 
 use crate::code::PatCode;
 use crate::instr::{Instr, Name};
-use crate::pattern::Pattern;
+use crate::pattern::{Pattern, ROOM};
 use std::alloc::{AllocError, Global};
 
 impl Pattern {
@@ -23,11 +23,7 @@ impl Pattern {
             → Stands xs (pattern.Cat p q) code) }
     {
         let instrs = match left.into_instr() {
-            Ok(first) => {
-                let mut instrs = right.into_list(alloc, 1)?;
-                instrs.insert(0, first)?;
-                instrs
-            }
+            Ok(first) => before(alloc, first, right)?,
             Err(code) => behind(alloc, code, right)?,
         };
         Ok(Pattern::of(PatCode::from_list(instrs)?))
@@ -112,12 +108,30 @@ fn behind(alloc: Global, code: PatCode, right: Pattern) -> Result<Vec<Instr>, Al
     Ok(instrs)
 }
 
+// An instruction and a pattern behind it.
+fn before(alloc: Global, first: Instr, part: Pattern) -> Result<Vec<Instr>, AllocError>
+    ensures { IfOk result (λ instrs. code_of instrs.items ≡ instr_of first ∷ part) }
+{
+    match part.into_instr() {
+        Ok(only) => {
+            let mut instrs = Vec::with_capacity(alloc, ROOM)?;
+            instrs.push(first)?;
+            instrs.push(only)?;
+            Ok(instrs)
+        }
+        Err(code) => {
+            let mut instrs = code.into_list(alloc, 2)?;
+            instrs.insert(0, first)?;
+            Ok(instrs)
+        }
+    }
+}
+
 // The part between two instructions.
 fn between(alloc: Global, first: Instr, part: Pattern, last: Instr) -> Result<Pattern, AllocError>
     ensures { IfOk result (λ code. code ≡ instr_of first ∷ (part ++ instr_of last ∷ [])) }
 {
-    let mut instrs = part.into_list(alloc, 2)?;
-    instrs.insert(0, first)?;
+    let mut instrs = before(alloc, first, part)?;
     instrs.push(last)?;
     Ok(Pattern::of(PatCode::from_list(instrs)?))
 }
