@@ -88,10 +88,11 @@ shape_grown ns more g a s h = record {
   kinds = grown ns more g a.kinds (runs s.kinds) h.kinds;
   depth = h.depth;
   handlers = grown ns more g a.handlers (map top_of s.handlers) h.handlers;
+  floor = h.floor;
 }
 
 pub empty_is : (ns : List Node) (m : Mode) → IsShape ns (empty_shape m) (flow.shape (mode_of m) [] [])
-empty_is ns m = record { mode = refl; kinds = refl; depth = refl; handlers = refl }
+empty_is ns m = record { mode = refl; kinds = refl; depth = refl; handlers = refl; floor = refl }
 
 pub bare_test : (ns : List Node) (a b : Shape) (s : flow.Shape) (r : Bool) → r ≡ same_shape a b → b ≡ empty_shape Goto → IsShape ns a s → Decides r (s ≡ flow.bare)
 bare_test ns a b s r e f h =

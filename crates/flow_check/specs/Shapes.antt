@@ -44,6 +44,7 @@ pub record IsShape (ns : List Node) (a : Shape) (s : flow.Shape) : Type 0 where
   pub kinds : Is ns a.kinds (runs s.kinds)
   pub depth : a.depth ≡ length s.kinds
   pub handlers : Is ns a.handlers (map top_of s.handlers)
+  pub floor : a.floor ≡ flow.floor_of s.handlers
 
 abbrev pub same_mode : Mode → Mode → Bool
 same_mode Body Body = true
@@ -89,4 +90,4 @@ Advances ns (Some led) r s = Asked r s × IsNext ns led.next (next_of r s) × Is
 
 -- in a mode, with nothing
 abbrev pub empty_shape : Mode → Shape
-empty_shape m = record { mode = m; kinds = 0; depth = 0; handlers = 0 }
+empty_shape m = record { mode = m; kinds = 0; depth = 0; handlers = 0; floor = 0 }

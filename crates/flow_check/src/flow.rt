@@ -24,6 +24,7 @@ pub(crate) fn empty(mode: Mode) -> Shape
         kinds: EMPTY,
         depth: 0,
         handlers: EMPTY,
+        floor: 0,
     }
 }
 
@@ -62,6 +63,7 @@ fn begin(pool: &mut Pool, target: u32, shape: Shape) -> Result<Option<Led>, Allo
         kinds: EMPTY,
         depth: 0,
         handlers,
+        floor: 0,
     };
     Ok(Some(Led {
         next: Some(next),
@@ -131,11 +133,11 @@ fn answer(pool: &Pool, shape: Shape) -> Option<Led>
 }
 
 /// Whether there are as many operands as the newest handler keeps.
-fn is_kept(pool: &Pool, shape: Shape) -> bool
-    ensures { (s : flow.Shape) → IsShape pool.now.nodes.keys shape s
+fn is_kept(shape: Shape) -> bool
+    ensures { (ns : List Node) → (s : flow.Shape) → IsShape ns shape s
         → Decides result (flow.floor_of s.handlers ≤ length s.kinds) }
 {
-    pool.floor(shape.handlers) <= shape.depth
+    shape.floor <= shape.depth
 }
 
 #[inline(never)]
@@ -145,11 +147,15 @@ fn enter_try(pool: &mut Pool, target: u32, shape: Shape) -> Result<Option<Led>, 
         (s : flow.Shape) → IsShape pool.old.nodes.keys shape s
         → Advances pool.new.nodes.keys led (rules.Try target) s) }
 {
-    if !is_kept(pool, shape) {
+    if !is_kept(shape) {
         return Ok(None);
     }
     let handlers = pool.put(Top::Try(target, shape.depth), shape.handlers)?;
-    let next = Shape { handlers, ..shape };
+    let next = Shape {
+        handlers,
+        floor: shape.depth,
+        ..shape
+    };
     Ok(Some(Led {
         next: Some(next),
         target: Some((target, shape)),
@@ -170,6 +176,7 @@ fn leave_try(pool: &Pool, shape: Shape) -> Option<Led>
         ) => Some(Led {
             next: Some(Shape {
                 handlers: below,
+                floor: pool.floor(below),
                 ..shape
             }),
             target: None,
@@ -178,15 +185,11 @@ fn leave_try(pool: &Pool, shape: Shape) -> Option<Led>
     }
 }
 
-fn fail(pool: &Pool, shape: Shape) -> Option<Led>
-    ensures { (s : flow.Shape) → IsShape pool.now.nodes.keys shape s
-        → Advances pool.now.nodes.keys result rules.Fail s }
+fn fail(shape: Shape) -> Option<Led>
+    ensures { (ns : List Node) → (s : flow.Shape) → IsShape ns shape s
+        → Advances ns result rules.Fail s }
 {
-    if is_kept(pool, shape) {
-        Some(NOWHERE)
-    } else {
-        None
-    }
+    if is_kept(shape) { Some(NOWHERE) } else { None }
 }
 
 /// The other half of an operation: what it leaves on the stack below what it took.
@@ -204,9 +207,10 @@ fn put_back(
     ensures put { IfOk result (λ next.
         (ks : List flow.OperandKind) → (hs : List Handler) → Is pool.old.nodes.keys below (runs ks)
         → depth ≡ length ks → Is pool.old.nodes.keys shape.handlers (map top_of hs)
+        → shape.floor ≡ flow.floor_of hs
         → IsPut pool.new.nodes.keys (led_by next) shape.mode (left leaves) ks hs) }
 {
-    if depth < pool.floor(shape.handlers) {
+    if depth < shape.floor {
         return Ok(None);
     }
     let kinds = pool.leave(leaves, below)?;
@@ -267,7 +271,7 @@ pub(crate) fn advance(pool: &mut Pool, rule: Rule, shape: Shape) -> Result<Optio
         Rule::Answer => Ok(answer(pool, shape)),
         Rule::Try(target) => enter_try(pool, target, shape),
         Rule::Untry => Ok(leave_try(pool, shape)),
-        Rule::Fail => Ok(fail(pool, shape)),
+        Rule::Fail => Ok(fail(shape)),
         Rule::Operate(takes, leaves) => {
             let next = operate(pool, takes, leaves, shape)?;
             Ok(led_by(next))

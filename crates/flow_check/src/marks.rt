@@ -48,6 +48,7 @@ fn is_bare(mark: Mark) -> bool
             kinds: EMPTY,
             depth: 0,
             handlers: EMPTY,
+            floor: 0,
         },)
     )
 }

@@ -20,6 +20,8 @@ pub(crate) struct Shape {
     pub kinds: Stack,
     pub depth: u32,
     pub handlers: Stack,
+    /// How many of the operands the newest handler keeps.
+    pub floor: u32,
 }
 
 /// Where an instruction leads, and with what shape: to the next one, and to a target.

@@ -122,7 +122,7 @@ fn instr_rule(
     if !indices_fit(image, instr) {
         return Some(ModuleRule::BadIndex);
     }
-    let goes_on = is_last_instr(instr) || here.next != size;
+    let goes_on = here.next != size || is_last_instr(instr);
     if !place_fits(image, placed, here, instr) || !goes_on {
         return Some(ModuleRule::BadTarget);
     }
