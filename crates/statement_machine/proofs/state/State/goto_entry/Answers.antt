@@ -1,11 +1,7 @@
-use Rattle.std.proofs.Common.{◌∙◌, List, [], ap, subst, sym}
+use Rattle.std.proofs.Common.{subst}
 use Rattle.model.specs.Language.Calls.{return_of}
-use Rattle.model.specs.Machine.Steps.{Run, go_to_known, go_to_return, to_stmt}
+use Rattle.model.specs.Machine.Steps.{go_to_return}
 use Rattle.model.specs.Module.Images.{module_of}
-use Rattle.frames.specs.View.{operands_of, handlers_of}
-use Rattle.frames.specs.declared.handler.Handler.{Handler}
-use Rattle.frames.specs.declared.operand.Operand.{Operand}
-use Rattle.loader.specs.Places.{offset_at}
 use Rattle.world.specs.Held.{world_of}
 use Rattle.statement_machine.specs.Calling.{GoesTo}
 use Rattle.statement_machine.specs.Held.{waiting}
