@@ -3,7 +3,8 @@
 ghost use Rattle.std.specs.Prelude.{◌≡◌, ◌+◌, ◌≤◌, ◌++◌, ◌∷◌, ℕ, [], map, length, take, drop};
 ghost use Rattle.std.specs.Prelude.{true, option_map, Some, IfOk, OnOk, OnErr};
 ghost use Rattle.model.specs.Language.Io.{Io};
-ghost use Rattle.model.specs.Language.Calls.{AValue, as_name, as_value, back_to_caller, bind_arguments, enter_call, leave_op};
+ghost use Rattle.model.specs.Language.Calls.{as_name, as_value, back_to_caller, bind_arguments, enter_call, leave_op};
+ghost use Rattle.model.specs.Language.Calls.{AValue};
 ghost use Rattle.model.specs.Language.Calls as calls;
 ghost use Rattle.model.specs.Language.Conversions.{Gives};
 ghost use Rattle.model.specs.Language.Prototypes.{are_distinct};

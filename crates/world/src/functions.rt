@@ -178,8 +178,8 @@ impl World {
         }
     }
 
-    /// The function of a name where it is held, if it has one that isn't primitive. The variable of the name may stand in
-    /// the slot.
+    /// The function of a name where it is held, if it has one that isn't primitive. The variable of the name may stand
+    /// in the slot.
     #[inline(always)]
     pub fn held_function(&self, name: &Text, slot: u32) -> Option<&Function>
         ensures function { (io : Io)
