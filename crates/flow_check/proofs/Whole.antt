@@ -1,12 +1,10 @@
 -- The whole walk.
-use Rattle.std.proofs.Common.{◌≡◌, ℕ, zero, suc, ◌+◌, ◌^◌, ◌<◌, ◌≤◌, List, [], ◌∷◌, ◌++◌, length, drop, get_or, refl, sym, ap, ◌∙◌, subst, arith, Option, Some, None, Bool, true, false, inl, inr, length-append}
-use Rattle.std.specs.Prelude.{◌==◌}
+use Rattle.std.proofs.Common.{◌≡◌, ℕ, zero, suc, ◌+◌, ◌^◌, ◌<◌, ◌≤◌, List, [], ◌∷◌, length, drop, get_or, refl, sym, ap, ◌∙◌, subst, arith, Option, Some, None, Bool, true, false, inl, inr}
 use Rattle.model.specs.declared.instr.Instr.{Instr}
-use Rattle.model.specs.declared.instr.Instr.TheVariants as op
 use Rattle.model.specs.declared.image.Image.{Image}
 use Rattle.model.specs.Machine.Steps.{At}
 use Rattle.model.specs.Module.Images.{instr_size, fetch_from, code_size}
-use Rattle.model.specs.Module.Spelling.{instr, code_bytes, u16, u32, u64}
+use Rattle.model.specs.Module.Spelling.{code_bytes}
 use Rattle.model.specs.Module.Flow as flow
 use Rattle.model.specs.Module.Flow.{Reaches, BreaksFlow, IsLeast, begins_at}
 use Rattle.model.proofs.Module.CodeBytes.{some_bytes, code_long, fetch_here, fetch_past, fetch_lies}

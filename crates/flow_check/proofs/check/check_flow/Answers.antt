@@ -1,4 +1,4 @@
-use Rattle.std.proofs.Common.{◌≡◌, ◌+◌, ◌<◌, ◌≤◌, ◌∙◌, length, arith, rules, subst, sym, true, false, get_or, drop}
+use Rattle.std.proofs.Common.{◌≡◌, ◌+◌, ◌∙◌, arith, rules, sym, true, false}
 use Rattle.module_format.specs.Views.{instrs_left}
 use Rattle.module_format.proofs.Leaving.{next_item, no_item}
 use Rattle.flow_check.proofs.Whole.{walk_starts, walk_ends, walk_short, walk_sum, walk_on, walk_stops, code_few}

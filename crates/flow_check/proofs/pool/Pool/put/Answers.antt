@@ -1,4 +1,4 @@
-use Rattle.std.proofs.Common.{◌≡◌, ℕ, true, Option, Some, None, rules}
+use Rattle.std.proofs.Common.{◌≡◌, ℕ, true, rules}
 use Rattle.flow_check.specs.contracts.pool.NodePartialEq.TheImpl as node_eq
 use Rattle.flow_check.specs.declared.pool.Kind.TheVariants.{Value, Name, Span}
 use Rattle.flow_check.specs.declared.pool.Top.{Top}
