@@ -8,7 +8,7 @@
 //! `holds(id, first, second)` is a call of one that `is_test`: it says something of two values and takes no memory;
 //! `integers_hold` is the same of two integers.
 //!
-//! `counted(id, value)` is a call of one whose pattern is a part that has a count, and takes no memory either.
+//! `call_one(alloc, id, value)` is a call with one argument of one that makes a part of a pattern, of SIZE or of TRIM.
 //!
 //! Promised: each is its row of the table, `prim_op` of `model`; a call that gives an error or stops changes nothing.
 //! CALLING.md says how another primitive is added.
