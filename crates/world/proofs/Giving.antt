@@ -1,5 +1,5 @@
 -- What a call gives to the variables of its function.
-use Rattle.std.proofs.Common.{◌≡◌, ℕ, zero, suc, ◌+◌, List, [], ◌∷◌, ◌++◌, length, map, take, drop, refl, sym, ap, ◌∙◌, arith, append_assoc, append-nil}
+use Rattle.std.proofs.Common.{◌≡◌, ℕ, zero, suc, ◌+◌, ◌<◌, List, [], ◌∷◌, ◌++◌, length, map, take, drop, refl, sym, ap, ◌∙◌, arith, append_assoc, append-nil}
 use Rattle.std.proofs.lemmas.List.{length-append, map-append, take-map}
 use Rattle.std.proofs.Math.Seq.{drop-append_seam, take-append_seam}
 use Rattle.model.specs.Deck.Trees.{Bytes}
@@ -35,6 +35,18 @@ fill_turn before now new n v null more (vs, all, same, size) = (
 )
 
 -- ---- all that a call gives
+
+abbrev no : (T : Type 0) → List T
+no T = []
+
+take_nothing : (T : Type 0) (n : ℕ) → take n (no T) ≡ []
+take_nothing T zero = refl
+take_nothing T (suc n) = refl
+
+-- of one argument, all are taken by a function that takes any
+pub take_one : {T : Type 0} (n : ℕ) (x : T) → 0 < n → x ∷ [] ≡ take n (x ∷ [])
+take_one zero x some = absurd omega (arith, some)
+take_one {T = T} (suc n) x some = ap (λ xs. x ∷ xs) (sym (take_nothing T n))
 
 pub put_all : (f : FunctionPrototype) (given before mid after : List Value) (null : Value) (n count : ℕ) → value_of null ≡ Str [] → n ≡ length f.arguments → mid ≡ (before ++ null ∷ []) ++ take n given → count ≡ length before + length (names_of f)
     → AreFilled count mid after → ArePut f given before after

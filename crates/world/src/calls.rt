@@ -1,6 +1,6 @@
 //! Calls of functions that DEFINE made: what a call saves, and what it gives back.
 
-ghost use Rattle.std.specs.Prelude.{◌≡◌, ◌+◌, ◌≤◌, ◌++◌, ◌∷◌, ℕ, [], map, length, take, drop};
+ghost use Rattle.std.specs.Prelude.{◌≡◌, ◌+◌, ◌<◌, ◌≤◌, ◌++◌, ◌∷◌, ℕ, [], map, length, take, drop};
 ghost use Rattle.std.specs.Prelude.{true, option_map, Some, IfOk, OnOk, OnErr};
 ghost use Rattle.model.specs.Language.Io.{Io};
 ghost use Rattle.model.specs.Language.Calls.{as_name, as_value, back_to_caller, bind_arguments, enter_call, leave_op};
@@ -130,6 +130,23 @@ fn put_values(
     fill(values, count)
 }
 
+// The same of one argument, for a function that takes any.
+#[inline(always)]
+fn put_one(
+    prototype: &FunctionPrototype,
+    argument: Value,
+    values: &mut Vec<Value>,
+) -> Result<(), AllocError>
+    requires { 0 < length prototype.now.arguments }
+    ensures { OnOk result
+        (ArePut prototype.now (argument ∷ []) values.old.items values.new.items) }
+{
+    let count = values.len() + prototype.names().len();
+    put(values, Value::null())?;
+    put(values, argument)?;
+    fill(values, count)
+}
+
 impl World {
     // A variable's value, which is null at first.
     fn value(&self, name: &Text, slot: u32) -> Result<Value, AllocError>
@@ -182,6 +199,34 @@ impl World {
         let level = self.level();
         let base = saved.len();
         put_values(&prototype, arguments, saved)?;
+        self.exchange_all(prototype.names(), prototype.slots(), base, saved)?;
+        self.deepen();
+        Ok(Kept {
+            prototype,
+            statement,
+            level,
+        })
+    }
+
+    /// `enter_call` with one argument, of a function that takes any.
+    #[inline(always)]
+    pub fn enter_call_with(
+        &mut self,
+        prototype: FunctionPrototype,
+        argument: Value,
+        saved: &mut Vec<Value>,
+    ) -> Result<Kept, AllocError>
+        requires { 0 < length prototype.arguments }
+        ensures entered { OnOk result ((io : Io)
+            → world_of self.new io
+            ≡ enter_call prototype.name prototype.arguments prototype.locals
+            (value_of argument ∷ []) (world_of self.old io)) }
+        ensures kept { IfOk result (λ kept. IsKept kept prototype saved.old.items saved.new.items self.old) }
+    {
+        let statement = self.statement();
+        let level = self.level();
+        let base = saved.len();
+        put_one(&prototype, argument, saved)?;
         self.exchange_all(prototype.names(), prototype.slots(), base, saved)?;
         self.deepen();
         Ok(Kept {
