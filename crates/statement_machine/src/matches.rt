@@ -7,31 +7,93 @@ ghost use Rattle.match_machine.specs.View.{pending_of, told_of};
 ghost use Rattle.model.specs.Language.Io.{Io};
 ghost use Rattle.model.specs.Machine.Steps.{on_event};
 ghost use Rattle.model.specs.Module.Images.{module_of};
-ghost use Rattle.model.specs.Language.Operators.{assign_all, told_value};
+ghost use Rattle.model.specs.Language.Operators.{assign_all, assign_op, told_value};
 ghost use Rattle.model.specs.Pattern.Steps.{event_of};
 ghost use Rattle.model.specs.declared.image.Image.{Image};
 ghost use Rattle.model.specs.declared.run.Stop.TheVariants.{NoMemory};
+ghost use Rattle.pattern_compiler.specs.View.{name_of};
 ghost use Rattle.statement_machine.specs.Held.{Left, waiting};
 ghost use Rattle.statement_machine.specs.Runs.{IsMatched, PrintsTo, PrintsWithin, found_kinds, matching_in, world_in};
 ghost use Rattle.statement_machine.specs.Stopped.{GoesOrHalts, halted_by};
-ghost use Rattle.unit_io.specs.Service.{Served};
+ghost use Rattle.unit_io.specs.Service.{IsQuiet, Served};
 ghost use Rattle.world.specs.Answers.{AnswersAs, done, stopped_by};
 ghost use Rattle.world.specs.Held.{world_of};
 ghost use Rattle.world.specs.Values.{value_of};
 
+use crate::slots::{note, slot_at};
 use crate::state::State;
 use crate::status::Exit;
 use frames::Matching;
 use match_machine::{Assignment, Come, Told};
+use pattern_compiler::Name;
 use std::alloc::{AllocError, Global};
+use strings::Text;
 use unit_io::Units;
 use world::{Fault, Value, World};
+
+// The number of a name among those that matches assign to. Few share one.
+#[inline(always)]
+fn number_of(name: &Text) -> u32 {
+    let bytes = name.as_slice();
+    match bytes.last() {
+        Some(last) => *last as u32 % 32,
+        None => 0,
+    }
+}
+
+// Assigns a value to a variable whose slot isn't noted, and notes it, or to an element.
+#[cold]
+#[inline(never)]
+fn assign_noting<U: Units>(
+    alloc: Global,
+    world: &mut World,
+    units: &mut U,
+    slots: &mut Vec<u32>,
+    name: &Name,
+    value: Value,
+) -> Result<(), Fault>
+    ensures served { Served U.Units (stopped_by result) units.old units.new (λ io io'.
+        AnswersAs (done result) (world_of world.new io')
+        (assign_op (name_of name.now) (value_of value) (world_of world.old io))) }
+    ensures quiet { IsQuiet (stopped_by result) (U.told units.old) (U.told units.new) }
+{
+    if let Name::Variable(variable) = name {
+        note(slots, number_of(variable), world.slot_of(variable))?;
+    }
+    world.assign(alloc, units, name, value)
+}
+
+// Assigns a value to a name, at once where the slot of its variable is noted.
+#[inline(always)]
+fn assign<U: Units>(
+    alloc: Global,
+    world: &mut World,
+    units: &mut U,
+    slots: &mut Vec<u32>,
+    name: &Name,
+    value: Value,
+) -> Result<(), Fault>
+    ensures served { Served U.Units (stopped_by result) units.old units.new (λ io io'.
+        AnswersAs (done result) (world_of world.new io')
+        (assign_op (name_of name.now) (value_of value) (world_of world.old io))) }
+    ensures quiet { IsQuiet (stopped_by result) (U.told units.old) (U.told units.new) }
+{
+    if let Name::Variable(variable) = name {
+        let slot = slot_at(slots.as_slice(), number_of(variable));
+        if world.is_plain(name, slot) {
+            world.set_plain(slot, value);
+            return Ok(());
+        }
+    }
+    assign_noting(alloc, world, units, slots, name, value)
+}
 
 // The assignments of a match that succeeded, in order, up to the first that ends the run.
 fn assign_all<U: Units>(
     alloc: Global,
     world: &mut World,
     units: &mut U,
+    slots: &mut Vec<u32>,
     pending: &[Assignment],
 ) -> Result<(), Fault>
     ensures served { Served U.Units (stopped_by result) units.old units.new (λ io io'.
@@ -42,7 +104,7 @@ fn assign_all<U: Units>(
 {
     for assignment in pending {
         let value = Value::String(assignment.value.clone()?);
-        world.assign(alloc, units, &assignment.name, value)?;
+        assign(alloc, world, units, slots, &assignment.name, value)?;
     }
     Ok(())
 }
@@ -93,7 +155,13 @@ impl State {
         else {
             unreachable!()
         };
-        if let Err(fault) = assign_all(self.alloc, &mut self.world, units, pending) {
+        if let Err(fault) = assign_all(
+            self.alloc,
+            &mut self.world,
+            units,
+            &mut self.assigned,
+            pending,
+        ) {
             return Err(Exit::Fault(fault));
         }
         self.place = matching.place();

@@ -118,7 +118,7 @@ fn in_world(
     match call {
         Call::Prim(id) | Call::Older(id) => primitive(alloc, world, id, left, right),
         Call::Begin => {
-            let begun = world.begin_match(alloc, left, right)?;
+            let begun = world.begin_match(alloc, left.clone()?, right.clone()?)?;
             Ok(Some(Value::Pattern(Pattern::of(begun.pattern))))
         }
         _ => Ok(Some(world.cat(alloc, left.clone()?, right.clone()?)?)),

@@ -245,7 +245,7 @@ impl World {
     }
 
     /// The slot of a variable, if it is there and its slot is known.
-    pub(crate) fn slot_of(&self, name: &Text) -> u32 {
+    pub fn slot_of(&self, name: &Text) -> u32 {
         match self.variables.get_index_of(name) {
             Some(slot) => u32::try_from(slot).unwrap_or(NO_SLOT),
             None => NO_SLOT,

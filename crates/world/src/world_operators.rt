@@ -56,6 +56,42 @@ fn behind(subject: &[u8], place: usize) -> &[u8]
     &subject[place.min(subject.len())..]
 }
 
+// What stands before a place, whose bytes are shared unless they are few.
+#[tactic(auto, using(std::proofs::lemmas::List::take_min))]
+fn part_before(subject: &Text, place: usize) -> Result<Text, StrFault>
+    ensures ok { IfOk result (λ part. part ≡ take place subject.now) }
+    ensures err { IfErr result (λ fault. fault ≡ StrFault.Memory) }
+{
+    subject.sub(0, place.min(subject.len()))
+}
+
+// What stands from a place on, whose bytes are shared unless they are few.
+#[tactic(auto, using(std::proofs::lemmas::List::drop_min))]
+fn part_behind(subject: &Text, place: usize) -> Result<Text, StrFault>
+    ensures ok { IfOk result (λ part. part ≡ drop place subject.now) }
+    ensures err { IfErr result (λ fault. fault ≡ StrFault.Memory) }
+{
+    let len = subject.len();
+    subject.sub(place.min(len), len)
+}
+
+// The subject without the part. What is left of it is shared where nothing stands before the part, or nothing behind.
+fn without(alloc: Global, span: &Span) -> Result<Text, StrFault>
+    ensures ok { IfOk result (λ all.
+        all ≡ take span.now.start span.now.subject ++ drop span.now.end span.now.subject) }
+    ensures err { IfErr result (λ fault. fault ≡ StrFault.Memory) }
+{
+    let back = part_behind(&span.subject, span.end)?;
+    if span.start == 0 {
+        return Ok(back);
+    }
+    let front = part_before(&span.subject, span.start)?;
+    match Text::concat(alloc, &front, &back, usize::MAX) {
+        Ok(all) => Ok(all),
+        Err(_) => Err(StrFault::Memory),
+    }
+}
+
 // The subject with the text in the place of the part.
 fn spliced(alloc: Global, span: &Span, text: &[u8], limit: usize) -> Result<Text, StrFault>
     ensures ok { IfOk result (λ all.
@@ -74,6 +110,9 @@ fn spliced(alloc: Global, span: &Span, text: &[u8], limit: usize) -> Result<Text
     if text.len() > room || back.len() > room - text.len() {
         return Err(StrFault::TooLong);
     }
+    if text.is_empty() {
+        return without(alloc, span);
+    }
     let mut all = Vec::with_capacity(alloc, front.len() + text.len() + back.len())?;
     all.extend_from_slice(front)?;
     all.extend_from_slice(text)?;
@@ -83,7 +122,7 @@ fn spliced(alloc: Global, span: &Span, text: &[u8], limit: usize) -> Result<Text
 
 impl World {
     /// The subject of a replacement with a value in the place of the part: what is to be assigned.
-    pub(crate) fn replaced(&self, alloc: Global, span: &Span, value: &Value) -> Result<Value, Fault>
+    pub fn replaced(&self, alloc: Global, span: &Span, value: &Value) -> Result<Value, Fault>
         ensures value { (io : Io) (name : Name)
             → LeadsTo (answer_map value_of result) (world_of self.now io) (λ v.
             assign_op name v (world_of self.now io))
@@ -177,20 +216,15 @@ impl World {
     }
 
     /// What a match of these values begins with.
-    pub fn begin_match(
-        &self,
-        alloc: Global,
-        subject: &Value,
-        pattern: &Value,
-    ) -> Result<Begun, Fault>
+    pub fn begin_match(&self, alloc: Global, subject: Value, pattern: Value) -> Result<Begun, Fault>
         ensures begun { (io : Io)
             → AnswersAs (answer_map begun_of result) (world_of self.now io)
-            (match_op codes_of (value_of subject.now) (value_of pattern.now)
+            (match_op codes_of (value_of subject) (value_of pattern)
             (world_of self.now io)) }
         ensures stop { IfStopped result (λ stop. stop ≡ NoMemory) }
     {
-        let subject = subject.to_text(alloc)?;
-        let pattern = pattern.to_pattern(alloc)?;
+        let subject = subject.into_text(alloc)?;
+        let pattern = pattern.into_pattern(alloc)?.into_code(alloc)?;
         Ok(Begun {
             subject,
             pattern,

@@ -15,7 +15,7 @@ returns-in-Err-clause-served g c =
     let ps = c.in-Matched.pending.now in
     let e : event_of c.args.matching.now.search.state ≡ Matched c.in-Matched.start c.in-Matched.end (pending_of ps) = sym c.come.ensures ∙ ap come_is c.in-Matched.is in
     served_on c.in-Err.ensures.served
-    (λ io io' a im fs. rw e (matched_halts im fs c.args.self.now c.assign_all.new.world io io' c.args.matching.now c.in-Matched.start c.in-Matched.end ps ps refl c.in-Err.fault a))
+    (λ io io' a im fs. rw e (matched_halts im fs (record c.args.self.now { assigned = c.assign_all.new.slots }) c.assign_all.new.world io io' c.args.matching.now c.in-Matched.start c.in-Matched.end ps ps refl c.in-Err.fault a))
 
 pub returns-in_err-found-clause-printed : goal.returns-in_err-found-clause-printed
 returns-in_err-found-clause-printed g c = λ im fs.
