@@ -29,16 +29,16 @@ use pattern_compiler::Name;
 use std::alloc::{AllocError, Global};
 use strings::Text;
 use unit_io::Units;
-use world::{Fault, Value, World};
+use world::{Fault, NO_SLOT, Value, World};
 
 // The number of a name among those that matches assign to. Few share one.
 #[inline(always)]
 fn number_of(name: &Text) -> u32 {
     let bytes = name.as_slice();
-    match bytes.last() {
-        Some(last) => *last as u32 % 32,
-        None => 0,
-    }
+    let (Some(first), Some(last)) = (bytes.first(), bytes.last()) else {
+        return 0;
+    };
+    (*first as u32 * 3 + *last as u32 + (bytes.len() % 32) as u32) % 64
 }
 
 // Assigns a value to a variable whose slot isn't noted, and notes it, or to an element.
@@ -57,10 +57,12 @@ fn assign_noting<U: Units>(
         (assign_op (name_of name.now) (value_of value) (world_of world.old io))) }
     ensures quiet { IsQuiet (stopped_by result) (U.told units.old) (U.told units.new) }
 {
+    let mut slot = NO_SLOT;
     if let Name::Variable(variable) = name {
-        note(slots, number_of(variable), world.slot_of(variable))?;
+        slot = world.slot_of(variable);
+        note(slots, number_of(variable), slot)?;
     }
-    world.assign(alloc, units, name, value)
+    world.assign_at(alloc, units, name, slot, value)
 }
 
 // Assigns a value to a name, at once where the slot of its variable is noted.

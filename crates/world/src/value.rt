@@ -128,6 +128,7 @@ impl Value {
     }
 
     /// `to_text` of a value that isn't needed any more, whose string isn't copied.
+    #[inline(always)]
     pub fn into_text(self, alloc: Global) -> Result<Text, Fault>
         ensures text { Converts result (to_text (value_of self)) }
         ensures stop { IfStopped result (λ stop. stop ≡ NoMemory) }
@@ -142,6 +143,7 @@ impl Value {
     }
 
     /// `to_pattern` of a value that isn't needed any more, whose text and code aren't copied.
+    #[inline(always)]
     pub fn into_pattern(self, alloc: Global) -> Result<Pattern, Fault>
         ensures pattern { Converts result (to_pattern codes_of (value_of self)) }
         ensures stop { IfStopped result (λ stop. stop ≡ NoMemory) }
