@@ -1,6 +1,6 @@
 //! Pattern code, shared.
 
-ghost use Rattle.std.specs.Prelude.{◌≡◌, ◌<◌, ◌^◌, ◌++◌, [], IfOk, OnOk, length, map, slice_get, option_map};
+ghost use Rattle.std.specs.Prelude.{◌≡◌, ◌<◌, ◌^◌, ◌++◌, ◌∷◌, [], IfOk, OnOk, length, map, slice_get, option_map};
 ghost use Rattle.pattern_compiler.specs.View.{instr_of, code_of, shared_code};
 
 use crate::instr::Instr;
@@ -74,6 +74,45 @@ impl PatCode {
                 Ok(instrs)
             }
         }
+    }
+
+    /// The code with an instruction before it, in the same memory where nothing else shares it.
+    pub(crate) fn led_by(self, alloc: Global, first: Instr) -> Result<PatCode, AllocError>
+        ensures { IfOk result (λ code. code ≡ instr_of first ∷ self) }
+    {
+        let mut code = self;
+        if let Some(shared) = &mut code.shared {
+            if let Some(instrs) = Rc::get_mut(shared) {
+                instrs.insert(0, first)?;
+                return Ok(code);
+            }
+        }
+        let mut instrs = code.into_list(alloc, 2)?;
+        instrs.insert(0, first)?;
+        PatCode::from_list(instrs)
+    }
+
+    /// The code between two instructions, in the same memory where nothing else shares it.
+    pub(crate) fn between(
+        self,
+        alloc: Global,
+        first: Instr,
+        last: Instr,
+    ) -> Result<PatCode, AllocError>
+        ensures { IfOk result (λ code. code ≡ instr_of first ∷ (self ++ instr_of last ∷ [])) }
+    {
+        let mut code = self;
+        if let Some(shared) = &mut code.shared {
+            if let Some(instrs) = Rc::get_mut(shared) {
+                instrs.insert(0, first)?;
+                instrs.push(last)?;
+                return Ok(code);
+            }
+        }
+        let mut instrs = code.into_list(alloc, 2)?;
+        instrs.insert(0, first)?;
+        instrs.push(last)?;
+        PatCode::from_list(instrs)
     }
 
     /// Puts the instructions at the end, copied only if other code shares them.

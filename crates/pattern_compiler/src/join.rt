@@ -22,11 +22,11 @@ impl Pattern {
             (xs : ℕ → Option Expr) (p q : Pat) → Stands xs p left → Stands xs q right
             → Stands xs (pattern.Cat p q) code) }
     {
-        let instrs = match left.into_instr() {
-            Ok(first) => before(alloc, first, right)?,
-            Err(code) => behind(alloc, code, right)?,
+        let code = match left.into_instr() {
+            Ok(first) => led(alloc, first, right)?,
+            Err(code) => PatCode::from_list(behind(alloc, code, right)?)?,
         };
-        Ok(Pattern::of(PatCode::from_list(instrs)?))
+        Ok(Pattern::of(code))
     }
 
     /// One pattern, or else the other. Where the first's code leads to its end, it leads past the second.
@@ -109,21 +109,17 @@ fn behind(alloc: Global, code: PatCode, right: Pattern) -> Result<Vec<Instr>, Al
 }
 
 // An instruction and a pattern behind it.
-fn before(alloc: Global, first: Instr, part: Pattern) -> Result<Vec<Instr>, AllocError>
-    ensures { IfOk result (λ instrs. code_of instrs.items ≡ instr_of first ∷ part) }
+fn led(alloc: Global, first: Instr, part: Pattern) -> Result<PatCode, AllocError>
+    ensures { IfOk result (λ code. code ≡ instr_of first ∷ part) }
 {
     match part.into_instr() {
         Ok(only) => {
             let mut instrs = Vec::with_capacity(alloc, ROOM)?;
             instrs.push(first)?;
             instrs.push(only)?;
-            Ok(instrs)
+            PatCode::from_list(instrs)
         }
-        Err(code) => {
-            let mut instrs = code.into_list(alloc, 2)?;
-            instrs.insert(0, first)?;
-            Ok(instrs)
-        }
+        Err(code) => code.led_by(alloc, first),
     }
 }
 
@@ -131,9 +127,17 @@ fn before(alloc: Global, first: Instr, part: Pattern) -> Result<Vec<Instr>, Allo
 fn between(alloc: Global, first: Instr, part: Pattern, last: Instr) -> Result<Pattern, AllocError>
     ensures { IfOk result (λ code. code ≡ instr_of first ∷ (part ++ instr_of last ∷ [])) }
 {
-    let mut instrs = before(alloc, first, part)?;
-    instrs.push(last)?;
-    Ok(Pattern::of(PatCode::from_list(instrs)?))
+    let code = match part.into_instr() {
+        Ok(only) => {
+            let mut instrs = Vec::with_capacity(alloc, ROOM)?;
+            instrs.push(first)?;
+            instrs.push(only)?;
+            instrs.push(last)?;
+            PatCode::from_list(instrs)?
+        }
+        Err(code) => code.between(alloc, first, last)?,
+    };
+    Ok(Pattern::of(code))
 }
 
 // Puts copies of the instructions at the end; what led to the end of the part leads `by` further.
