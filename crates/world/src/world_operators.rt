@@ -56,6 +56,40 @@ fn behind(subject: &[u8], place: usize) -> &[u8]
     &subject[place.min(subject.len())..]
 }
 
+// What stands before a place, copied if it's short and else shared.
+#[tactic(auto, using(std::proofs::lemmas::List::take_min))]
+fn text_before(subject: &Text, place: usize) -> Result<Text, StrFault>
+    ensures ok { IfOk result (λ text. text ≡ take place subject.now) }
+    ensures err { IfErr result (λ fault. fault ≡ StrFault.Memory) }
+{
+    subject.sub(0, place.min(subject.len()))
+}
+
+// What stands from a place on, copied if it's short and else shared.
+#[tactic(auto, using(std::proofs::lemmas::List::drop_min))]
+fn text_behind(subject: &Text, place: usize) -> Result<Text, StrFault>
+    ensures ok { IfOk result (λ text. text ≡ drop place subject.now) }
+    ensures err { IfErr result (λ fault. fault ≡ StrFault.Memory) }
+{
+    subject.sub(place.min(subject.len()), subject.len())
+}
+
+// The subject without the part, where what is left isn't too long.
+fn shortened(alloc: Global, span: &Span, limit: usize) -> Result<Text, StrFault>
+    requires { length (take span.now.start span.now.subject)
+        + length (drop span.now.end span.now.subject) ≤ limit }
+    ensures ok { IfOk result (λ all.
+        all ≡ take span.now.start span.now.subject ++ drop span.now.end span.now.subject) }
+    ensures err { IfErr result (λ fault. fault ≡ StrFault.Memory) }
+{
+    let back = text_behind(&span.subject, span.end)?;
+    if span.start == 0 {
+        return Ok(back);
+    }
+    let front = text_before(&span.subject, span.start)?;
+    Text::concat(alloc, &front, &back, limit)
+}
+
 // The subject with the text in the place of the part.
 fn spliced(alloc: Global, span: &Span, text: &[u8], limit: usize) -> Result<Text, StrFault>
     ensures ok { IfOk result (λ all.
@@ -73,6 +107,9 @@ fn spliced(alloc: Global, span: &Span, text: &[u8], limit: usize) -> Result<Text
     let room = limit - front.len();
     if text.len() > room || back.len() > room - text.len() {
         return Err(StrFault::TooLong);
+    }
+    if text.is_empty() {
+        return shortened(alloc, span, limit);
     }
     let mut all = Vec::with_capacity(alloc, front.len() + text.len() + back.len())?;
     all.extend_from_slice(front)?;
