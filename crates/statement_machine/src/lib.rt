@@ -27,6 +27,7 @@ mod joined_ends;
 mod joined_items;
 mod joined_tests;
 mod joined_texts;
+mod joined_values;
 mod machine;
 mod matches;
 mod operators;
