@@ -417,21 +417,19 @@ fn same_eight(left: &[u8; FEW], right: &[u8; FEW], at: usize) -> bool
     (first & second) & (third & fourth)
 }
 
-// Whether two arrays are the same as far as a text goes.
+// Whether two lengths and the first seven bytes of two arrays are the same: they lie side by side, and compare as one.
 #[inline(always)]
-fn same_fronts(left: &[u8; FEW], right: &[u8; FEW], len: u8) -> bool
-    requires few { len ≤ 22 }
+fn same_start(len: &u8, other_len: &u8, left: &[u8; FEW], right: &[u8; FEW]) -> bool
     requires left { length left.now ≡ 22 }
     requires right { length right.now ≡ 22 }
-    ensures { result ≡ true → take len left.now ≡ take len right.now }
+    ensures len { result ≡ true → len.now ≡ other_len.now }
+    ensures bytes { result ≡ true → take 7 left.now ≡ take 7 right.now }
 {
-    if !same_eight(left, right, 0) {
-        return false;
-    }
-    if len <= 8 {
-        return true;
-    }
-    same_eight(left, right, 8) & same_eight(left, right, 14)
+    let first = (*len == *other_len) & (left[0] == right[0]);
+    let second = (left[1] == right[1]) & (left[2] == right[2]);
+    let third = (left[3] == right[3]) & (left[4] == right[4]);
+    let fourth = (left[5] == right[5]) & (left[6] == right[6]);
+    (first & second) & (third & fourth)
 }
 
 // Whether both are texts of few bytes of their own, and the same.
@@ -449,10 +447,13 @@ fn are_same_few(left: &Text, right: &Text) -> bool
     else {
         return false;
     };
-    if *len != *other_len {
+    if !same_start(len, other_len, array, others) {
         return false;
     }
-    same_fronts(array, others, *len)
+    if *len <= 7 {
+        return true;
+    }
+    same_eight(array, others, 7) & same_eight(array, others, 14)
 }
 
 // Whether two texts are the same, wherever their bytes are.
