@@ -1,9 +1,9 @@
 //! The match under way.
 
-ghost use Rattle.std.specs.Prelude.{◌≡◌, ◌≢◌, ◌<◌, ◌≤◌, [], ◌∷◌, ℕ, List, length, true, false, IfOk};
+ghost use Rattle.std.specs.Prelude.{◌≡◌, ◌≢◌, ◌<◌, ◌≤◌, [], ◌∷◌, ℕ, List, length, true, false, None, IfOk, IfSome};
 ghost use Rattle.std.specs.Prelude.{IfErr, IsErr, OnOk, OnErr, if◌then◌else◌};
 ghost use Rattle.frames.specs.View.{operands_of};
-ghost use Rattle.frames.specs.Matches.{in_match, matching_of};
+ghost use Rattle.frames.specs.Matches.{IsAnsweredOften, in_match, matching_of};
 ghost use Rattle.match_machine.specs.Held.{IsQuestion};
 ghost use Rattle.match_machine.specs.View.{come_is, answer_view, want_of};
 ghost use Rattle.model.specs.Language.Conversions.{answer_of};
@@ -218,6 +218,31 @@ impl Matching {
         ensures running { event_of self.new.search.state ≡ Running }
     {
         self.held.matcher.supply(answer)
+    }
+
+    /// Answers the question that was the last event, and as often as it comes again, at most so many times more: where
+    /// it is for a pattern at the ends of an ARB, and the answer is a literal that doesn't stand there. How many times
+    /// more; None where that isn't so, and then nothing is answered. Where each answer takes so many steps of the machine,
+    /// it makes those, two to the end of each match of the literal, and two between it and the next question.
+    #[inline(always)]
+    pub fn answer_again(&mut self, answer: &Answer, most: usize) -> Result<Option<usize>, AllocError>
+        ensures answered { IfOk result (λ o. IfSome o (λ n.
+            IsAnsweredOften (answer_view answer.now) n self.old self.new)) }
+        ensures most { IfOk result (λ o. IfSome o (λ n. n ≤ most)) }
+        ensures running { IfOk result (λ o. IfSome o (λ n. event_of self.new.search.state ≡ Running)) }
+        ensures same { OnOk result
+            (self.new ≡ record self.old {
+              search = record self.old.search {
+                state =
+                    self.new.search.state;
+              };
+            }) }
+        ensures none { IfOk result (λ o. o ≡ None → self.new ≡ self.old) }
+    {
+        let Some(count) = self.held.matcher.answer_again(answer, most)? else {
+            return Ok(None);
+        };
+        Ok(Some(count))
     }
 
     /// The match succeeded between two places: leaves what it matched, if it has to, and is over.

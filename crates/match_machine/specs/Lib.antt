@@ -7,3 +7,4 @@ pub mod Starts
 pub mod Held
 pub mod Balance
 pub mod Act
+pub mod Again

@@ -11,6 +11,7 @@
 #![tactic(auto)]
 
 mod act;
+mod again;
 mod answers;
 mod arbs;
 mod choice;
