@@ -225,7 +225,11 @@ impl Matching {
     /// more; None where that isn't so, and then nothing is answered. Where each answer takes so many steps of the machine,
     /// it makes those, two to the end of each match of the literal, and two between it and the next question.
     #[inline(always)]
-    pub fn answer_again(&mut self, answer: &Answer, most: usize) -> Result<Option<usize>, AllocError>
+    pub fn answer_again(
+        &mut self,
+        answer: &Answer,
+        most: usize,
+    ) -> Result<Option<usize>, AllocError>
         ensures answered { IfOk result (λ o. IfSome o (λ n.
             IsAnsweredOften (answer_view answer.now) n self.old self.new)) }
         ensures most { IfOk result (λ o. IfSome o (λ n. n ≤ most)) }
