@@ -90,7 +90,7 @@ fn steps(alloc: Global, pattern: Pattern, bytes: &[u8]) -> Result<u64, StrFault>
     let whole = Made::cat(alloc, made(alloc, pattern)?, lit(alloc, b"Z")?)?;
     let code = whole.into_code(alloc)?;
     let subject = Text::from_slice(alloc, bytes)?;
-    let (_, steps) = Matcher::start(alloc, code, subject, false).advance(u64::MAX)?;
+    let steps = Matcher::start(alloc, code, subject, false).go_on(u64::MAX)?;
     Ok(steps)
 }
 

@@ -2,7 +2,7 @@
 //!
 //! `Stack<T>` holds the operands or the handlers of a whole run: `pop_value`, `pop_name`, `pop_span` and `pop_values`
 //! take operands off, `fail` tells where a failure leads. A `Frame` is what waits for the code that runs. `Matching` is
-//! a match with what goes on after it: `go_on` makes steps, `come` tells the event, `supply` answers, with what
+//! a match with what goes on after it: `go_on` makes steps, `event` tells the event, `supply` answers, with what
 //! `answer` makes of a value.
 //!
 //!     operands.push(Operand::Value(value))?;

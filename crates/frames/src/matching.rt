@@ -5,7 +5,7 @@ ghost use Rattle.std.specs.Prelude.{IfErr, IsErr, OnOk, OnErr, if◌then◌else�
 ghost use Rattle.frames.specs.View.{operands_of};
 ghost use Rattle.frames.specs.Matches.{IsAnsweredOften, in_match, matching_of};
 ghost use Rattle.match_machine.specs.Held.{IsQuestion};
-ghost use Rattle.match_machine.specs.View.{come_is, answer_view, want_of};
+ghost use Rattle.match_machine.specs.View.{event_is, answer_view, want_of};
 ghost use Rattle.model.specs.Language.Conversions.{answer_of};
 ghost use Rattle.model.specs.Pattern.Patterns.{Running};
 ghost use Rattle.model.specs.Pattern.Steps.{Starting, Over, Lost, event_of, with_more};
@@ -19,7 +19,7 @@ use crate::answering::answer_of;
 use crate::literal::Literal;
 use crate::operand::Operand;
 use crate::stack::Stack;
-use match_machine::{Answer, Come, Matcher, Want};
+use match_machine::{Answer, Event, Matcher, Want};
 use pattern_compiler::PatCode;
 use std::alloc::{AllocError, Global};
 use std::marker::Model;
@@ -182,10 +182,10 @@ impl Matching {
     }
 
     /// What the match has come to. Takes no memory.
-    pub fn come(&self) -> Come<'_>
-        ensures { come_is result ≡ event_of self.now.search.state }
+    pub fn event(&self) -> Event<'_>
+        ensures { event_is result ≡ event_of self.now.search.state }
     {
-        self.held.matcher.come()
+        self.held.matcher.event()
     }
 
     /// The answer that a value is to a match that wants a pattern, a count or bytes. A string that answers again takes no

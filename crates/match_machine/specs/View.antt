@@ -11,8 +11,6 @@ use Rattle.match_machine.specs.declared.event.Told.{Told}
 use Rattle.match_machine.specs.declared.event.Told.TheVariants as told
 use Rattle.match_machine.specs.declared.event.Event.{Event}
 use Rattle.match_machine.specs.declared.event.Event.TheVariants as event
-use Rattle.match_machine.specs.declared.event.Come.{Come}
-use Rattle.match_machine.specs.declared.event.Come.TheVariants as come
 use Rattle.match_machine.specs.declared.event.Answer.{Answer}
 use Rattle.match_machine.specs.declared.event.Answer.TheVariants as answer
 use Rattle.match_machine.specs.declared.state.Thread.{Thread}
@@ -39,16 +37,9 @@ told_of (told.Number n) = p.Number n
 abbrev pub event_is : Event → p.Event ℕ
 event_is event.Running = p.Running
 event_is (event.Ask e w) = p.Asks (p.AskFor e (want_of w))
-event_is (event.Say x v) = p.Asks (p.SayThat (name_of x) (told_of v))
-event_is (event.Matched b e xs) = p.Matched b e (pending_of xs.items)
+event_is (event.Say x v) = p.Asks (p.SayThat (name_of x.now) (told_of v.now))
+event_is (event.Matched b e xs) = p.Matched b e (pending_of xs.now)
 event_is event.Failed = p.Failed
-
-abbrev pub come_is : Come → p.Event ℕ
-come_is come.Running = p.Running
-come_is (come.Ask e w) = p.Asks (p.AskFor e (want_of w))
-come_is (come.Say x v) = p.Asks (p.SayThat (name_of x.now) (told_of v.now))
-come_is (come.Matched b e xs) = p.Matched b e (pending_of xs.now)
-come_is come.Failed = p.Failed
 
 abbrev pub answer_view : Answer → p.Answer Code
 answer_view (answer.Pattern c) = p.IsPattern c

@@ -28,33 +28,9 @@ pub struct Assignment {
     pub value: Text,
 }
 
-/// What a match has come to.
-#[derive(Drop)]
-pub enum Event {
-    /// Nothing yet.
-    Running,
-    /// The value of this expression is asked for.
-    Ask {
-        expr: u32,
-        want: Want,
-    },
-    /// An assignment is asked for.
-    Say {
-        name: Name,
-        value: Told,
-    },
-    /// The first success, with its assignments in order.
-    Matched {
-        start: usize,
-        end: usize,
-        pending: Vec<Assignment>,
-    },
-    Failed,
-}
-
 /// What a match has come to, with names and values where they are.
 #[derive(Clone, Copy)]
-pub enum Come<'a> {
+pub enum Event<'a> {
     /// Nothing yet.
     Running,
     /// The value of this expression is asked for.

@@ -1,10 +1,11 @@
 //! The matcher: pattern code on a subject, step by step.
 //!
-//! `Matcher::start(alloc, code, subject, anchored)` is a match before its first step; `advance(bound)` makes steps up
-//! to the next event; `supply(answer)` answers the question that an event asked.
+//! `Matcher::start(alloc, code, subject, anchored)` is a match before its first step; `go_on(bound)` makes steps up to the
+//! next event, which `event()` tells; `supply(answer)` answers the question that it asks.
 //!
 //!     let mut matcher = Matcher::start(alloc, code, subject, false);
-//!     let (event, steps) = matcher.advance(1_000)?;
+//!     let steps = matcher.go_on(1_000)?;
+//!     let event = matcher.event();
 //!
 //! Promised: events and ends are those of the pattern steps of `model`'s `Steps`, step for step; after a refusal of
 //! memory it refuses from then on. By a law of `model` these are the answers of the search that the language defines.
@@ -24,5 +25,5 @@ mod state;
 mod step;
 mod trail;
 
-pub use event::{Answer, Assignment, Come, Event, Told, Want};
+pub use event::{Answer, Assignment, Event, Told, Want};
 pub use matcher::Matcher;

@@ -241,13 +241,6 @@ impl Trail {
         self.pending.as_slice()
     }
 
-    /// A copy of the pending assignments.
-    pub fn copy_pending(&self, alloc: Global) -> Result<Vec<Assignment>, AllocError>
-        ensures { IfOk result (λ v. pending_of v.items ≡ self.now.pending) }
-    {
-        copies_of(alloc, self.pending.as_slice())
-    }
-
     /// Keeps a choice. Takes memory only where a log has to grow.
     #[inline(always)]
     pub fn keep(&mut self, kept: Kept, place: usize, cursor: usize) -> Result<(), AllocError>
@@ -576,17 +569,4 @@ fn last_of(codes: &[PatCode]) -> Result<PatCode, AllocError>
         Some(code) => code.clone(),
         None => Ok(PatCode::null()),
     }
-}
-
-/// The same assignments.
-fn copies_of(alloc: Global, pending: &[Assignment]) -> Result<Vec<Assignment>, AllocError>
-    ensures { IfOk result (λ v. pending_of v.items ≡ pending_of pending.now) }
-{
-    let mut copies = Vec::with_capacity(alloc, pending.len())?;
-    for assignment in pending {
-        let name = assignment.name.clone()?;
-        let value = assignment.value.clone()?;
-        copies.push(Assignment { name, value })?;
-    }
-    Ok(copies)
 }

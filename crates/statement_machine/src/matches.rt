@@ -24,7 +24,7 @@ use crate::slots::{note, slot_at};
 use crate::state::State;
 use crate::status::Exit;
 use frames::Matching;
-use match_machine::{Assignment, Come, Told};
+use match_machine::{Assignment, Event, Told};
 use pattern_compiler::Name;
 use std::alloc::{AllocError, Global};
 use strings::Text;
@@ -149,11 +149,11 @@ impl State {
             × (self.new.saved.items ≡ self.old.saved.items)) }
         ensures halts { GoesOrHalts result }
     {
-        let Come::Matched {
+        let Event::Matched {
             start,
             end,
             pending,
-        } = matching.come()
+        } = matching.event()
         else {
             unreachable!()
         };

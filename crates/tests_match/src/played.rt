@@ -47,8 +47,8 @@ fn answer(alloc: Global, play: Play<'_>) -> Result<Answer, StrFault> {
 }
 
 fn supplied(matcher: &mut Matcher, answer: Answer) -> Result<(), AllocError> {
-    let (question, _) = matcher.advance(100)?;
-    match &question {
+    matcher.go_on(100)?;
+    match matcher.event() {
         Event::Ask { .. } => matcher.supply(answer),
         Event::Say { .. } => matcher.supply(answer),
         _ => {}
@@ -75,16 +75,16 @@ fn begun(alloc: Global, matcher: &mut Matcher, play: Play<'_>) -> Result<u64, St
 
 fn ended(alloc: Global, matcher: &mut Matcher, play: Play<'_>) -> Result<Seen, StrFault> {
     let bound = begun(alloc, matcher, play)?;
-    let (event, steps) = matcher.advance(bound)?;
-    Ok(shown(&event, steps))
+    let steps = matcher.go_on(bound)?;
+    Ok(shown(matcher.event(), steps))
 }
 
-fn shown(event: &Event, steps: u64) -> Seen {
+fn shown(event: Event<'_>, steps: u64) -> Seen {
     match event {
         Event::Running => Seen::Running(steps),
-        Event::Ask { expr, .. } => Seen::Asked(*expr),
+        Event::Ask { expr, .. } => Seen::Asked(expr),
         Event::Say { value, .. } => Seen::Told(size(value)),
-        Event::Matched { start, end, .. } => Seen::Matched(*start, *end),
+        Event::Matched { start, end, .. } => Seen::Matched(start, end),
         Event::Failed => Seen::Failed,
     }
 }

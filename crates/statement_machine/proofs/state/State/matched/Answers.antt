@@ -1,7 +1,7 @@
 use Rattle.std.proofs.Common.{◌≡◌, ap, refl, sym, ◌∙◌}
 use Rattle.model.specs.Pattern.Patterns.{Matched}
 use Rattle.model.specs.Pattern.Steps.{event_of}
-use Rattle.match_machine.specs.View.{come_is, pending_of}
+use Rattle.match_machine.specs.View.{event_is, pending_of}
 use Rattle.statement_machine.specs.Held.{waiting}
 use Rattle.statement_machine.specs.Runs.{matching_in}
 use Rattle.statement_machine.specs.Stopped.{halted_by}
@@ -13,7 +13,7 @@ use Rattle.statement_machine.proofs.state.State.matched.Goals as goal
 pub returns-in-Err-clause-served : goal.returns-in-Err-clause-served
 returns-in-Err-clause-served g c =
     let ps = c.in-Matched.pending.now in
-    let e : event_of c.args.matching.now.search.state ≡ Matched c.in-Matched.start c.in-Matched.end (pending_of ps) = sym c.come.ensures ∙ ap come_is c.in-Matched.is in
+    let e : event_of c.args.matching.now.search.state ≡ Matched c.in-Matched.start c.in-Matched.end (pending_of ps) = sym c.event.ensures ∙ ap event_is c.in-Matched.is in
     served_on c.in-Err.ensures.served
     (λ io io' a im fs. rw e (matched_halts im fs (record c.args.self.now { assigned = c.assign_all.new.slots }) c.assign_all.new.world io io' c.args.matching.now c.in-Matched.start c.in-Matched.end ps ps refl c.in-Err.fault a))
 
@@ -21,12 +21,12 @@ pub returns-in_err-found-clause-printed : goal.returns-in_err-found-clause-print
 returns-in_err-found-clause-printed g c = λ im fs.
     let s = c.args.self.now in
     let ps = c.in-Matched.pending.now in
-    let e : event_of c.args.matching.now.search.state ≡ Matched c.in-Matched.start c.in-Matched.end (pending_of ps) = sym c.come.ensures ∙ ap come_is c.in-Matched.is in
+    let e : event_of c.args.matching.now.search.state ≡ Matched c.in-Matched.start c.in-Matched.end (pending_of ps) = sym c.event.ensures ∙ ap event_is c.in-Matched.is in
     rw e (settled_prints im (matching_in im c.args.matching.now s) c.args.matching.now.search.state (waiting im fs s) c.in-Matched.start c.in-Matched.end (halted_by c.from_residual.result) _ _ ps ps s.world c.assign_all.new.world refl c.in_default-assign_all.ensures.served.told)
 
 pub returns-in-Err-clause-printed : goal.returns-in-Err-clause-printed
 returns-in-Err-clause-printed g c = λ im fs.
     let s = c.args.self.now in
     let ps = c.in-Matched.pending.now in
-    let e : event_of c.args.matching.now.search.state ≡ Matched c.in-Matched.start c.in-Matched.end (pending_of ps) = sym c.come.ensures ∙ ap come_is c.in-Matched.is in
+    let e : event_of c.args.matching.now.search.state ≡ Matched c.in-Matched.start c.in-Matched.end (pending_of ps) = sym c.event.ensures ∙ ap event_is c.in-Matched.is in
     rw e (unsettled_prints im (matching_in im c.args.matching.now s) c.args.matching.now.search.state (waiting im fs s) c.in-Matched.start c.in-Matched.end c.in-Err.fault _ _ ps ps s.world refl c.in-Err.ensures.printed)
