@@ -237,13 +237,10 @@ impl Text {
         ensures ok { IfOk result (λ all. all ≡ map (replaced from.now to.now) text.now) }
         ensures err { IfErr result (λ fault. fault ≡ StrFault.Memory) }
     {
-        let table = replacements(from, to);
-        let old = text.as_slice();
-        let mut bytes = Vec::with_capacity(alloc, old.len())?;
-        for b in old {
-            bytes.push(table[*b as usize])?;
+        match &text.bytes {
+            Bytes::Own { len, array } => Ok(replaced_few(*len, array, from, to)),
+            Bytes::Shared { .. } => replaced_many(alloc, text.as_slice(), from, to),
         }
-        Text::from_vec(bytes)
     }
 
     /// The decimal digits of an integer, with `-` before those of a negative one.
@@ -399,6 +396,52 @@ fn replacements(from: &[u8], to: &[u8]) -> [u8; 256]
         table[from[k] as usize] = to[k];
     }
     table
+}
+
+// What a byte becomes.
+#[inline(always)]
+fn replaced_byte(byte: u8, from: &[u8], to: &[u8]) -> u8
+    requires { length from.now ≡ length to.now }
+    ensures { result ≡ replaced from.now to.now byte }
+{
+    let mut end = from.len();
+    while end > 0 {
+        end -= 1;
+        if from[end] == byte {
+            return to[end];
+        }
+    }
+    byte
+}
+
+// A text of a few bytes, in place of which others stand. Each is looked for, as a table would cost more.
+fn replaced_few(len: u8, array: &[u8; FEW], from: &[u8], to: &[u8]) -> Text
+    requires within { len ≤ 22 }
+    requires array { length array.now ≡ 22 }
+    requires each { length from.now ≡ length to.now }
+    ensures { result ≡ map (replaced from.now to.now) (take len array.now) }
+{
+    let mut others = *array;
+    for k in 0..len as usize {
+        others[k] = replaced_byte(array[k], from, to);
+    }
+    Text {
+        bytes: Bytes::Own { len, array: others },
+    }
+}
+
+// A text of many bytes, in place of which others stand.
+fn replaced_many(alloc: Global, old: &[u8], from: &[u8], to: &[u8]) -> Result<Text, StrFault>
+    requires { length from.now ≡ length to.now }
+    ensures ok { IfOk result (λ all. all ≡ map (replaced from.now to.now) old.now) }
+    ensures err { IfErr result (λ fault. fault ≡ StrFault.Memory) }
+{
+    let table = replacements(from, to);
+    let mut bytes = Vec::with_capacity(alloc, old.len())?;
+    for b in old {
+        bytes.push(table[*b as usize])?;
+    }
+    Text::from_vec(bytes)
 }
 
 // Whether eight bytes of two arrays, those from `at` on, are the same.
