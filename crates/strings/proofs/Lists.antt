@@ -1,10 +1,10 @@
 use Rattle.std.proofs.Common.{◌≡◌, ℕ, zero, suc, ◌+◌, ◌-◌, ◌≤◌, ◌<◌, ◌&&◌, true, nat_eq, get_or, List, [], ◌∷◌, ◌++◌, length, take, drop, refl, sym, ap, ◌∙◌, arith, append_assoc, add-one}
-use Rattle.std.proofs.lemmas.List.{take_more, take_more_same, drop-take, drop-append-le, append-nil, take-take, take_all, drop-drop, length-append, length-drop, length-take, length-take-le}
+use Rattle.std.proofs.lemmas.List.{take_more_same, drop-take, drop-append-le, append-nil, take-take, take_all, drop-drop, length-append, length-drop, length-take, length-take-le}
 use Rattle.std.proofs.lemmas.Bool.{and_parts}
 use Rattle.std.specs.Cmp.{unsigned_Decides}
 use Rattle.std.specs.List.{repeat, slice_range}
 use Rattle.std.specs.Prelude.{◌==◌, if◌then◌else◌}
-use Rattle.model.specs.Language.Strings.{replaced, replaced_or}
+use Rattle.model.specs.Language.Strings.{replaced_or}
 
 pub repeat-nil : (n : ℕ) → repeat {A = ℕ} n [] ≡ []
 repeat-nil zero = refl
@@ -32,12 +32,6 @@ replaced_or-push [] [] x f t b e = refl
 replaced_or-push (g ∷ fs) (u ∷ ts) x f t b e = replaced_or-push fs ts (if b == g then u else x) f t b (omega arith)
 replaced_or-push [] (u ∷ ts) x f t b e = absurd (omega arith)
 replaced_or-push (g ∷ fs) [] x f t b e = absurd (omega arith)
-
--- what a byte becomes by one place more
-pub replaced_more : (fs ts : List ℕ) (k b : ℕ) → k < length fs → length fs ≡ length ts → replaced (take (k + 1) fs) (take (k + 1) ts) b ≡ (if b == get_or fs k 0 then get_or ts k 0 else replaced (take k fs) (take k ts) b)
-replaced_more fs ts k b in_fs len =
-    let in_ts : k < length ts = omega arith in
-    rw (take_more fs k 0 in_fs, take_more ts k 0 in_ts) (replaced_or-push (take k fs) (take k ts) b (get_or fs k 0) (get_or ts k 0) b (simp length-take (omega arith)))
 
 pub length-slice_range-le : (xs : List ℕ) (a b : ℕ) → length (slice_range xs a b) ≤ b - a
 length-slice_range-le xs a b = omega (arith, length-take (b - a) (drop a xs))

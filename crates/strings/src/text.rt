@@ -237,10 +237,11 @@ impl Text {
         ensures ok { IfOk result (λ all. all ≡ map (replaced from.now to.now) text.now) }
         ensures err { IfErr result (λ fault. fault ≡ StrFault.Memory) }
     {
-        match &text.bytes {
-            Bytes::Own { len, array } => Ok(replaced_few(*len, array, from, to)),
-            Bytes::Shared { .. } => replaced_many(alloc, text.as_slice(), from, to),
+        let old = text.as_slice();
+        if old.len() <= FEW {
+            return Ok(replaced_few(old, from, to));
         }
+        replaced_many(alloc, old, from, to)
     }
 
     /// The decimal digits of an integer, with `-` before those of a negative one.
@@ -398,35 +399,20 @@ fn replacements(from: &[u8], to: &[u8]) -> [u8; 256]
     table
 }
 
-// What a byte becomes.
-#[inline(always)]
-fn replaced_byte(byte: u8, from: &[u8], to: &[u8]) -> u8
-    requires { length from.now ≡ length to.now }
-    ensures { result ≡ replaced from.now to.now byte }
-{
-    let mut end = from.len();
-    while end > 0 {
-        end -= 1;
-        if from[end] == byte {
-            return to[end];
-        }
-    }
-    byte
-}
-
-// A text of a few bytes, in place of which others stand. Each is looked for, as a table would cost more.
-fn replaced_few(len: u8, array: &[u8; FEW], from: &[u8], to: &[u8]) -> Text
-    requires within { len ≤ 22 }
-    requires array { length array.now ≡ 22 }
+// A text of a few bytes, in place of which others stand. Takes no memory.
+fn replaced_few(old: &[u8], from: &[u8], to: &[u8]) -> Text
+    requires few { length old.now ≤ 22 }
     requires each { length from.now ≡ length to.now }
-    ensures { result ≡ map (replaced from.now to.now) (take len array.now) }
+    ensures { result ≡ map (replaced from.now to.now) old.now }
 {
-    let mut others = *array;
-    for k in 0..len as usize {
-        others[k] = replaced_byte(array[k], from, to);
+    let table = replacements(from, to);
+    let mut array = [0; FEW];
+    for k in 0..old.len() {
+        array[k] = table[old[k] as usize];
     }
+    let len = old.len() as u8;
     Text {
-        bytes: Bytes::Own { len, array: others },
+        bytes: Bytes::Own { len, array },
     }
 }
 

@@ -13,6 +13,6 @@ step f xs ys k y in_xs in_ys is same =
 
 pub loop-k-preserved : goal.loop-k-preserved
 loop-k-preserved c = record {
-  len = length-set c.loop-k.others _ _ ∙ c.loop-k.invariant.len;
-  done = step (replaced c.args.from.now c.args.to.now) c.loop-k.others c.args.array.now c.loop-k.k c.replaced_byte.result (omega arith) (omega arith) c.replaced_byte.ensures c.loop-k.invariant.done;
+  len = length-set c.loop-k.array _ _ ∙ c.loop-k.invariant.len;
+  done = step (replaced c.args.from.now c.args.to.now) c.loop-k.array c.args.old.now c.loop-k.k _ (omega arith) (omega arith) (c.replacements-table.ensures.each (get_or c.args.old.now c.loop-k.k 0) (omega (arith, c.type_inv.old c.loop-k.k))) c.loop-k.invariant.done;
 }

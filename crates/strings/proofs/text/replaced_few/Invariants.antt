@@ -4,6 +4,6 @@ use Rattle.strings.proofs.text.replaced_few.Given as goal
 
 abbrev pub invariant-loop-k : goal.invariant-loop-k
 invariant-loop-k l = record {
-  len : length l.others ≡ 22;
-  done : take l.k l.others ≡ map (replaced l.from l.to) (take l.k l.array);
+  len : length l.array ≡ 22;
+  done : take l.k l.array ≡ map (replaced l.from l.to) (take l.k l.old);
 }
