@@ -1,6 +1,6 @@
 //! Patterns as values have them.
 
-ghost use Rattle.std.specs.Prelude.{◌≡◌, ◌<◌, ◌^◌, [], ◌∷◌, ℕ, Option, IfOk, MatchResult, length};
+ghost use Rattle.std.specs.Prelude.{◌≡◌, ◌<◌, ◌^◌, [], ◌∷◌, ◌++◌, ℕ, Option, IfOk, OnOk, MatchResult, length};
 ghost use Rattle.model.specs.Pattern.Patterns as pattern;
 ghost use Rattle.model.specs.Pattern.Code.{basic_code};
 ghost use Rattle.model.specs.Pattern.Stands.{Stands};
@@ -40,8 +40,8 @@ enum Form {
     Code(PatCode),
 }
 
-/// A pattern as a value, which contracts see as its code. A literal, a part that has a count and BREAK of few bytes take no
-/// memory of their own, and clones share code.
+/// A pattern as a value, which contracts see as its code. A literal, a part that has a count and BREAK of few bytes take
+/// no memory of their own, and clones share code.
 pub struct Pattern {
     form: Form,
 }
@@ -184,6 +184,17 @@ impl Pattern {
             Form::Break(text) => Ok(Instr::Do(Basic::Break(Set::once(text)))),
             Form::Code(code) => Err(code),
         }
+    }
+
+    /// Puts its instructions at the end.
+    pub(crate) fn put_in(self, instrs: &mut Vec<Instr>) -> Result<(), AllocError>
+        ensures { OnOk result (code_of instrs.new.items ≡ code_of instrs.old.items ++ self) }
+    {
+        match self.into_instr() {
+            Ok(part) => instrs.push(part)?,
+            Err(code) => code.put_in(instrs)?,
+        }
+        Ok(())
     }
 
     /// Its instructions.
