@@ -20,7 +20,7 @@ use std::marker::Model;
 use std::mem;
 
 /// So much room is more than a list keeps for the next match.
-const MANY: usize = 4096;
+const MANY: usize = 1 << 16;
 
 /// A cursor that OPEN noted, how many choices FOPEN noted, or where the code that EVAL left goes on.
 #[derive(Drop)]

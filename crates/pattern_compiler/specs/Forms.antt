@@ -18,4 +18,5 @@ counted_of (counted.RTab n) = p.RTab n
 abbrev pub form_code : Form → Code
 form_code (form.Lit w) = p.Do (p.Lit w) ∷ []
 form_code (form.Counted k) = p.Do (counted_of k) ∷ []
+form_code (form.Break w) = p.Do (p.Break w) ∷ []
 form_code (form.Code c) = c

@@ -4,6 +4,7 @@ ghost use Rattle.std.specs.Prelude.{◌≡◌, ◌<◌, ◌^◌, ◌++◌, ◌�
 ghost use Rattle.pattern_compiler.specs.View.{instr_of, code_of, shared_code};
 
 use crate::instr::Instr;
+use crate::pattern::Pattern;
 use std::alloc::{AllocError, Global};
 use std::marker::Model;
 use std::rc::Rc;
@@ -87,12 +88,45 @@ impl PatCode {
                 return Ok(code);
             }
         }
-        let mut instrs = code.into_list(alloc, 2)?;
+        code.led_anew(alloc, first)
+    }
+
+    // The same of code that something else shares.
+    #[inline(never)]
+    fn led_anew(self, alloc: Global, first: Instr) -> Result<PatCode, AllocError>
+        ensures { IfOk result (λ code. code ≡ instr_of first ∷ self) }
+    {
+        let mut instrs = self.into_list(alloc, 2)?;
         instrs.insert(0, first)?;
         PatCode::from_list(instrs)
     }
 
+    /// The code and then a pattern, in the same memory where nothing else shares it.
+    pub(crate) fn followed_by(self, alloc: Global, part: Pattern) -> Result<PatCode, AllocError>
+        ensures { IfOk result (λ code. code ≡ self ++ part) }
+    {
+        let mut code = self;
+        if let Some(shared) = &mut code.shared {
+            if let Some(instrs) = Rc::get_mut(shared) {
+                part.put_in(instrs)?;
+                return Ok(code);
+            }
+        }
+        code.followed_anew(alloc, part)
+    }
+
+    // The same of code that something else shares.
+    #[inline(never)]
+    fn followed_anew(self, alloc: Global, part: Pattern) -> Result<PatCode, AllocError>
+        ensures { IfOk result (λ code. code ≡ self ++ part) }
+    {
+        let mut instrs = self.into_list(alloc, part.room())?;
+        part.put_in(&mut instrs)?;
+        PatCode::from_list(instrs)
+    }
+
     /// The code between two instructions, in the same memory where nothing else shares it.
+    #[inline(never)]
     pub(crate) fn between(
         self,
         alloc: Global,

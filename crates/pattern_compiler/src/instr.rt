@@ -119,6 +119,7 @@ impl Drop for Name {
 }
 
 impl Drop for Basic {
+    #[inline(always)]
     fn drop(self) {
         match self {
             Basic::Lit(_) | Basic::Any(_) | Basic::NotAny(_) | Basic::Span(_) | Basic::Break(_) =>
@@ -130,6 +131,7 @@ impl Drop for Basic {
 }
 
 impl Drop for Instr {
+    #[inline(always)]
     fn drop(self) {
         match self {
             Instr::Do(_) => {}

@@ -24,7 +24,7 @@ impl Pattern {
     {
         let code = match left.into_instr() {
             Ok(first) => led(alloc, first, right)?,
-            Err(code) => PatCode::from_list(behind(alloc, code, right)?)?,
+            Err(code) => code.followed_by(alloc, right)?,
         };
         Ok(Pattern::of(code))
     }
@@ -55,14 +55,7 @@ impl Pattern {
             (xs : ℕ → Option Expr) (p : Pat) → Stands xs p part
             → Stands xs (pattern.Arbno p) code) }
     {
-        let mut turn = part.into_list(alloc, 0)?;
-        let past = (turn.as_slice().len() + 2) as i64;
-        let mut instrs = Vec::with_capacity(alloc, turn.as_slice().len() + 3)?;
-        instrs.push(Instr::Split(2))?;
-        instrs.push(Instr::Jmp(past))?;
-        instrs.append(&mut turn)?;
-        instrs.push(Instr::Jmp(-past))?;
-        Ok(Pattern::of(PatCode::from_list(instrs)?))
+        Ok(Pattern::of(repeated(alloc, part)?))
     }
 
     /// The pattern, of which the first end alone is taken.
@@ -96,16 +89,18 @@ impl Pattern {
     }
 }
 
-// A pattern behind code.
-fn behind(alloc: Global, code: PatCode, right: Pattern) -> Result<Vec<Instr>, AllocError>
-    ensures { IfOk result (λ instrs. code_of instrs.items ≡ code ++ right) }
+// The code of a pattern as often as need be.
+fn repeated(alloc: Global, part: Pattern) -> Result<PatCode, AllocError>
+    ensures { IfOk result (λ code. code ≡ arbno_code part) }
 {
-    let mut instrs = code.into_list(alloc, right.room())?;
-    match right.into_instr() {
-        Ok(last) => instrs.push(last)?,
-        Err(others) => others.put_in(&mut instrs)?,
-    }
-    Ok(instrs)
+    let mut turn = part.into_list(alloc, 0)?;
+    let past = (turn.as_slice().len() + 2) as i64;
+    let mut instrs = Vec::with_capacity(alloc, turn.as_slice().len() + 3)?;
+    instrs.push(Instr::Split(2))?;
+    instrs.push(Instr::Jmp(past))?;
+    instrs.append(&mut turn)?;
+    instrs.push(Instr::Jmp(-past))?;
+    PatCode::from_list(instrs)
 }
 
 // An instruction and a pattern behind it.
@@ -124,6 +119,7 @@ fn led(alloc: Global, first: Instr, part: Pattern) -> Result<PatCode, AllocError
 }
 
 // The part between two instructions.
+#[inline(always)]
 fn between(alloc: Global, first: Instr, part: Pattern, last: Instr) -> Result<Pattern, AllocError>
     ensures { IfOk result (λ code. code ≡ instr_of first ∷ (part ++ instr_of last ∷ [])) }
 {

@@ -1,8 +1,8 @@
 //! Pattern code at run time: instructions, code that is shared by its clones, and the joining of codes.
 //!
 //! `PatCode` is the code of a pattern: `lit` and `prim` make that of a part, and `get` gives an instruction by its place.
-//! `Pattern` is a pattern as a value: a literal or a part that has a count in place, or code. `cat`, `alt`, `arbno`,
-//! `fence_of`, `cond` and `imm` join patterns, and copy no code that nothing else shares.
+//! `Pattern` is a pattern as a value: a literal, a part that has a count or BREAK of few bytes in place, or code. `cat`,
+//! `alt`, `arbno`, `fence_of`, `cond` and `imm` join patterns, and copy no code that nothing else shares.
 //! `Set` is a set of bytes: a table that is made once where the pattern is made, and that the clones of its code share.
 //!
 //!     let letters = Pattern::arbno(alloc, Pattern::lit(text))?;

@@ -1,6 +1,6 @@
 //! Patterns as values have them.
 
-ghost use Rattle.std.specs.Prelude.{◌≡◌, ◌<◌, ◌^◌, [], ◌∷◌, ℕ, Option, IfOk, MatchResult, length};
+ghost use Rattle.std.specs.Prelude.{◌≡◌, ◌<◌, ◌^◌, [], ◌∷◌, ◌++◌, ℕ, Option, IfOk, OnOk, MatchResult, length};
 ghost use Rattle.model.specs.Pattern.Patterns as pattern;
 ghost use Rattle.model.specs.Pattern.Code.{basic_code};
 ghost use Rattle.model.specs.Pattern.Stands.{Stands};
@@ -10,6 +10,7 @@ ghost use Rattle.pattern_compiler.specs.View.{basic_of, instr_of, code_of};
 
 use crate::code::PatCode;
 use crate::instr::{Basic, Instr};
+use crate::set::Set;
 use crate::single::one;
 use std::alloc::{AllocError, Global};
 use std::marker::Model;
@@ -34,11 +35,13 @@ enum Form {
     // A literal, which isn't null.
     Lit(Text),
     Counted(Counted),
+    // BREAK of few bytes.
+    Break(Text),
     Code(PatCode),
 }
 
-/// A pattern as a value, which contracts see as its code. A literal and a part that has a count take no memory of their
-/// own, and clones share code.
+/// A pattern as a value, which contracts see as its code. A literal, a part that has a count and BREAK of few bytes take
+/// no memory of their own, and clones share code.
 pub struct Pattern {
     form: Form,
 }
@@ -107,6 +110,20 @@ impl Pattern {
         }
     }
 
+    /// BREAK of these bytes. Up to three take no memory: they are found without a table.
+    pub fn break_of(alloc: Global, text: Text) -> Result<Pattern, AllocError>
+        ensures code { IfOk result (λ code. code ≡ basic_code (pattern.Break text)) }
+        ensures stands { IfOk result (λ code.
+            (xs : ℕ → Option Expr) → Stands xs (pattern.Plain (pattern.Break text)) code) }
+    {
+        if text.len() <= 3 {
+            return Ok(Pattern {
+                form: Form::Break(text),
+            });
+        }
+        Pattern::part(alloc, Basic::Break(Set::of(alloc, text)?))
+    }
+
     /// A part without parts and without effect.
     pub fn part(alloc: Global, part: Basic) -> Result<Pattern, AllocError>
         ensures code { IfOk result (λ code. code ≡ basic_code (basic_of part)) }
@@ -130,6 +147,7 @@ impl Pattern {
         match &self.form {
             Form::Lit(text) => one(alloc, Instr::Do(Basic::Lit(text.clone()?))),
             Form::Counted(part) => one(alloc, Instr::Do(part.basic())),
+            Form::Break(text) => one(alloc, Instr::Do(Basic::Break(Set::once(text.clone()?)))),
             Form::Code(code) => code.clone(),
         }
     }
@@ -149,7 +167,7 @@ impl Pattern {
         ensures { result < 2 ^ 63 }
     {
         match &self.form {
-            Form::Lit(_) | Form::Counted(_) => 1,
+            Form::Lit(_) | Form::Counted(_) | Form::Break(_) => 1,
             Form::Code(code) => code.as_slice().len(),
         }
     }
@@ -163,8 +181,20 @@ impl Pattern {
         match form {
             Form::Lit(text) => Ok(Instr::Do(Basic::Lit(text))),
             Form::Counted(part) => Ok(Instr::Do(part.basic())),
+            Form::Break(text) => Ok(Instr::Do(Basic::Break(Set::once(text)))),
             Form::Code(code) => Err(code),
         }
+    }
+
+    /// Puts its instructions at the end.
+    pub(crate) fn put_in(self, instrs: &mut Vec<Instr>) -> Result<(), AllocError>
+        ensures { OnOk result (code_of instrs.new.items ≡ code_of instrs.old.items ++ self) }
+    {
+        match self.into_instr() {
+            Ok(part) => instrs.push(part)?,
+            Err(code) => code.put_in(instrs)?,
+        }
+        Ok(())
     }
 
     /// Its instructions.
@@ -193,6 +223,7 @@ impl Clone for Pattern {
         let form = match &self.form {
             Form::Lit(text) => Form::Lit(text.clone()?),
             Form::Counted(part) => Form::Counted(*part),
+            Form::Break(text) => Form::Break(text.clone()?),
             Form::Code(code) => Form::Code(code.clone()?),
         };
         Ok(Pattern { form })

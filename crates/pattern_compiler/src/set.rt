@@ -18,10 +18,19 @@ pub struct Set {
 }
 
 impl Drop for Set {
+    #[inline(always)]
     fn drop(self) {
-        let Set { text: _, table: _ } = self;
+        let Set { text: _, table } = self;
+        match table {
+            Some(table) => let_go(table),
+            None => {}
+        }
     }
 }
+
+// The end of a share of a table, apart from sets that have none.
+#[inline(never)]
+fn let_go(_table: Rc<ByteSet>) {}
 
 impl Model for Set {
     ghost use Rattle.std.specs.Prelude.{List, ℕ, ◌≡◌, IfSome};

@@ -237,13 +237,11 @@ impl Text {
         ensures ok { IfOk result (λ all. all ≡ map (replaced from.now to.now) text.now) }
         ensures err { IfErr result (λ fault. fault ≡ StrFault.Memory) }
     {
-        let table = replacements(from, to);
         let old = text.as_slice();
-        let mut bytes = Vec::with_capacity(alloc, old.len())?;
-        for b in old {
-            bytes.push(table[*b as usize])?;
+        if old.len() <= FEW {
+            return Ok(replaced_few(old, from, to));
         }
-        Text::from_vec(bytes)
+        replaced_many(alloc, old, from, to)
     }
 
     /// The decimal digits of an integer, with `-` before those of a negative one.
@@ -399,6 +397,37 @@ fn replacements(from: &[u8], to: &[u8]) -> [u8; 256]
         table[from[k] as usize] = to[k];
     }
     table
+}
+
+// A text of a few bytes, in place of which others stand. Takes no memory.
+fn replaced_few(old: &[u8], from: &[u8], to: &[u8]) -> Text
+    requires few { length old.now ≤ 22 }
+    requires each { length from.now ≡ length to.now }
+    ensures { result ≡ map (replaced from.now to.now) old.now }
+{
+    let table = replacements(from, to);
+    let mut array = [0; FEW];
+    for k in 0..old.len() {
+        array[k] = table[old[k] as usize];
+    }
+    let len = old.len() as u8;
+    Text {
+        bytes: Bytes::Own { len, array },
+    }
+}
+
+// A text of many bytes, in place of which others stand.
+fn replaced_many(alloc: Global, old: &[u8], from: &[u8], to: &[u8]) -> Result<Text, StrFault>
+    requires { length from.now ≡ length to.now }
+    ensures ok { IfOk result (λ all. all ≡ map (replaced from.now to.now) old.now) }
+    ensures err { IfErr result (λ fault. fault ≡ StrFault.Memory) }
+{
+    let table = replacements(from, to);
+    let mut bytes = Vec::with_capacity(alloc, old.len())?;
+    for b in old {
+        bytes.push(table[*b as usize])?;
+    }
+    Text::from_vec(bytes)
 }
 
 // Whether eight bytes of two arrays, those from `at` on, are the same.

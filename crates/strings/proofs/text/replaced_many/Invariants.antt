@@ -1,6 +1,6 @@
 use Rattle.std.proofs.Common.{◌≡◌, take, map}
 use Rattle.model.specs.Language.Strings.{replaced}
-use Rattle.strings.proofs.text.Text.replace.Given as goal
+use Rattle.strings.proofs.text.replaced_many.Given as goal
 
 abbrev pub invariant-loop-b : goal.invariant-loop-b
 invariant-loop-b l = l.bytes.items ≡ map (replaced l.from l.to) (take l.b-index l.old)
