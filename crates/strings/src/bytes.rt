@@ -49,9 +49,9 @@ fn first_run(bytes: &[u8]) -> (u8, u8)
         return (1, 0);
     };
     let mut high = *low;
-    for b in bytes {
-        if high < 255 && *b == high + 1 {
-            high = *b;
+    for byte in bytes {
+        if high < 255 && *byte == high + 1 {
+            high = *byte;
         }
     }
     (*low, high)
