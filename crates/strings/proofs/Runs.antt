@@ -1,5 +1,5 @@
 -- Runs of bytes that pass a test, several at once.
-use Rattle.std.proofs.Common.{◌≡◌, ℕ, ◌+◌, ◌≤◌, List, Bool, true, false, length, drop, get_or, refl, sym, ap, ◌∙◌, arith}
+use Rattle.std.proofs.Common.{◌≡◌, ℕ, zero, suc, ◌+◌, ◌≤◌, ◌<◌, List, Bool, true, false, length, drop, get_or, refl, sym, ap, ◌∙◌, arith}
 use Rattle.std.specs.Prelude.{not, ◌&&◌, ◌||◌, Some, None, nat_lt, if◌then◌else◌}
 use Rattle.std.specs.List.{prefix_len}
 use Rattle.std.proofs.lemmas.Bool.{and_parts}
@@ -30,6 +30,13 @@ run_eight p xs i le h =
     ∙ run_two p xs (i + 4) (i + 5) (i + 6) (omega arith) (omega arith) (omega arith) high.0
     ∙ run_two p xs (i + 2) (i + 3) (i + 4) (omega arith) (omega arith) (omega arith) low.1
     ∙ run_two p xs i (i + 1) (i + 2) refl refl (omega arith) low.0
+
+-- so are many
+pub run_many : (p : ℕ → Bool) (xs : List ℕ) (i n : ℕ) → i + n ≤ length xs → ((k : ℕ) → i ≤ k → k < i + n → p (get_or xs k 0) ≡ true) → run_to p xs (i + n) ≡ run_to p xs i
+run_many p xs i zero le h = ap (run_to p xs) (omega arith)
+run_many p xs i (suc n) le h =
+    run_one p xs (i + n) (i + suc n) (omega arith) le (h (i + n) (omega arith) (omega arith))
+    ∙ run_many p xs i n (omega (arith, le)) (λ k l m. h k l (omega (arith, m)))
 
 not_or : (a b : Bool) → not (a || b) ≡ (not a && not b)
 not_or true b = refl

@@ -1,10 +1,12 @@
 //! Functions of byte strings, and sets of bytes.
 
-ghost use Rattle.std.specs.Prelude.{◌≡◌, ◌≤◌, ◌+◌, length, SomeIff, true, false};
+ghost use Rattle.std.specs.Prelude.{◌≡◌, ◌≤◌, ◌<◌, ◌+◌, ◌==◌, ℕ, length, get_or, SomeIff, true, false};
+ghost use Rattle.std.specs.List.{list_any};
 ghost use Rattle.std.specs.Str.Parse.{signed_digits_value};
 ghost use Rattle.model.specs.Language.Strings.{IsIntText, trimmed, span_to, break_to, flags_of, has};
 
 use std::marker::Model;
+use std::simd::prelude::*;
 use std::str;
 
 /// The bytes without the blanks at their end.
@@ -22,16 +24,37 @@ pub fn trim_end(bytes: &[u8]) -> &[u8]
 #[derive(Drop)]
 pub struct ByteSet {
     flags: [bool; 256],
+    // All bytes between these two are in the set; none lies there where the first is above the second.
+    low: u8,
+    high: u8,
 }
 
 impl Model for ByteSet {
-    ghost use Rattle.std.specs.Prelude.{List, Bool, length, ◌≡◌};
+    ghost use Rattle.std.specs.Prelude.{List, Bool, length, ◌≡◌, ◌≤◌, ℕ, true};
+    ghost use Rattle.model.specs.Language.Strings.{has};
 
     ghost Value = { List Bool };
 
     ghost view = { λ s. s.flags };
 
-    ghost invariant = { λ s. length s.flags ≡ 256 };
+    ghost invariant = { λ s. (length s.flags ≡ 256)
+        × ((b : ℕ) → s.low ≤ b → b ≤ s.high → has s.flags b ≡ true) };
+}
+
+// The first of some bytes, and the last of those that follow it one by one; 1 and 0 where there is none.
+fn first_run(bytes: &[u8]) -> (u8, u8)
+    ensures { (b : ℕ) → result.0 ≤ b → b ≤ result.1 → list_any (λ x. x == b) bytes.now ≡ true }
+{
+    let [low, ..] = bytes else {
+        return (1, 0);
+    };
+    let mut high = *low;
+    for byte in bytes {
+        if high < 255 && *byte == high + 1 {
+            high = *byte;
+        }
+    }
+    (*low, high)
 }
 
 impl ByteSet {
@@ -43,7 +66,8 @@ impl ByteSet {
         for b in bytes {
             flags[*b as usize] = true;
         }
-        ByteSet { flags }
+        let (low, high) = first_run(bytes);
+        ByteSet { flags, low, high }
     }
 
     /// Whether a byte is in the set.
@@ -57,6 +81,9 @@ impl ByteSet {
 // How many bytes a scan looks at in one turn.
 const LANES: usize = 8;
 
+// How many it compares with the ends of a range in one turn.
+const WIDE: usize = 16;
+
 // Whether the eight bytes from `at` on are all in the set.
 #[inline(always)]
 fn spans_eight(bytes: &[u8], at: usize, set: &ByteSet) -> bool
@@ -69,6 +96,35 @@ fn spans_eight(bytes: &[u8], at: usize, set: &ByteSet) -> bool
     let third = flags[bytes[at + 4] as usize] & flags[bytes[at + 5] as usize];
     let fourth = flags[bytes[at + 6] as usize] & flags[bytes[at + 7] as usize];
     (first & second) & (third & fourth)
+}
+
+// Whether none of the sixteen bytes from `at` on is below another.
+#[inline(always)]
+fn none_below(bytes: &[u8], at: usize, low: u8) -> bool
+    requires { at + 16 ≤ length bytes.now }
+    ensures { result ≡ true → (k : ℕ) → at ≤ k → k < at + 16 → low ≤ get_or bytes.now k 0 }
+{
+    let next = u8x16::from_slice(&bytes[at..]);
+    next.simd_lt(u8x16::splat(low)).to_bitmask() == 0
+}
+
+// Whether none of the sixteen bytes from `at` on is above another.
+#[inline(always)]
+fn none_above(bytes: &[u8], at: usize, high: u8) -> bool
+    requires { at + 16 ≤ length bytes.now }
+    ensures { result ≡ true → (k : ℕ) → at ≤ k → k < at + 16 → get_or bytes.now k 0 ≤ high }
+{
+    let next = u8x16::from_slice(&bytes[at..]);
+    next.simd_gt(u8x16::splat(high)).to_bitmask() == 0
+}
+
+// Whether the sixteen bytes from `at` on are all in the range of the set.
+#[inline(always)]
+fn spans_wide(bytes: &[u8], at: usize, set: &ByteSet) -> bool
+    requires { at + 16 ≤ length bytes.now }
+    ensures { result ≡ true → span_to bytes.now (at + 16) set.now ≡ span_to bytes.now at set.now }
+{
+    none_below(bytes, at, set.low) & none_above(bytes, at, set.high)
 }
 
 // Whether one of the eight bytes from `at` on is in the set.
@@ -91,6 +147,9 @@ pub fn span_end(bytes: &[u8], at: usize, set: &ByteSet) -> usize
     ensures { result ≡ span_to bytes.now at set.now }
 {
     let mut end = at;
+    while bytes.len() - end >= WIDE && spans_wide(bytes, end, set) {
+        end += WIDE;
+    }
     while bytes.len() - end >= LANES && spans_eight(bytes, end, set) {
         end += LANES;
     }
