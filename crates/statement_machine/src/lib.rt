@@ -24,6 +24,7 @@ mod joined;
 mod joined_calls;
 mod joined_elements;
 mod joined_ends;
+mod joined_given;
 mod joined_items;
 mod joined_tests;
 mod joined_texts;
