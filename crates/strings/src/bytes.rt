@@ -141,14 +141,29 @@ fn breaks_eight(bytes: &[u8], at: usize, set: &ByteSet) -> bool
     (first | second) | (third | fourth)
 }
 
+// Past bytes of the set's range, as many as go in wide turns.
+#[inline(always)]
+fn wide_end(bytes: &[u8], at: usize, set: &ByteSet) -> usize
+    requires { at ≤ length bytes.now }
+    ensures on { at ≤ result }
+    ensures within { result ≤ length bytes.now }
+    ensures same { span_to bytes.now result set.now ≡ span_to bytes.now at set.now }
+{
+    let mut end = at;
+    while bytes.len() - end >= WIDE && spans_wide(bytes, end, set) {
+        end += WIDE;
+    }
+    end
+}
+
 /// Where the longest run of bytes of the set ends that begins at `at`; `at` itself if the next byte isn't in the set.
 pub fn span_end(bytes: &[u8], at: usize, set: &ByteSet) -> usize
     requires { at ≤ length bytes.now }
     ensures { result ≡ span_to bytes.now at set.now }
 {
     let mut end = at;
-    while bytes.len() - end >= WIDE && spans_wide(bytes, end, set) {
-        end += WIDE;
+    if bytes.len() - end >= LANES && spans_eight(bytes, end, set) {
+        end = wide_end(bytes, end + LANES, set);
     }
     while bytes.len() - end >= LANES && spans_eight(bytes, end, set) {
         end += LANES;
