@@ -20,6 +20,7 @@ mod ends;
 mod event;
 mod matcher;
 mod run;
+mod search;
 mod starts;
 mod state;
 mod step;

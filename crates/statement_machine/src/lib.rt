@@ -30,6 +30,7 @@ mod joined_tests;
 mod joined_texts;
 mod machine;
 mod matches;
+mod numerals;
 mod operators;
 mod patterns;
 mod predicates;
