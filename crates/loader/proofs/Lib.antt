@@ -2,9 +2,11 @@ pub mod Judging
 pub mod Labelling
 pub mod Numbers
 pub mod Coding
+pub mod Forming
 pub mod Fetching
 pub mod Scanning
 pub mod Searching
 pub mod Sizes
 pub mod Spelt
+pub mod Standing
 pub mod Placing

@@ -4,3 +4,4 @@ pub mod Parts
 pub mod Labels
 pub mod Loaded
 pub mod Answers
+pub mod Forms

@@ -13,6 +13,7 @@
 
 mod code;
 mod decoding;
+mod forms;
 mod instrs;
 mod joining;
 mod labels;
@@ -24,5 +25,6 @@ mod places;
 mod tables;
 
 pub use decoding::Decoded;
+pub use forms::{Amount, Comparison, Form, Known, Place, Term, compares};
 pub use loading::{load, load_v1};
 pub use module::Module;

@@ -7,6 +7,7 @@ pub mod Deciding
 pub mod Evaluations
 pub mod Fetching
 pub mod Flowing
+pub mod Wholes
 pub mod Going
 pub mod Indexing
 pub mod Joining
