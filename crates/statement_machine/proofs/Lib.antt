@@ -9,7 +9,6 @@ pub mod Fetching
 pub mod Flowing
 pub mod Wholes
 pub mod Going
-pub mod Indexing
 pub mod Joining
 pub mod Keys
 pub mod Operations
@@ -25,5 +24,4 @@ pub mod Printing
 pub mod Tests
 pub mod Placed
 pub mod Reckoning
-pub mod Assigning
 pub mod Weighing

@@ -8,6 +8,5 @@ pub mod Resuming
 pub use Rattle.world.specs.Answers
 pub mod Elements
 pub mod Forms
-pub mod Items
 pub mod Joined
 pub mod Sums

@@ -12,7 +12,6 @@
 #![tactic(auto)]
 
 mod alone;
-mod assigned;
 mod callers;
 mod calls;
 mod destinations;
@@ -26,13 +25,10 @@ mod joined;
 mod joined_calls;
 mod joined_elements;
 mod joined_ends;
-mod joined_given;
-mod joined_items;
 mod joined_tests;
 mod joined_texts;
 mod machine;
 mod matches;
-mod numerals;
 mod operators;
 mod patterns;
 mod predicates;
