@@ -96,26 +96,86 @@ impl Trail {
         self.choices.is_empty()
     }
 
+    /// Whether there is no note, no pending assignment and no choice.
+    #[inline(always)]
+    fn is_bare(&self) -> bool
+        ensures { result ≡ true
+            → self.now ≡ record { code = self.now.code; notes = []; pending = []; backs = [] } }
+    {
+        self.log.is_empty()
+            && self.pending.is_empty()
+            && self.codes.is_empty()
+            && self.choices.is_empty()
+    }
+
+    /// Without notes, pending assignments and choices.
+    #[inline(always)]
+    fn strip(&mut self)
+        ensures { self.new ≡ record { code = self.old.code; notes = []; pending = []; backs = [] } }
+    {
+        if !self.is_bare() {
+            self.empty_lists();
+        }
+    }
+
+    /// The same, where there are some. Apart, so that the other way is short.
+    #[inline(never)]
+    fn empty_lists(&mut self)
+        ensures { self.new ≡ record { code = self.old.code; notes = []; pending = []; backs = [] } }
+    {
+        self.stored = false;
+        self.head = 0;
+        self.choices.clear();
+        self.codes.clear();
+        self.log.clear();
+        self.pending.clear();
+    }
+
+    /// Whether a list has more room than it keeps for the next match.
+    #[inline(always)]
+    fn is_long(&self) -> bool {
+        let shorter = self.choices.capacity() | self.codes.capacity();
+        let longer = self.log.capacity() | self.pending.capacity();
+        shorter | longer > MANY
+    }
+
     /// The first attempt of a start.
+    #[inline(always)]
     pub fn begin(&mut self, code: &PatCode) -> Result<(), AllocError>
         ensures { OnOk result
             (self.new ≡ record { code = code.now; notes = []; pending = []; backs = [] }) }
     {
+        self.strip();
         self.code = code.clone()?;
         self.stored = false;
-        self.choices.clear();
-        self.codes.clear();
-        self.head = 0;
-        self.log.clear();
-        self.pending.clear();
         Ok(())
     }
 
     /// Nothing again. The memory of its lists stays for others, but for that of long ones.
+    #[inline(always)]
     pub fn clear(&mut self, alloc: Global)
         ensures { self.new ≡ record { code = []; notes = []; pending = []; backs = [] } }
     {
+        self.release(alloc);
         self.code = PatCode::null();
+        self.stored = false;
+    }
+
+    /// Without notes, pending assignments and choices, and without the memory of long lists.
+    #[inline(always)]
+    fn release(&mut self, alloc: Global)
+        ensures { self.new ≡ record { code = self.old.code; notes = []; pending = []; backs = [] } }
+    {
+        if self.is_long() || !self.is_bare() {
+            self.release_lists(alloc);
+        }
+    }
+
+    /// The same, where there are some or long lists. Apart, so that the other way is short.
+    #[inline(never)]
+    fn release_lists(&mut self, alloc: Global)
+        ensures { self.new ≡ record { code = self.old.code; notes = []; pending = []; backs = [] } }
+    {
         self.stored = false;
         self.head = 0;
         empty(alloc, &mut self.choices);
