@@ -134,6 +134,7 @@ pub fn keep(run: &mut Run, kept: Kept) -> Result<(), AllocError>
 }
 
 /// The text between two places.
+#[inline(always)]
 pub fn between(subject: &Text, from: usize, to: usize) -> Result<Text, AllocError>
     requires { to ≤ length subject.now }
     ensures { IfOk result (λ text. text ≡ between_of subject.now from to) }

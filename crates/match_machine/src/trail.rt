@@ -156,32 +156,19 @@ impl Trail {
     pub fn clear(&mut self, alloc: Global)
         ensures { self.new ≡ record { code = []; notes = []; pending = []; backs = [] } }
     {
-        self.release(alloc);
+        if self.is_long() {
+            self.shorten(alloc);
+        }
+        self.strip();
         self.code = PatCode::null();
         self.stored = false;
     }
 
-    /// Without notes, pending assignments and choices, and without the memory of long lists.
-    #[inline(always)]
-    fn release(&mut self, alloc: Global)
-        ensures { self.new ≡ record { code = self.old.code; notes = []; pending = []; backs = [] } }
-    {
-        if self.is_long() || !self.is_bare() {
-            self.release_lists(alloc);
-        }
-    }
-
-    /// The same, where there are some or long lists. Apart, so that the other way is short.
+    /// Lets go of long lists.
+    #[cold]
     #[inline(never)]
-    fn release_lists(&mut self, alloc: Global)
-        ensures { self.new ≡ record { code = self.old.code; notes = []; pending = []; backs = [] } }
-    {
-        self.stored = false;
-        self.head = 0;
-        empty(alloc, &mut self.choices);
-        empty(alloc, &mut self.codes);
-        empty(alloc, &mut self.log);
-        empty(alloc, &mut self.pending);
+    fn shorten(&mut self, alloc: Global) {
+        *self = Trail::new(alloc);
     }
 
     /// Adds a note.
@@ -283,7 +270,25 @@ impl Trail {
     }
 
     /// A pending assignment more.
+    #[inline(always)]
     pub fn assign(&mut self, assignment: Assignment) -> Result<(), AllocError>
+        ensures { OnOk result
+            (self.new ≡ record self.old {
+              pending = self.old.pending
+                  ++ assigned assignment ∷ [];
+            }) }
+    {
+        if self.pending.len() >= self.pending.capacity() {
+            return self.assign_growing(assignment);
+        }
+        self.pending.push_reserved(assignment);
+        Ok(())
+    }
+
+    /// The same, where the assignments have no room. Apart, so that the other way is short.
+    #[cold]
+    #[inline(never)]
+    fn assign_growing(&mut self, assignment: Assignment) -> Result<(), AllocError>
         ensures { OnOk result
             (self.new ≡ record self.old {
               pending = self.old.pending
@@ -468,18 +473,6 @@ impl Trail {
             }
             None => Ok(None),
         }
-    }
-}
-
-/// A list without its items, of which the memory stays unless there was room for many.
-#[inline(always)]
-fn empty<T: Drop>(alloc: Global, list: &mut Vec<T>)
-    ensures { list.new.items ≡ [] }
-{
-    if list.capacity() > MANY {
-        *list = Vec::new(alloc);
-    } else {
-        list.clear();
     }
 }
 
