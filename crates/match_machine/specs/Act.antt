@@ -1,5 +1,6 @@
 -- What an instruction does, in the definitions.
-use Rattle.std.specs.Prelude.{ℕ, ◌+◌, List, Option, Some}
+use Rattle.std.specs.Prelude.{ℕ, ◌+◌, List, Option, Some, Bool, true, false}
+use Rattle.model.specs.Deck.Target as target
 use Rattle.model.specs.Pattern.Patterns as p
 use Rattle.model.specs.Pattern.Steps as s
 use Rattle.model.specs.Pattern.Steps.{onward, Moves}
@@ -22,10 +23,13 @@ act_of u t act.OpensFence = s.pattern_act u (Some p.OpenFence) t
 act_of u t act.ClosesFence = s.pattern_act u (Some p.CloseFence) t
 
 abbrev pub named_of : List ℕ → s.Thread → Named → s.Act
-named_of u t (named.Closes x) = s.pattern_act u (Some (p.Close (name_of x))) t
-named_of u t (named.Says x) = s.pattern_act u (Some (p.Say (name_of x))) t
 named_of u t (named.Tells x) = s.pattern_act u (Some (p.AtCursor (name_of x))) t
 named_of u t (named.Asks w) = s.Asking (waiting_of w) t
+
+-- an assignment of what stands since OPEN, at once or after the match
+abbrev pub assigning : Bool → target.Name → p.Instr
+assigning true x = p.Say x
+assigning false x = p.Close x
 
 -- an instruction with a name or an expression
 abbrev pub IsNamed : Option p.Instr → Type 0
@@ -35,3 +39,15 @@ IsNamed (Some (p.AtCursor x)) = Unit {0}
 IsNamed (Some (p.Eval e)) = Unit {0}
 IsNamed (Some (p.EvalBasic k e)) = Unit {0}
 IsNamed _ = ⊥
+
+-- one that assigns the cursor, or asks for an argument
+abbrev pub IsRare : Option p.Instr → Type 0
+IsRare (Some (p.AtCursor x)) = Unit {0}
+IsRare (Some (p.EvalBasic k e)) = Unit {0}
+IsRare _ = ⊥
+
+-- a part that has one end at most from each place
+abbrev pub HasOneEnd : p.Basic → Type 0
+HasOneEnd p.Arb = ⊥
+HasOneEnd p.Bal = ⊥
+HasOneEnd _ = Unit {0}

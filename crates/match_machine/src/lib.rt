@@ -18,6 +18,7 @@ mod arbs;
 mod choice;
 mod ends;
 mod event;
+mod glide;
 mod matcher;
 mod run;
 mod search;

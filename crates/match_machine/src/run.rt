@@ -54,6 +54,21 @@ fn onward_past(run: &mut Run, place: usize, cursor: usize) -> Result<(), AllocEr
     ensures state { OnOk result ((u : List ℕ) → state_of u run.new ≡ gone u run.old place cursor) }
     ensures places { SamePlaces run.old run.new }
 {
+    if place >= run.thread.trail.code().len() && !run.thread.trail.is_inside() {
+        run.thread.place = place;
+        run.thread.cursor = cursor;
+        run.mode = Mode::Matched;
+        return Ok(());
+    }
+    onward_out(run, place, cursor)
+}
+
+/// The same, where entered patterns may have to be left. Apart, so that the end of the match is short.
+#[inline(never)]
+fn onward_out(run: &mut Run, place: usize, cursor: usize) -> Result<(), AllocError>
+    ensures state { OnOk result ((u : List ℕ) → state_of u run.new ≡ gone u run.old place cursor) }
+    ensures places { SamePlaces run.old run.new }
+{
     move_on(&mut run.thread, place, cursor)?;
     run.mode = if run.thread.place < run.thread.trail.code().len() {
         Mode::Going
@@ -119,6 +134,7 @@ pub fn keep(run: &mut Run, kept: Kept) -> Result<(), AllocError>
 }
 
 /// The text between two places.
+#[inline(always)]
 pub fn between(subject: &Text, from: usize, to: usize) -> Result<Text, AllocError>
     requires { to ≤ length subject.now }
     ensures { IfOk result (λ text. text ≡ between_of subject.now from to) }

@@ -96,32 +96,79 @@ impl Trail {
         self.choices.is_empty()
     }
 
+    /// Whether there is no note, no pending assignment and no choice.
+    #[inline(always)]
+    fn is_bare(&self) -> bool
+        ensures { result ≡ true
+            → self.now ≡ record { code = self.now.code; notes = []; pending = []; backs = [] } }
+    {
+        self.log.is_empty()
+            && self.pending.is_empty()
+            && self.codes.is_empty()
+            && self.choices.is_empty()
+    }
+
+    /// Without notes, pending assignments and choices.
+    #[inline(always)]
+    fn strip(&mut self)
+        ensures { self.new ≡ record { code = self.old.code; notes = []; pending = []; backs = [] } }
+    {
+        if !self.is_bare() {
+            self.empty_lists();
+        }
+    }
+
+    /// The same, where there are some. Apart, so that the other way is short.
+    #[inline(never)]
+    fn empty_lists(&mut self)
+        ensures { self.new ≡ record { code = self.old.code; notes = []; pending = []; backs = [] } }
+    {
+        self.stored = false;
+        self.head = 0;
+        self.choices.clear();
+        self.codes.clear();
+        self.log.clear();
+        self.pending.clear();
+    }
+
+    /// Whether a list has more room than it keeps for the next match.
+    #[inline(always)]
+    fn is_long(&self) -> bool {
+        let shorter = self.choices.capacity() | self.codes.capacity();
+        let longer = self.log.capacity() | self.pending.capacity();
+        shorter | longer > MANY
+    }
+
     /// The first attempt of a start.
+    #[inline(always)]
     pub fn begin(&mut self, code: &PatCode) -> Result<(), AllocError>
         ensures { OnOk result
             (self.new ≡ record { code = code.now; notes = []; pending = []; backs = [] }) }
     {
+        self.strip();
         self.code = code.clone()?;
         self.stored = false;
-        self.choices.clear();
-        self.codes.clear();
-        self.head = 0;
-        self.log.clear();
-        self.pending.clear();
         Ok(())
     }
 
     /// Nothing again. The memory of its lists stays for others, but for that of long ones.
+    #[inline(always)]
     pub fn clear(&mut self, alloc: Global)
         ensures { self.new ≡ record { code = []; notes = []; pending = []; backs = [] } }
     {
+        if self.is_long() {
+            self.shorten(alloc);
+        }
+        self.strip();
         self.code = PatCode::null();
         self.stored = false;
-        self.head = 0;
-        empty(alloc, &mut self.choices);
-        empty(alloc, &mut self.codes);
-        empty(alloc, &mut self.log);
-        empty(alloc, &mut self.pending);
+    }
+
+    /// Lets go of long lists.
+    #[cold]
+    #[inline(never)]
+    fn shorten(&mut self, alloc: Global) {
+        *self = Trail::new(alloc);
     }
 
     /// Adds a note.
@@ -223,7 +270,25 @@ impl Trail {
     }
 
     /// A pending assignment more.
+    #[inline(always)]
     pub fn assign(&mut self, assignment: Assignment) -> Result<(), AllocError>
+        ensures { OnOk result
+            (self.new ≡ record self.old {
+              pending = self.old.pending
+                  ++ assigned assignment ∷ [];
+            }) }
+    {
+        if self.pending.len() >= self.pending.capacity() {
+            return self.assign_growing(assignment);
+        }
+        self.pending.push_reserved(assignment);
+        Ok(())
+    }
+
+    /// The same, where the assignments have no room. Apart, so that the other way is short.
+    #[cold]
+    #[inline(never)]
+    fn assign_growing(&mut self, assignment: Assignment) -> Result<(), AllocError>
         ensures { OnOk result
             (self.new ≡ record self.old {
               pending = self.old.pending
@@ -408,18 +473,6 @@ impl Trail {
             }
             None => Ok(None),
         }
-    }
-}
-
-/// A list without its items, of which the memory stays unless there was room for many.
-#[inline(always)]
-fn empty<T: Drop>(alloc: Global, list: &mut Vec<T>)
-    ensures { list.new.items ≡ [] }
-{
-    if list.capacity() > MANY {
-        *list = Vec::new(alloc);
-    } else {
-        list.clear();
     }
 }
 

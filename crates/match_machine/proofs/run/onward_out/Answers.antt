@@ -3,8 +3,8 @@ use Rattle.match_machine.specs.Standing.{Back}
 use Rattle.match_machine.specs.View.{thread_of, choices_of}
 use Rattle.match_machine.proofs.Moves.{go_within, go_past}
 use Rattle.model.specs.Pattern.Steps as s
-use Rattle.match_machine.proofs.run.onward_past.Goals as goal
-use Rattle.match_machine.proofs.run.onward_past.Goals.{then-run-len, else-run-len}
+use Rattle.match_machine.proofs.run.onward_out.Goals as goal
+use Rattle.match_machine.proofs.run.onward_out.Goals.{then-run-len, else-run-len}
 
 pub returns-clause-state : goal.returns-clause-state
 returns-clause-state c u =
