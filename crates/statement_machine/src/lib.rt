@@ -39,6 +39,7 @@ mod state;
 mod status;
 mod sums;
 mod terms;
+mod texts;
 mod variables;
 
 pub use machine::{Machine, run_from_entry};
