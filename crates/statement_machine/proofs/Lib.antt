@@ -26,3 +26,4 @@ pub mod Placed
 pub mod Reckoning
 pub mod Weighing
 pub mod Concatenating
+pub mod Constantly

@@ -10,3 +10,4 @@ pub mod Elements
 pub mod Forms
 pub mod Joined
 pub mod Sums
+pub mod Constants

@@ -13,6 +13,7 @@ ghost use Rattle.statement_machine.specs.Stopped.{IfRan, IfStop, ending_of, stat
 ghost use Rattle.unit_io.specs.Service.{Served};
 ghost use Rattle.statement_machine.specs.declared.status.Halt.{Halt as RustHalt};
 
+use crate::program::Program;
 use crate::run::Run;
 use crate::status::Halt;
 use loader::Module;
@@ -24,7 +25,7 @@ use unit_io::Units;
 /// A run of a module.
 #[derive(Drop)]
 pub struct Machine<'m, 'a> {
-    program: &'m Module<'a>,
+    program: Program<'m, 'a>,
     run: Run,
     halt: Option<Halt>,
 }
@@ -35,10 +36,10 @@ impl<'m, 'a> Model for Machine<'m, 'a> {
 
     ghost Value = { MachineView };
 
-    ghost view = { λ m. record { image = m.program.now; run = m.run; halt = m.halt } };
+    ghost view = { λ m. record { image = m.program; run = m.run; halt = m.halt } };
 
     ghost invariant = { λ m.
-        IsRunnable m.program.now × IsGoing m.halt (LacksNothing m.program.now m.run) };
+        IsRunnable m.program × IsGoing m.halt (LacksNothing m.program m.run) };
 }
 
 impl<'m, 'a> Machine<'m, 'a> {
@@ -53,6 +54,7 @@ impl<'m, 'a> Machine<'m, 'a> {
         let place = program.start();
         let mut run = Run::new(alloc, program.level(), place)?;
         run.state.enter_variables(program)?;
+        let program = Program::new(alloc, program)?;
         Ok(Machine {
             program,
             run,
@@ -77,7 +79,7 @@ impl<'m, 'a> Machine<'m, 'a> {
         if let Some(halt) = self.halt {
             return halt.status();
         }
-        match self.run.make_steps(self.program, units, bound) {
+        match self.run.make_steps(&self.program, units, bound) {
             Ok(()) => Status::Running,
             Err(halt) => {
                 self.halt = Some(halt);
