@@ -9,6 +9,7 @@
 //! `integers_hold` is the same of two integers.
 //!
 //! `call_one(alloc, id, value)` is a call with one argument of one that makes a part of a pattern, of SIZE or of TRIM.
+//! `replace_strings(alloc, value, from, to)` is a call of REPLACE with three strings.
 //!
 //! Promised: each is its row of the table, `prim_op` of `model`; a call that gives an error or stops changes nothing.
 //! CALLING.md says how another primitive is added.
@@ -25,6 +26,7 @@ mod predicates;
 mod units;
 
 pub use call::call_prim;
+pub use functions::replace_strings;
 pub use outcome::Outcome;
 pub use patterns::call_one;
 pub use predicates::{holds, integers_hold, is_test};
