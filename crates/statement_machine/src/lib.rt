@@ -34,7 +34,6 @@ mod matches;
 mod operators;
 mod patterns;
 mod predicates;
-mod program;
 mod resuming;
 mod run;
 mod slots;

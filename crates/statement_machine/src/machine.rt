@@ -13,7 +13,7 @@ ghost use Rattle.statement_machine.specs.Stopped.{IfRan, IfStop, ending_of, stat
 ghost use Rattle.unit_io.specs.Service.{Served};
 ghost use Rattle.statement_machine.specs.declared.status.Halt.{Halt as RustHalt};
 
-use crate::program::Program;
+use crate::constants::{Constant, constants_of};
 use crate::run::Run;
 use crate::status::Halt;
 use loader::Module;
@@ -25,21 +25,25 @@ use unit_io::Units;
 /// A run of a module.
 #[derive(Drop)]
 pub struct Machine<'m, 'a> {
-    program: Program<'m, 'a>,
+    program: &'m Module<'a>,
+    // The patterns that its code always makes.
+    constants: Vec<Option<Box<Constant>>>,
     run: Run,
     halt: Option<Halt>,
 }
 
 impl<'m, 'a> Model for Machine<'m, 'a> {
+    ghost use Rattle.statement_machine.specs.Constants.{AreConstants};
     ghost use Rattle.statement_machine.specs.Runnable.{IsRunnable};
     ghost use Rattle.statement_machine.specs.Runs.{MachineView, IsGoing, LacksNothing};
 
     ghost Value = { MachineView };
 
-    ghost view = { λ m. record { image = m.program; run = m.run; halt = m.halt } };
+    ghost view = { λ m. record { image = m.program.now; run = m.run; halt = m.halt } };
 
     ghost invariant = { λ m.
-        IsRunnable m.program × IsGoing m.halt (LacksNothing m.program m.run) };
+        IsRunnable m.program.now × IsGoing m.halt (LacksNothing m.program.now m.run)
+        × AreConstants m.program.now m.constants.items };
 }
 
 impl<'m, 'a> Machine<'m, 'a> {
@@ -54,9 +58,10 @@ impl<'m, 'a> Machine<'m, 'a> {
         let place = program.start();
         let mut run = Run::new(alloc, program.level(), place)?;
         run.state.enter_variables(program)?;
-        let program = Program::new(alloc, program)?;
+        let constants = constants_of(alloc, program)?;
         Ok(Machine {
             program,
+            constants,
             run,
             halt: None,
         })
@@ -79,7 +84,8 @@ impl<'m, 'a> Machine<'m, 'a> {
         if let Some(halt) = self.halt {
             return halt.status();
         }
-        match self.run.make_steps(&self.program, units, bound) {
+        let constants = self.constants.as_slice();
+        match self.run.make_steps(self.program, constants, units, bound) {
             Ok(()) => Status::Running,
             Err(halt) => {
                 self.halt = Some(halt);
