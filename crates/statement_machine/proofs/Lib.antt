@@ -1,5 +1,6 @@
 pub mod Seeking
 pub mod Singly
+pub mod Sought
 pub mod Beginning
 pub mod Called
 pub mod Calling

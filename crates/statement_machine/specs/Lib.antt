@@ -9,4 +9,5 @@ pub use Rattle.world.specs.Answers
 pub mod Elements
 pub mod Forms
 pub mod Joined
+pub mod Sought
 pub mod Sums
