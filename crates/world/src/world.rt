@@ -365,6 +365,18 @@ impl World {
             → assign_op name (value_of value) (world_of self.old io)
             ≡ Gives (record {}) (world_of self.new io) }
     {
+        self.set_plain_first(slot, value)
+    }
+
+    /// The same, before others are given values: what writes to no unit writes to none after it.
+    #[inline(always)]
+    pub fn set_plain_first(&mut self, slot: u32, value: Value)
+        ensures set { (name : target.Name) → IsPlain name slot self.old → (io : Io)
+            → assign_op name (value_of value) (world_of self.old io)
+            ≡ Gives (record {}) (world_of self.new io) }
+        ensures others { (name other : target.Name) (at : ℕ) → IsPlain name slot self.old
+            → IsPlain other at self.old → IsPlain other at self.new }
+    {
         let Some(variable) = self.variables.get_index_mut(slot as usize) else {
             return;
         };
