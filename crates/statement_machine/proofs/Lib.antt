@@ -25,3 +25,4 @@ pub mod Tests
 pub mod Placed
 pub mod Reckoning
 pub mod Weighing
+pub mod Entering

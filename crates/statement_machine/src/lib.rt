@@ -16,6 +16,7 @@ mod callers;
 mod calls;
 mod destinations;
 mod elements;
+mod entries;
 mod evaluating;
 mod failing;
 mod forms;
