@@ -1,6 +1,6 @@
 //! The literal of the text that last answered a match.
 
-ghost use Rattle.std.specs.Prelude.{◌≡◌, IfOk};
+ghost use Rattle.std.specs.Prelude.{◌≡◌, [], true, IfOk};
 ghost use Rattle.model.specs.Pattern.Code.{basic_code};
 ghost use Rattle.model.specs.Pattern.Patterns as pattern;
 
@@ -35,6 +35,14 @@ impl Literal {
             text: Text::null(),
             code: PatCode::null(),
         }
+    }
+
+    /// Whether it is that of the null text, which holds no memory.
+    #[inline(always)]
+    pub(crate) fn is_null(&self) -> bool
+        ensures { result ≡ true → self.now ≡ [] }
+    {
+        self.text.is_empty()
     }
 
     /// The code of a text's literal, which stays for the next text.

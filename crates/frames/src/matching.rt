@@ -138,7 +138,9 @@ impl Matching {
         } }
     {
         let held = &mut *self.held;
-        held.literal = Literal::null();
+        if !held.literal.is_null() {
+            held.literal = Literal::null();
+        }
         held.matcher.finish()
     }
 
