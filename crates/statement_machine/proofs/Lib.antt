@@ -8,6 +8,7 @@ pub mod Evaluations
 pub mod Fetching
 pub mod Flowing
 pub mod Wholes
+pub mod Sought
 pub mod Going
 pub mod Joining
 pub mod Keys

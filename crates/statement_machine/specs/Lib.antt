@@ -11,3 +11,4 @@ pub mod Forms
 pub mod Joined
 pub mod Sums
 pub mod Constants
+pub mod Sought

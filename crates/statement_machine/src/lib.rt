@@ -36,6 +36,7 @@ mod patterns;
 mod predicates;
 mod resuming;
 mod run;
+mod searches;
 mod slots;
 mod state;
 mod status;

@@ -33,7 +33,7 @@ use world::{Fault, NO_SLOT, Value, World};
 
 // The number of a name among those that matches assign to. Few share one.
 #[inline(always)]
-fn number_of(name: &Text) -> u32 {
+pub(crate) fn number_of(name: &Text) -> u32 {
     let bytes = name.as_slice();
     let (Some(first), Some(last)) = (bytes.first(), bytes.last()) else {
         return 0;

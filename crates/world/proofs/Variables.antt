@@ -1,13 +1,15 @@
 -- A world whose variables were changed at one name.
-use Rattle.std.proofs.Common.{◌≡◌, ℕ, List, [], ◌∷◌, ◌++◌, length, map, Bool, true, false, cond, Option, Some, None, option_map, position, Result, Ok, Err, refl, sym, ap, ◌∙◌, is_some, bytes_eq, slice_get, get_or}
+use Rattle.std.proofs.Common.{◌≡◌, ℕ, List, [], ◌∷◌, ◌++◌, length, map, Bool, true, false, cond, Option, Some, None, option_map, position, Result, Ok, Err, refl, sym, ap, subst, ◌∙◌, is_some, bytes_eq, slice_get, get_or}
 use Rattle.std.specs.Prelude.{IfSome, OnOk, if◌then◌else◌}
+use Rattle.std.specs.List.{IsDistinct}
 use Rattle.std.proofs.lemmas.Slice.Eq.{bytes_eq-Decides}
 use Rattle.std.proofs.lemmas.List.Quantifiers.{position-Some}
+use Rattle.std.proofs.lemmas.Map.Entries.{lookup_from_place}
 use Rattle.std.proofs.lemmas.Option.{slice_get-map, slice_get-get_or}
 use Rattle.std.specs.Map.{keys_of, values_of}
 use Rattle.std.specs.Cmp.Lexicographic.{nat_list_eq_equiv}
 use Rattle.indexmap.specs.IndexMap.{IndexMap, IsUnique, insert_entry, with_value_at}
-use Rattle.indexmap.proofs.CallerLemmas.{updates-with_value_at}
+use Rattle.indexmap.proofs.CallerLemmas.{keys-with_value_at, updates-with_value_at}
 use Rattle.indexmap.proofs.MapLemmas.{absent_from_lookup, insert_entry-absent}
 use Rattle.model.specs.declared.image.Level.{Level}
 use Rattle.model.specs.Deck.Trees.{Bytes}
@@ -209,6 +211,34 @@ pub put_in_slot : {S : Type 0} (m : IndexMap Bytes Variable S) (os : List (Objec
 put_in_slot m os fs ks lv held x k old v value is unique stands there e io =
     put_there m.entries (with_value_at m k v).entries os fs ks lv held x old v value is e (held_there m.entries x k old stands there)
     ((updates-with_value_at m k v nat_list_eq_equiv unique x stands.0 stands.1).0) io
+
+-- and then every variable stands where it stood, and writes where it wrote
+pub stands_still : {S : Type 0} (m : IndexMap Bytes Variable S) (x y : Bytes) (k at : ℕ) (old v : Variable) (value : Value) → IsUnique bytes_eq m → StandsIn x k m.entries → Some old ≡ slice_get (values_of m.entries) k → v ≡ record old { value = value }
+    → StandsIn y at m.entries → output_in (variable_at y m.entries) ≡ None → StandsIn y at (with_value_at m k v).entries × (output_in (variable_at y (with_value_at m k v).entries) ≡ None)
+stands_still m x y k at old v value unique stands there e other none =
+    let new = with_value_at m k v in
+    let puts : Puts m.entries new.entries x v = (updates-with_value_at m k v nat_list_eq_equiv unique x stands.0 stands.1).0 in
+    let same : keys_of new.entries ≡ keys_of m.entries = keys-with_value_at m k v in
+    let named : option_map (λ n. n.0) (slice_get new.entries at) ≡ Some y =
+    sym (slice_get-map (λ n. n.0) new.entries at) ∙ ap (λ l. slice_get l at) same ∙ slice_get-map (λ n. n.0) m.entries at ∙ ap (option_map (λ n. n.0)) other.1 in
+    let pair = pair_at (slice_get new.entries at) y (option_map (λ n. n.1) (slice_get new.entries at)) named refl in
+    let found = lookup_from_place nat_list_eq_equiv new.entries at y pair.0 (subst (IsDistinct bytes_eq) (sym same) unique) pair.1 in
+    let writes : output_in (Some v) ≡ output_in (variable_at x m.entries) = ap (λ z. z.output) e ∙ sym (ap output_in (held_there m.entries x k old stands there)) in
+    ((pair.0, pair.1, found), stays output_in m.entries new.entries x v puts writes y ∙ none)
+
+-- the same of what is named
+pub plain_still : {S : Type 0} (m : IndexMap Bytes Variable S) (h new : WorldView) (n other : target.Name) (k at : ℕ) (old v : Variable) (value : Value) → m.entries ≡ h.variables → new.variables ≡ (with_value_at m k v).entries → IsUnique bytes_eq m → Some old ≡ slice_get (values_of m.entries) k → v ≡ record old { value = value }
+    → IsPlain n k h → IsPlain other at h → IsPlain other at new
+plain_still m h new (target.Variable x) (target.Variable y) k at old v value is made unique there e plain next =
+    let before = sym is in
+    subst (λ l. StandsIn y at l × (output_in (variable_at y l) ≡ None)) (sym made)
+    (stands_still m x y k at old v value unique (subst (StandsIn x k) before plain.0) there e (subst (StandsIn y at) before next.0) (subst (λ l. output_in (variable_at y l) ≡ None) before next.1))
+plain_still m h new (target.Variable x) (target.Element a b) k at old v value is made unique there e plain next = absurd next
+plain_still m h new (target.Variable x) (target.IntegerKey a b) k at old v value is made unique there e plain next = absurd next
+plain_still m h new (target.Variable x) (target.StringKey a b) k at old v value is made unique there e plain next = absurd next
+plain_still m h new (target.Element a b) other k at old v value is made unique there e plain next = absurd plain
+plain_still m h new (target.IntegerKey a b) other k at old v value is made unique there e plain next = absurd plain
+plain_still m h new (target.StringKey a b) other k at old v value is made unique there e plain next = absurd plain
 
 -- ---- variables without units
 

@@ -6,7 +6,7 @@ use Rattle.model.specs.Deck.Trees.{Bytes}
 use Rattle.model.specs.Language.Io.{Io}
 use Rattle.model.specs.Language.Keywords.{Keys, KeyValue, IsInteger, IsText, is_zero}
 use Rattle.model.specs.Language.Conversions.{Op, Gives}
-use Rattle.model.specs.Language.Operators.{as_read, limited, assign_op}
+use Rattle.model.specs.Language.Operators.{as_read, limited, assign_op, splice_op}
 use Rattle.model.specs.Language.Values.{Object, Str, set_var}
 use Rattle.indexmap.specs.IndexMap.{insert_entry}
 use Rattle.model.specs.Pattern.Patterns as p
@@ -122,3 +122,7 @@ first_variables =
     ∷ (codes "OUTPUT", null_variable None (Some 6))
     ∷ (codes "PUNCH", null_variable None (Some 7))
     ∷ []
+
+-- what is assigned where nothing replaces a part of a subject, in each world with these keywords
+abbrev pub IsLeftOf : (subject : Bytes) → (start end : ℕ) → Value → WorldView → Type 0
+IsLeftOf s b e v h = (g : WorldView) (n : target.Name) (io : Io) → g.keys ≡ h.keys → splice_op n s b e (Str []) (world_of g io) ≡ assign_op n (value_of v) (world_of g io)

@@ -1,6 +1,6 @@
 //! The world of a run.
 
-ghost use Rattle.std.specs.Prelude.{◌≡◌, [], pos, Some, None, is_some, option_copied};
+ghost use Rattle.std.specs.Prelude.{◌≡◌, ℕ, [], pos, Some, None, is_some, option_copied};
 ghost use Rattle.std.specs.Prelude.{IfOk, IfSome, true, false, OnOk, OnErr, if◌then◌else◌};
 ghost use Rattle.model.specs.Deck.Target as target;
 ghost use Rattle.model.specs.Language.Conversions.{Gives};
@@ -358,12 +358,15 @@ impl World {
         }
     }
 
-    /// Gives the variable in a slot another value, and tells no unit.
+    /// Gives the variable in a slot another value, and tells no unit. What writes to no unit writes to none after it.
     #[inline(always)]
     pub fn set_plain(&mut self, slot: u32, value: Value)
-        ensures { (name : target.Name) → IsPlain name slot self.old → (io : Io)
+        ensures set { (name : target.Name) → IsPlain name slot self.old → (io : Io)
             → assign_op name (value_of value) (world_of self.old io)
             ≡ Gives (record {}) (world_of self.new io) }
+        ensures others { (name other : target.Name) (at : ℕ) → IsPlain name slot self.old
+            → IsPlain other at self.old → IsPlain other at self.new }
+        ensures keys { self.new.keys ≡ self.old.keys }
     {
         let Some(variable) = self.variables.get_index_mut(slot as usize) else {
             return;

@@ -4,11 +4,12 @@ ghost use Rattle.std.specs.Prelude.{◌≡◌, ◌++◌, ◌+◌, ◌<◌, ◌�
 ghost use Rattle.model.specs.Language.Io.{Io};
 ghost use Rattle.model.specs.Machine.Steps.{codes_of};
 ghost use Rattle.model.specs.Language.Conversions.{Gives};
+ghost use Rattle.model.specs.Language.Values.{Str};
 ghost use Rattle.model.specs.Language.Operators.{cat_op, keyget_op, keyset_op, match_op, assign_op, splice_op};
 ghost use Rattle.model.specs.Deck.Target.{Name};
 ghost use Rattle.model.specs.declared.run.Stop.TheVariants.{NoMemory};
 ghost use Rattle.world.specs.Values.{value_of, begun_of};
-ghost use Rattle.world.specs.Held.{world_of};
+ghost use Rattle.world.specs.Held.{IsLeftOf, world_of};
 ghost use Rattle.world.specs.Answers.{answer_map, done, op_of, AnswersAs, IfStopped, LeadsTo};
 
 use crate::fault::Fault;
@@ -76,16 +77,15 @@ fn part_behind(subject: &Text, place: usize) -> Result<Text, StrFault>
 }
 
 // The subject without the part. What is left of it is shared where nothing stands before the part, or nothing behind.
-fn without(alloc: Global, span: &Span) -> Result<Text, StrFault>
-    ensures ok { IfOk result (λ all.
-        all ≡ take span.now.start span.now.subject ++ drop span.now.end span.now.subject) }
+fn without(alloc: Global, subject: &Text, start: usize, end: usize) -> Result<Text, StrFault>
+    ensures ok { IfOk result (λ all. all ≡ take start subject.now ++ drop end subject.now) }
     ensures err { IfErr result (λ fault. fault ≡ StrFault.Memory) }
 {
-    let back = part_behind(&span.subject, span.end)?;
-    if span.start == 0 {
+    let back = part_behind(subject, end)?;
+    if start == 0 {
         return Ok(back);
     }
-    let front = part_before(&span.subject, span.start)?;
+    let front = part_before(subject, start)?;
     match Text::concat(alloc, &front, &back, usize::MAX) {
         Ok(all) => Ok(all),
         Err(_) => Err(StrFault::Memory),
@@ -111,7 +111,7 @@ fn spliced(alloc: Global, span: &Span, text: &[u8], limit: usize) -> Result<Text
         return Err(StrFault::TooLong);
     }
     if text.is_empty() {
-        return without(alloc, span);
+        return without(alloc, &span.subject, span.start, span.end);
     }
     let mut all = Vec::with_capacity(alloc, front.len() + text.len() + back.len())?;
     all.extend_from_slice(front)?;
@@ -133,6 +133,21 @@ impl World {
         let text = value.to_text(alloc)?;
         let whole = spliced(alloc, span, text.as_slice(), self.keywords.longest())?;
         Ok(Value::String(whole))
+    }
+
+    /// What is left of a subject without a part, which is what is assigned where nothing replaces the part; None if that
+    /// is longer than `&MAXLNGTH` allows, or if memory is wanting.
+    #[inline(always)]
+    pub fn cut(&self, alloc: Global, subject: &Text, start: usize, end: usize) -> Option<Value>
+        ensures { IfSome result (λ value. IsLeftOf subject.now start end value self.now) }
+    {
+        let Ok(rest) = without(alloc, subject, start, end) else {
+            return None;
+        };
+        if rest.len() > self.keywords.longest() {
+            return None;
+        }
+        Some(Value::String(rest))
     }
 
     /// Two values one after the other. The null string gives the other, unconverted. Bytes of the left one that nothing
@@ -228,6 +243,33 @@ impl World {
         Ok(Begun {
             subject,
             pattern,
+            anchored: !is_zero(&self.keywords, KeyId::Anchor),
+        })
+    }
+
+    /// What a match of these values begins with, where they are a string and a pattern.
+    #[inline(always)]
+    pub fn begin_match_of(&self, alloc: Global, subject: &Value, pattern: &Value) -> Option<Begun>
+        ensures begun { IfSome result (λ begun. (io : Io)
+            → match_op codes_of (value_of subject.now) (value_of pattern.now) (world_of self.now io)
+            ≡ Gives (begun_of begun) (world_of self.now io)) }
+        ensures subject { IfSome result (λ begun. value_of subject.now ≡ Str begun.subject) }
+    {
+        let Value::String(text) = subject else {
+            return None;
+        };
+        let Value::Pattern(pattern) = pattern else {
+            return None;
+        };
+        let Ok(subject) = text.clone() else {
+            return None;
+        };
+        let Ok(code) = pattern.to_code(alloc) else {
+            return None;
+        };
+        Some(Begun {
+            subject,
+            pattern: code,
             anchored: !is_zero(&self.keywords, KeyId::Anchor),
         })
     }

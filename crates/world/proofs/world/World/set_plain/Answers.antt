@@ -1,13 +1,19 @@
-use Rattle.std.proofs.Common.{ap, subst, sym}
+use Rattle.std.proofs.Common.{ap, refl, subst, sym}
 use Rattle.world.specs.Held.{WorldView, StandsIn}
 use Rattle.world.specs.Values.{value_of}
-use Rattle.world.proofs.Variables.{assigned_plain, put_in_slot}
+use Rattle.world.proofs.Variables.{assigned_plain, plain_still, put_in_slot}
 use Rattle.world.proofs.world.World.set_plain.Goals as goal
 
-pub returns : goal.returns
-returns c name plain io =
+pub returns-clause-set : goal.returns-clause-set
+returns-clause-set c name plain io =
     let w = c.self.inside in
     assigned_plain c.args.self.now _ name c.args.slot (value_of c.args.value) plain
     (λ x stands io. put_in_slot w.variables w.heap w.functions w.keywords w.level c.args.self.now x c.args.slot c.in-Some.variable.now c.set.new.self c.args.value c.self.view_is
     c.get_index_mut.ensures.unique (subst (StandsIn x c.args.slot) (sym (ap {A = WorldView} (λ h. h.variables) c.self.view_is)) stands) c.in-Some.ensures.value c.set.ensures io)
     io
+
+pub returns-clause-others : goal.returns-clause-others
+returns-clause-others c name other at plain next =
+    let w = c.self.inside in
+    plain_still w.variables c.args.self.now _ name other c.args.slot at c.in-Some.variable.now c.set.new.self c.args.value (ap {A = WorldView} (λ h. h.variables) c.self.view_is) refl
+    c.get_index_mut.ensures.unique c.in-Some.ensures.value c.set.ensures plain next
