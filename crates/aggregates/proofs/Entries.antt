@@ -30,7 +30,7 @@ same_texts [] (y ∷ t) = refl
 same_texts (x ∷ s) [] = refl
 same_texts (x ∷ s) (y ∷ t) = grind (arith, common_steps, same_texts s t)
 
-equal_keys : (a b : values.Key) → same_key a b ≡ true → a ≡ b
+pub equal_keys : (a b : values.Key) → same_key a b ≡ true → a ≡ b
 equal_keys (IntegerAt i) (IntegerAt j) h = ap IntegerAt (equal_ints i j h)
 equal_keys (IntegerAt i) (StringAt t) h = absurd (cc)
 equal_keys (StringAt s) (IntegerAt j) h = absurd (cc)

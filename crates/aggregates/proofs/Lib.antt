@@ -2,5 +2,6 @@ pub mod Lists
 pub mod Objects
 pub mod Counts
 pub mod Entries
+pub mod Indexes
 pub mod Subscripts
 pub mod Fields

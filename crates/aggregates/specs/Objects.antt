@@ -4,7 +4,7 @@ use Rattle.model.specs.Language.Values.{Key, Object, ArrayOf, TableOf, RecordOf}
 use Rattle.model.specs.Deck.Trees.{Bytes}
 use Rattle.model.specs.Language.Aggregates.{place_from, index_of}
 use Rattle.model.specs.Language.Operators.{element_of, with_element, with_value_for, with_item}
-use Rattle.aggregates.specs.Keys.{key_of, value_at}
+use Rattle.aggregates.specs.Keys.{index_at, key_of, value_at}
 use Rattle.aggregates.specs.declared.place.Place.{Place}
 use Rattle.aggregates.specs.declared.place.Place.TheVariants as place
 
@@ -17,6 +17,11 @@ module _ {V : Type 0} where
   abbrev pub value_in : Key → Option (Object V) → Option V
   value_in k (Some (TableOf es)) = value_at k es
   value_in k _ = None
+
+  -- where the entry of a table's key stands
+  abbrev pub index_in : Key → Option (Object V) → Option ℕ
+  index_in k (Some (TableOf es)) = index_at k es
+  index_in k _ = None
 
   abbrev pub held_at : Place → Option (Object V) → Option V
   held_at (place.Element i) o = element_of o i

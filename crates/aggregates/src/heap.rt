@@ -3,9 +3,13 @@
 ghost use Rattle.std.specs.Prelude.{◌≡◌, ◌≤◌, ◌++◌, ◌∷◌, [], length, slice_get, Some, false, IfOk};
 ghost use Rattle.std.specs.Prelude.{OnOk, OnErr, option_map, if◌then◌else◌, None};
 ghost use Rattle.std.specs.Option.{option_copied};
+ghost use Rattle.model.specs.Language.Operators.{with_value_for};
+ghost use Rattle.model.specs.Language.Values as values;
 ghost use Rattle.model.specs.Language.Values.{ArrayOf, TableOf, RecordOf};
 ghost use Rattle.model.specs.Language.Prototypes.{elements_in};
+ghost use Rattle.aggregates.specs.Keys.{key_of};
 ghost use Rattle.aggregates.specs.Objects.{held_at, stored_at, put_at, if_stored, place_in};
+ghost use Rattle.aggregates.specs.Objects.{index_in, value_in};
 ghost use Rattle.aggregates.specs.Objects.{dimensions_in, field_in, record_type};
 ghost use Rattle.aggregates.specs.Made.{kind_of, filled, copied, rows_in, rows_array, number, with_object, object_of};
 
@@ -14,7 +18,7 @@ use crate::bounds::{Bounds, are_bounds};
 use crate::element::Element;
 use crate::names::Names;
 use crate::object::{Kind, Object, Record, place_among};
-use crate::place::Place;
+use crate::place::{Key, Place};
 use crate::table::Table;
 use std::alloc::{AllocError, Global};
 use std::marker::Model;
@@ -103,6 +107,38 @@ impl<V: Element> Heap<V> {
             Some(Object::Array(array)) => array.place_of_one(subscript),
             _ => None,
         }
+    }
+
+    /// Where the entry of a table's key stands, if that key was ever assigned; what isn't a table has none. Takes no memory.
+    #[inline(always)]
+    pub fn index_of(&self, object: usize, key: &Key) -> Option<usize>
+        ensures { result ≡ index_in (key_of key.now) (slice_get self.now object) }
+    {
+        self.object(object)?.index_of(key)
+    }
+
+    /// The value of the entry of a table that stands at an index. Takes no memory.
+    #[inline(always)]
+    pub fn entry(&self, object: usize, index: usize) -> Option<&V>
+        ensures { (key : values.Key) → index_in key (slice_get self.now object) ≡ Some index
+            → option_copied result ≡ value_in key (slice_get self.now object) }
+    {
+        self.object(object)?.entry(index)
+    }
+
+    /// Stores a value in the entry of a table that stands at an index, if one stands there. Takes no memory.
+    #[inline(always)]
+    pub fn put_entry(&mut self, object: usize, index: usize, value: V) -> bool
+        ensures stored { (key : values.Key) → index_in key (slice_get self.old object) ≡ Some index
+            → if_stored result self.new
+            ≡ put_at object (with_value_for key value (slice_get self.old object)) self.old }
+        ensures nowhere { result ≡ false → self.new ≡ self.old }
+    {
+        if object >= self.objects.len() {
+            return false;
+        }
+        let stored = self.objects[object].put_entry(index, value);
+        stored
     }
 
     /// The place of a record's field, by its name. Takes no memory.

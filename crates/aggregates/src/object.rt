@@ -3,14 +3,17 @@
 ghost use Rattle.std.specs.Prelude.{◌≡◌, Some, IfOk, OnErr, false};
 ghost use Rattle.std.specs.Option.{option_copied};
 ghost use Rattle.model.specs.Language.Aggregates.{index_of};
-ghost use Rattle.aggregates.specs.Objects.{held_at, stored_at, if_stored};
+ghost use Rattle.model.specs.Language.Operators.{with_value_for};
+ghost use Rattle.model.specs.Language.Values as values;
+ghost use Rattle.aggregates.specs.Keys.{key_of};
+ghost use Rattle.aggregates.specs.Objects.{held_at, stored_at, if_stored, index_in, value_in};
 ghost use Rattle.aggregates.specs.Made.{object_of, kind_of};
 
 use crate::array::Array;
 use crate::element::Element;
 use crate::items::put;
 use crate::names::Names;
-use crate::place::Place;
+use crate::place::{Key, Place};
 use crate::table::Table;
 use std::alloc::AllocError;
 use strings::Text;
@@ -61,6 +64,42 @@ impl<V: Element> Object<V> {
             (Object::Table(table), Place::Key(key)) => table.get(key),
             (Object::Record(record), Place::Element(index)) => record.values.get(*index),
             _ => None,
+        }
+    }
+
+    /// Where the entry of a table's key stands, if that key was ever assigned.
+    #[inline(always)]
+    pub(crate) fn index_of(&self, key: &Key) -> Option<usize>
+        ensures { result ≡ index_in (key_of key.now) (Some (object_of self.now)) }
+    {
+        match self {
+            Object::Table(table) => table.index_of(key),
+            Object::Array(_) | Object::Record(_) => None,
+        }
+    }
+
+    /// The value of the entry of a table that stands at an index.
+    #[inline(always)]
+    pub(crate) fn entry(&self, index: usize) -> Option<&V>
+        ensures { (key : values.Key) → index_in key (Some (object_of self.now)) ≡ Some index
+            → option_copied result ≡ value_in key (Some (object_of self.now)) }
+    {
+        match self {
+            Object::Table(table) => table.at(index),
+            Object::Array(_) | Object::Record(_) => None,
+        }
+    }
+
+    /// Another value in the entry of a table that stands at an index, if one stands there.
+    #[inline(always)]
+    pub(crate) fn put_entry(&mut self, index: usize, value: V) -> bool
+        ensures stored { (key : values.Key) → index_in key (Some (object_of self.old)) ≡ Some index
+            → if_stored result (object_of self.new) ≡ with_value_for key value (Some (object_of self.old)) }
+        ensures nowhere { result ≡ false → object_of self.new ≡ object_of self.old }
+    {
+        match self {
+            Object::Table(table) => table.put(index, value),
+            Object::Array(_) | Object::Record(_) => false,
         }
     }
 

@@ -1,10 +1,12 @@
 //! A table: values for keys, in the order in which the keys were first assigned.
 
-ghost use Rattle.std.specs.Prelude.{◌≡◌, ◌<◌, ◌^◌, [], IfOk, OnOk, OnErr};
+ghost use Rattle.std.specs.Prelude.{◌≡◌, ◌<◌, ◌^◌, [], Some, IfOk, OnOk, OnErr, false};
 ghost use Rattle.std.specs.Option.{option_copied};
 ghost use Rattle.model.specs.Language.Operators.{with_entry};
+ghost use Rattle.model.specs.Language.Values as values;
 ghost use Rattle.model.specs.Language.Aggregates.{row_count, rows, pairs};
-ghost use Rattle.aggregates.specs.Keys.{key_of, value_at, table_rows};
+ghost use Rattle.aggregates.specs.Keys.{index_at, key_of, value_at, table_rows};
+ghost use Rattle.aggregates.specs.Objects.{if_stored};
 
 use crate::array::Array;
 use crate::bounds::Bounds;
@@ -46,6 +48,40 @@ impl<V: Element> Table<V> {
         ensures { option_copied result ≡ value_at (key_of key.now) self.now }
     {
         self.values.get(key)
+    }
+
+    /// Where a key's entry stands, if the key was ever assigned. Takes no memory.
+    #[inline(always)]
+    pub(crate) fn index_of(&self, key: &Key) -> Option<usize>
+        ensures { result ≡ index_at (key_of key.now) self.now }
+    {
+        self.values.get_index_of(key)
+    }
+
+    /// The value of the entry that stands at an index.
+    #[inline(always)]
+    pub(crate) fn at(&self, index: usize) -> Option<&V>
+        ensures { (key : values.Key) → index_at key self.now ≡ Some index
+            → option_copied result ≡ value_at key self.now }
+    {
+        let Some((_key, value)) = self.values.get_index(index) else {
+            return None;
+        };
+        Some(value)
+    }
+
+    /// Another value in the entry that stands at an index, if one stands there.
+    #[inline(always)]
+    pub(crate) fn put(&mut self, index: usize, value: V) -> bool
+        ensures stored { (key : values.Key) → index_at key self.old ≡ Some index
+            → if_stored result self.new ≡ Some (with_entry key value self.old) }
+        ensures nowhere { result ≡ false → self.new ≡ self.old }
+    {
+        let Some(old) = self.values.get_index_mut(index) else {
+            return false;
+        };
+        *old = value;
+        true
     }
 
     /// Another value for a key. A key that was assigned before keeps its place.

@@ -17,6 +17,7 @@ mod calls;
 mod constants;
 mod destinations;
 mod elements;
+mod entries;
 mod evaluating;
 mod failing;
 mod forms;

@@ -2,6 +2,7 @@
 
 ghost use Rattle.std.specs.Prelude.{◌≡◌, ◌∷◌, [], slice_get, option_map, true, false, IfSome, OnErr};
 ghost use Rattle.model.specs.Language.Io.{Io};
+ghost use Rattle.model.specs.Deck.Target as target;
 ghost use Rattle.model.specs.Deck.Target.{Element};
 ghost use Rattle.model.specs.Language.Values.{Int, Obj, Str};
 ghost use Rattle.model.specs.Language.Operators.{there, assign_op, entry_of, fetch_op, put_object};
@@ -13,7 +14,7 @@ ghost use Rattle.aggregates.specs.Objects.{stored_at};
 ghost use Rattle.pattern_compiler.specs.View.{name_of};
 ghost use Rattle.world.specs.Values.{value_of};
 ghost use Rattle.world.specs.Held.{world_of};
-ghost use Rattle.world.specs.Elements.{HoldsAt};
+ghost use Rattle.world.specs.Elements.{HoldsAt, IndexesEntry, IsEntry, key_value};
 ghost use Rattle.world.specs.Answers.{answer_map, done, AnswersAs, AnswersOrFails, IfStopped};
 
 use crate::fault::Fault;
@@ -46,6 +47,61 @@ impl World {
             return None;
         };
         Some(value)
+    }
+
+    // Where the entry stands that a table has for a key.
+    #[inline(always)]
+    fn index_by(&self, object: usize, key: &Key) -> Option<usize>
+        ensures { IfSome result (λ index.
+            IndexesEntry object (key_value (key_of key.now)) index self.now) }
+    {
+        let Some(index) = self.heap.index_of(object, key) else {
+            return None;
+        };
+        Some(index)
+    }
+
+    /// Where the entry stands that a table has for a string or an integer; what isn't so has none here.
+    #[inline(never)]
+    pub fn index_for(&self, object: usize, subscript: &Value) -> Option<usize>
+        ensures { IfSome result (λ index.
+            IndexesEntry object (value_of subscript.now) index self.now) }
+    {
+        match subscript {
+            Value::Integer(n) => self.index_by(object, &Key::Integer(*n)),
+            Value::String(text) => {
+                let Ok(text) = text.clone() else {
+                    return None;
+                };
+                self.index_by(object, &Key::String(text))
+            }
+            _ => None,
+        }
+    }
+
+    /// The value of the entry of a table that stands at an index.
+    #[inline(always)]
+    pub fn entry_at(&self, object: usize, index: usize) -> Option<&Value>
+        ensures { IfSome result (λ value. (name : target.Name) → IsEntry name object index self.now → (io : Io)
+            → fetch_op name (world_of self.now io)
+            ≡ Gives (value_of value.now) (world_of self.now io)) }
+    {
+        let Some(value) = self.heap.entry(object, index) else {
+            return None;
+        };
+        Some(value)
+    }
+
+    /// An integer in the entry of a table that stands at an index, if that was stored; else nothing changed.
+    #[inline]
+    pub fn put_entry(&mut self, object: usize, index: usize, n: i64) -> bool
+        ensures set { result ≡ true → (name : target.Name) → IsEntry name object index self.old → (io : Io)
+            → assign_op name (Int n) (world_of self.old io)
+            ≡ Gives (record {}) (world_of self.new io) }
+        ensures kept { result ≡ false → self.new ≡ self.old }
+    {
+        let stored = self.heap.put_entry(object, index, Value::Integer(n));
+        stored
     }
 
     // The value of a table for a key that was assigned.

@@ -1,0 +1,13 @@
+use Rattle.std.proofs.Common.{IfSome, ap, rules, subst, sym, ◌∙◌}
+use Rattle.model.specs.Language.Values.{Int, Str}
+use Rattle.world.specs.Elements.{IndexesEntry}
+use Rattle.world.specs.Values.{value_of}
+use Rattle.world.proofs.world.World.index_for.Goals as goal
+
+pub returns-in-Integer : goal.returns-in-Integer
+returns-in-Integer c =
+    subst (λ v. IfSome c.index_by.result (λ index. IndexesEntry c.args.object v index c.args.self.now)) (sym (ap value_of c.in-Integer.is ∙ ap Int (search rules))) c.index_by.ensures
+
+pub returns-in-Ok : goal.returns-in-Ok
+returns-in-Ok c =
+    subst (λ v. IfSome c.index_by-in-String.result (λ index. IndexesEntry c.args.object v index c.args.self.now)) (ap Str c.in-Ok.ensures.cases ∙ sym (ap value_of c.in-String.is)) c.index_by-in-String.ensures
