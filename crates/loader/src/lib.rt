@@ -26,8 +26,7 @@ mod tables;
 
 pub use decoding::Decoded;
 pub use forms::{
-    Amount, Comparison, Form, Known, Part, Place, Search, Subscript, Term, Way, Whole,
-    compares,
+    Amount, Comparison, Form, Known, Part, Place, Search, Subscript, Term, Way, Whole, compares,
 };
 pub use loading::{load, load_v1};
 pub use module::Module;
