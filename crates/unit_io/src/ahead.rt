@@ -15,7 +15,7 @@ use std::marker::Model;
 use strings::Text;
 
 /// As many bytes are read at once, at most.
-const PIECE: usize = 65536;
+const PIECE: usize = 16384;
 
 /// The bytes that were read and aren't told yet stand in `bytes` from `start` on; none of them before `searched` is a
 /// line feed. What a read gives comes to `piece` first, which has a length from the first read on.
