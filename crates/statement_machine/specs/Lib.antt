@@ -10,5 +10,6 @@ pub mod Elements
 pub mod Forms
 pub mod Joined
 pub mod Sums
+pub mod Texts
 pub mod Constants
 pub mod Sought
