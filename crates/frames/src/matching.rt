@@ -182,6 +182,7 @@ impl Matching {
     }
 
     /// What the match has come to. Takes no memory.
+    #[inline(always)]
     pub fn event(&self) -> Event<'_>
         ensures { event_is result ≡ event_of self.now.search.state }
     {
