@@ -1,5 +1,5 @@
 -- What code at run time is in the definitions.
-use Rattle.std.specs.Prelude.{List, [], map, Option, Some, None}
+use Rattle.std.specs.Prelude.{◌≡◌, List, [], ◌∷◌, map, Option, Some, None}
 use Rattle.std.specs.declared.rc.Rc.{Rc}
 use Rattle.std.specs.declared.vec.Vec.{Vec}
 use Rattle.std.specs.declared.alloc.Global.{Global}
@@ -70,3 +70,7 @@ code_of xs = map instr_of xs
 abbrev pub shared_code : Option (Rc (Vec Instr Global) Global) → Code
 shared_code None = []
 shared_code (Some it) = code_of it.value.items
+
+-- an instruction, and then this code
+abbrev pub IsLed : Code → List Instr → Type 0
+IsLed rest xs = (i : p.Instr) × (code_of xs ≡ i ∷ rest)

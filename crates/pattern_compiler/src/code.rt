@@ -47,6 +47,16 @@ impl PatCode {
         })
     }
 
+    /// The code of instructions that something else may hold. Takes no memory.
+    #[inline(always)]
+    pub(crate) fn shared(instrs: Rc<Vec<Instr>>) -> PatCode
+        ensures { result ≡ code_of instrs.value.items }
+    {
+        PatCode {
+            shared: Some(instrs),
+        }
+    }
+
     /// The instructions in order.
     pub(crate) fn as_slice(&self) -> &[Instr]
         ensures { code_of result.now ≡ self.now }
