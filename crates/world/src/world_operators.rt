@@ -4,7 +4,7 @@ ghost use Rattle.std.specs.Prelude.{◌≡◌, ◌++◌, ◌+◌, ◌<◌, ◌�
 ghost use Rattle.model.specs.Language.Io.{Io};
 ghost use Rattle.model.specs.Machine.Steps.{codes_of};
 ghost use Rattle.model.specs.Language.Conversions.{Gives};
-ghost use Rattle.model.specs.Language.Values.{Str};
+ghost use Rattle.model.specs.Language.Values.{Str, Pat};
 ghost use Rattle.model.specs.Language.Operators.{cat_op, keyget_op, keyset_op, match_op, assign_op, splice_op};
 ghost use Rattle.model.specs.Deck.Target.{Name};
 ghost use Rattle.model.specs.declared.run.Stop.TheVariants.{NoMemory};
@@ -255,16 +255,27 @@ impl World {
             ≡ Gives (begun_of begun) (world_of self.now io)) }
         ensures subject { IfSome result (λ begun. value_of subject.now ≡ Str begun.subject) }
     {
-        let Value::String(text) = subject else {
-            return None;
-        };
         let Value::Pattern(pattern) = pattern else {
             return None;
         };
-        let Ok(subject) = text.clone() else {
+        let Ok(code) = pattern.to_code(alloc) else {
             return None;
         };
-        let Ok(code) = pattern.to_code(alloc) else {
+        self.begin_match_with(subject, code)
+    }
+
+    /// What a match of a string begins with against a pattern that has this code.
+    #[inline(always)]
+    pub fn begin_match_with(&self, subject: &Value, code: PatCode) -> Option<Begun>
+        ensures begun { IfSome result (λ begun. (io : Io)
+            → match_op codes_of (value_of subject.now) (Pat code) (world_of self.now io)
+            ≡ Gives (begun_of begun) (world_of self.now io)) }
+        ensures subject { IfSome result (λ begun. value_of subject.now ≡ Str begun.subject) }
+    {
+        let Value::String(text) = subject else {
+            return None;
+        };
+        let Ok(subject) = text.clone() else {
             return None;
         };
         Some(Begun {
