@@ -124,9 +124,25 @@ impl Matching {
         held.keep = keep;
     }
 
-    /// The match is over, and lets go of what it held; its subject. Its memory stays for another match.
+    /// The match is over, and lets go of what it held. Its memory stays for another match.
     #[inline(never)]
-    pub fn finish(&mut self) -> Text
+    pub fn let_go(&mut self)
+        ensures { self.new ≡ record self.old {
+          search = record {
+            subject = [];
+            code = [];
+            state = Over Lost;
+            refused = false;
+          };
+        } }
+    {
+        let held = &mut *self.held;
+        held.literal = Literal::null();
+        held.matcher.let_go();
+    }
+
+    // The same; its subject.
+    fn finish(&mut self) -> Text
         ensures subject { result ≡ self.old.search.subject }
         ensures over { self.new ≡ record self.old {
           search = record {
@@ -263,16 +279,15 @@ impl Matching {
         ensures under { operands.new.under ≡ operands.old.under }
         ensures err { OnErr result (operands.new ≡ operands.old) }
     {
-        let keep = self.held.keep;
-        let subject = self.finish();
-        if keep {
-            operands.push(Operand::Span(Span {
-                subject,
-                start,
-                end,
-            }))
-        } else {
-            Ok(())
+        if !self.held.keep {
+            self.let_go();
+            return Ok(());
         }
+        let subject = self.finish();
+        operands.push(Operand::Span(Span {
+            subject,
+            start,
+            end,
+        }))
     }
 }

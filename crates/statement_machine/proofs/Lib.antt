@@ -28,3 +28,6 @@ pub mod Reckoning
 pub mod Weighing
 pub mod Concatenating
 pub mod Constantly
+pub mod Expressions
+pub mod Needles
+pub mod Preparing

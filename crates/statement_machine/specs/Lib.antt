@@ -13,3 +13,6 @@ pub mod Sums
 pub mod Texts
 pub mod Constants
 pub mod Sought
+pub mod Trees
+pub mod Openings
+pub mod Prepared

@@ -13,7 +13,7 @@ ghost use Rattle.statement_machine.specs.Stopped.{IfRan, IfStop, ending_of, stat
 ghost use Rattle.unit_io.specs.Service.{Served};
 ghost use Rattle.statement_machine.specs.declared.status.Halt.{Halt as RustHalt};
 
-use crate::constants::{Constant, constants_of};
+use crate::prepared::{Prepared, prepared_of};
 use crate::run::Run;
 use crate::status::Halt;
 use loader::Module;
@@ -26,14 +26,13 @@ use unit_io::Units;
 #[derive(Drop)]
 pub struct Machine<'m, 'a> {
     program: &'m Module<'a>,
-    // The patterns that its code always makes.
-    constants: Vec<Option<Box<Constant>>>,
+    prepared: Vec<Option<Box<Prepared>>>,
     run: Run,
     halt: Option<Halt>,
 }
 
 impl<'m, 'a> Model for Machine<'m, 'a> {
-    ghost use Rattle.statement_machine.specs.Constants.{AreConstants};
+    ghost use Rattle.statement_machine.specs.Prepared.{ArePrepared};
     ghost use Rattle.statement_machine.specs.Runnable.{IsRunnable};
     ghost use Rattle.statement_machine.specs.Runs.{MachineView, IsGoing, LacksNothing};
 
@@ -43,7 +42,7 @@ impl<'m, 'a> Model for Machine<'m, 'a> {
 
     ghost invariant = { λ m.
         IsRunnable m.program.now × IsGoing m.halt (LacksNothing m.program.now m.run)
-        × AreConstants m.program.now m.constants.items };
+        × ArePrepared m.program.now m.prepared.items };
 }
 
 impl<'m, 'a> Machine<'m, 'a> {
@@ -58,10 +57,10 @@ impl<'m, 'a> Machine<'m, 'a> {
         let place = program.start();
         let mut run = Run::new(alloc, program.level(), place)?;
         run.state.enter_variables(program)?;
-        let constants = constants_of(alloc, program)?;
+        let prepared = prepared_of(alloc, program)?;
         Ok(Machine {
             program,
-            constants,
+            prepared,
             run,
             halt: None,
         })
@@ -84,8 +83,8 @@ impl<'m, 'a> Machine<'m, 'a> {
         if let Some(halt) = self.halt {
             return halt.status();
         }
-        let constants = self.constants.as_slice();
-        match self.run.make_steps(self.program, constants, units, bound) {
+        let prepared = self.prepared.as_mut_slice();
+        match self.run.make_steps(self.program, prepared, units, bound) {
             Ok(()) => Status::Running,
             Err(halt) => {
                 self.halt = Some(halt);

@@ -1,5 +1,7 @@
-use Rattle.std.proofs.Common.{sym, ap, ◌∙◌}
+use Rattle.std.proofs.Common.{sym, ap, ◌∙◌, subst}
+use Rattle.statement_machine.specs.Prepared.{ArePrepared}
 use Rattle.statement_machine.specs.Runs.{MachineView}
+use Rattle.statement_machine.proofs.Preparing.{goes_on, whole_again}
 use Rattle.statement_machine.proofs.Seeing.{ran_on, ran_out, ran_same}
 use Rattle.statement_machine.proofs.Printing.{halt_prints}
 use Rattle.statement_machine.proofs.machine.Machine.run.Goals as goal
@@ -19,3 +21,21 @@ returns-in-Err-clause-served g c =
 pub returns-in-Err-clause-printed : goal.returns-in-Err-clause-printed
 returns-in-Err-clause-printed g c =
     halt_prints c.self.inside.program.now c.args.self.now c.self.inside.halt c.in-Err.halt c.self.inside.run c.args.bound c.status-in-Err.result _ _ c.self.view_is c.in_default.is c.status-in-Err.ensures c.in-Err.ensures.printed
+
+pub invariant_of-self : goal.invariant_of-self
+invariant_of-self g c =
+    let it = c.self.inside in
+    let im = it.program.now in (
+      c.self.invariant.0,
+      goes_on it.halt _ c.in-Ok.ensures.sound,
+      subst (ArePrepared im) (sym (whole_again it.prepared.items c.make_steps.new.prepared it.prepared.len (c.make_steps.ensures.prepared ∙ c.as_mut_slice-prepared.ensures.value) it.prepared.ok.0)) c.self.invariant.2,
+    )
+
+pub invariant_of-self-in-Err : goal.invariant_of-self-in-Err
+invariant_of-self-in-Err g c =
+    let it = c.self.inside in
+    let im = it.program.now in (
+      c.self.invariant.0,
+      tt,
+      subst (ArePrepared im) (sym (whole_again it.prepared.items c.make_steps.new.prepared it.prepared.len (c.make_steps.ensures.prepared ∙ c.as_mut_slice-prepared.ensures.value) it.prepared.ok.0)) c.self.invariant.2,
+    )
