@@ -271,17 +271,40 @@ pub rest_marks : (l : Logs) (xs rest : List Choice) (x : Choice) → xs ≡ rest
 rest_marks l xs rest x e m =
     older_marks 1 l (x ∷ reverse rest) (subst (Marks l) (ap reverse e ∙ reverse-append rest (x ∷ [])) m)
 
+-- the newest is the one that is taken off
+newest_is : (xs rest : List Choice) (x y : Choice) → xs ≡ rest ++ x ∷ [] → slice_get xs (length xs - 1) ≡ Some y → y ≡ x
+newest_is xs rest x y e h =
+    same (get_push rest x y (length xs - 1) (ap (λ (zs : List Choice). slice_get zs (length xs - 1)) (sym e) ∙ h))
+  where
+    same : ((slice_get rest (length xs - 1) ≡ Some y) × (length xs - 1 < length rest)) ⊎ ((length xs - 1 ≡ length rest) × (x ≡ y)) → y ≡ x
+    same (inl (g, l)) = absurd (omega (arith, l, ap length e ∙ length-append rest (x ∷ [])))
+    same (inr (g, z)) = sym z
+
+-- the logs cut to a choice of the code under way
+abbrev cut_here : Logs → Choice → Logs
+cut_here l x = record { codes = l.codes; log = take x.log l.log; pending = take x.pending l.pending }
+
+pub newest_marks : (l : Logs) (xs rest : List Choice) (x y : Choice) → xs ≡ rest ++ x ∷ [] → slice_get xs (length xs - 1) ≡ Some y → length l.codes ≤ y.codes → Marks l (reverse xs) → Marks (record { codes = l.codes; log = take y.log l.log; pending = take y.pending l.pending }) (reverse rest)
+newest_marks l xs rest x y e h c m =
+    let below : Marks (cut l x) (reverse rest) = (subst (Marks l) (ap reverse e ∙ reverse-append rest (x ∷ [])) m).3 in
+    let same : cut l x ≡ cut_here l y = ap (cut l) (sym (newest_is xs rest x y e h)) ∙ ap (λ cs. let logs : Logs = record { codes = cs; log = take y.log l.log; pending = take y.pending l.pending } in logs) (take_all y.codes l.codes c) in
+    subst (λ k. Marks k (reverse rest)) same below
+
+pub newest_here : (l : Logs) (xs rest : List Choice) (x y : Choice) (code : Code) → xs ≡ rest ++ x ∷ [] → slice_get xs (length xs - 1) ≡ Some y → length l.codes ≤ y.codes → last_code l.codes ≡ code → backs l (reverse xs) ≡ record { kept = y.kept; thread = record { code = code; place = y.place; cursor = y.cursor; notes = chain (reverse (take y.log l.log)) y.head; pending = pending_of (take y.pending l.pending) } } ∷ backs (record { codes = l.codes; log = take y.log l.log; pending = take y.pending l.pending }) (reverse rest)
+newest_here l xs rest x y code e h c k =
+    let same : cut l y ≡ cut_here l y = ap (λ cs. let logs : Logs = record { codes = cs; log = take y.log l.log; pending = take y.pending l.pending } in logs) (take_all y.codes l.codes c) in
+    ap (backs l) (ap reverse e ∙ reverse-append rest (x ∷ []))
+    ∙ ap (λ z. back_of (cut l z) z ∷ backs (cut l z) (reverse rest)) (sym (newest_is xs rest x y e h))
+    ∙ ap (λ (m : Logs). back_of m y ∷ backs m (reverse rest)) same
+    ∙ ap (λ (code' : Code). let bs : List Back = record { kept = y.kept; thread = record { code = code'; place = y.place; cursor = y.cursor; notes = chain (reverse (take y.log l.log)) y.head; pending = pending_of (take y.pending l.pending) } } ∷ backs (cut_here l y) (reverse rest) in bs) k
+
 -- the newest, where it leaves all
 pub newest_whole : (l : Logs) (xs rest : List Choice) (x : Choice) (code : Code) → xs ≡ rest ++ x ∷ [] → LeavesAll xs (length l.log) (length l.pending) (length l.codes) → last_code l.codes ≡ code → backs l (reverse xs) ≡ record { kept = x.kept; thread = record { code = code; place = x.place; cursor = x.cursor; notes = chain (reverse l.log) x.head; pending = pending_of l.pending } } ∷ backs l (reverse rest)
 newest_whole l xs rest x code e (y, h, n, p, c) k =
-    let q : y ≡ x = newest_same (get_push rest x y (length xs - 1) (ap (λ (zs : List Choice). slice_get zs (length xs - 1)) (sym e) ∙ h)) in
+    let q : y ≡ x = newest_is xs rest x y e h in
     let f : cut l x ≡ l = subst (λ z. cut l z ≡ l) q (uncut_by l y c n p) in
     ap (backs l) (ap reverse e ∙ reverse-append rest (x ∷ [])) ∙ ap (λ (m : Logs). back_of m x ∷ backs m (reverse rest)) f
     ∙ ap (λ (code' : Code). let bs : List Back = record { kept = x.kept; thread = record { code = code'; place = x.place; cursor = x.cursor; notes = chain (reverse l.log) x.head; pending = pending_of l.pending } } ∷ backs l (reverse rest) in bs) k
-  where
-    newest_same : ((slice_get rest (length xs - 1) ≡ Some y) × (length xs - 1 < length rest)) ⊎ ((length xs - 1 ≡ length rest) × (x ≡ y)) → y ≡ x
-    newest_same (inl (g, l)) = absurd (omega (arith, l, ap length e ∙ length-append rest (x ∷ [])))
-    newest_same (inr (g, z)) = sym z
 
 -- the choices that are left of the k oldest
 oldest_choices : (k : ℕ) (xs : List Choice) → reverse (take k xs) ≡ drop (length xs - k) (reverse xs)

@@ -4,6 +4,7 @@ pub mod Logs
 pub mod View
 pub mod Moved
 pub mod Starts
+pub mod Turns
 pub mod Held
 pub mod Balance
 pub mod Act

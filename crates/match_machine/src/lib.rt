@@ -26,6 +26,7 @@ mod starts;
 mod state;
 mod step;
 mod trail;
+mod turn;
 
 pub use event::{Answer, Assignment, Event, Told, Want};
 pub use matcher::Matcher;

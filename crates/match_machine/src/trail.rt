@@ -10,6 +10,7 @@ ghost use Rattle.match_machine.specs.Standing.{Standing, Back, inside, opened, u
 ghost use Rattle.match_machine.specs.Standing.{unfenced, no_backs, oldest, IsAtArb, IsOpenAtBack, from_end};
 ghost use Rattle.match_machine.specs.Logs.{assigned, pending_of, note_of, chain, entry_at, below_of, last_code};
 ghost use Rattle.match_machine.specs.Logs.{LeavesAll};
+ghost use Rattle.match_machine.specs.Turns.{IsRetried};
 
 use crate::choice::{Choice, Marks};
 use crate::event::Assignment;
@@ -413,6 +414,32 @@ impl Trail {
         Ok(())
     }
 
+    /// Back to the newest choice, if it goes on at a place of the code under way; where, and from which cursor. Else
+    /// nothing changes.
+    #[inline(always)]
+    pub fn retry(&mut self) -> Option<(usize, usize)>
+        ensures back { IfSome result (λ (place, cursor). IsRetried self.old self.new place cursor) }
+        ensures code { self.new.code ≡ self.old.code }
+        ensures none { result ≡ None → self.new ≡ self.old }
+    {
+        let choice = self.choices.last()?;
+        let Kept::To(place) = choice.kept() else {
+            return None;
+        };
+        let cursor = choice.cursor();
+        let marks = choice.marks();
+        if !self.stored || self.codes.len() > marks.codes {
+            return None;
+        }
+        self.head = marks.head;
+        cut_log(&mut self.log, marks.log);
+        cut_pending(&mut self.pending, marks.pending);
+        match self.choices.pop() {
+            Some(_choice) => Some((place, cursor)),
+            None => unreachable!(),
+        }
+    }
+
     /// Back to the newest choice, if there is one.
     #[inline(always)]
     pub fn back(&mut self) -> Result<Option<Choice>, AllocError>
@@ -602,6 +629,16 @@ fn cut_codes(
     codes.truncate(len);
     *code = last_of(codes.as_slice())?;
     Ok(())
+}
+
+/// The log cut to a length.
+#[inline(always)]
+fn cut_log(log: &mut Vec<Entry>, len: usize)
+    ensures { log.new.items ≡ take len log.old.items }
+{
+    if log.len() > len {
+        log.truncate(len);
+    }
 }
 
 /// The pending assignments cut to a length.
