@@ -29,10 +29,10 @@ pub enum Counted {
     RTab(u64),
 }
 
-// What a pattern is kept as.
+// What a pattern is kept as. Bytes stand here without the tag of a text, as there is one of the form.
 #[derive(Drop)]
 enum Form {
-    // A literal of few bytes, which isn't null. That it is one is told by no tag but this.
+    // A literal of few bytes, which isn't null.
     Lit(Few),
     // A literal of bytes that are shared, which isn't null.
     Long(Many),

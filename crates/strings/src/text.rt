@@ -139,15 +139,7 @@ impl Text {
         requires { length bytes.now ≤ 22 }
         ensures { result ≡ bytes.now }
     {
-        let len = bytes.len();
-        let mut array = [0; FEW];
-        array[..len].copy_from_slice(bytes);
-        Text {
-            bytes: Bytes::Own {
-                len: len as u8,
-                array,
-            },
-        }
+        Few::of(bytes).to_text()
     }
 
     // Two texts in one of a few bytes.
