@@ -17,6 +17,7 @@ counted_of (counted.RTab n) = p.RTab n
 -- a literal that is kept as one isn't null
 abbrev pub form_code : Form → Code
 form_code (form.Lit w) = p.Do (p.Lit w) ∷ []
+form_code (form.Long w) = p.Do (p.Lit w) ∷ []
 form_code (form.Counted k) = p.Do (counted_of k) ∷ []
 form_code (form.Break w) = p.Do (p.Break w) ∷ []
 form_code (form.Code c) = c

@@ -14,7 +14,7 @@ use crate::set::Set;
 use crate::single::one;
 use std::alloc::{AllocError, Global};
 use std::marker::Model;
-use strings::Text;
+use strings::{Few, Many, Text};
 
 /// For how many instructions there is room at least where codes are joined.
 pub(crate) const ROOM: usize = 4;
@@ -29,14 +29,16 @@ pub enum Counted {
     RTab(u64),
 }
 
-// What a pattern is kept as.
+// What a pattern is kept as. Bytes stand here without the tag of a text, as there is one of the form.
 #[derive(Drop)]
 enum Form {
-    // A literal, which isn't null.
-    Lit(Text),
+    // A literal of few bytes, which isn't null.
+    Lit(Few),
+    // A literal of bytes that are shared, which isn't null.
+    Long(Many),
     Counted(Counted),
     // BREAK of few bytes.
-    Break(Text),
+    Break(Few),
     Code(PatCode),
 }
 
@@ -45,6 +47,8 @@ enum Form {
 pub struct Pattern {
     form: Form,
 }
+
+const _: () = prove!(size_of::<Pattern>() <= 24);
 
 impl Drop for Pattern {
     #[inline(never)]
@@ -95,9 +99,11 @@ impl Pattern {
         if text.is_empty() {
             return Pattern::of(PatCode::null());
         }
-        Pattern {
-            form: Form::Lit(text),
-        }
+        let form = match text.into_few() {
+            Ok(few) => Form::Lit(few),
+            Err(many) => Form::Long(many),
+        };
+        Pattern { form }
     }
 
     /// A part that has a count. Takes no memory.
@@ -118,7 +124,7 @@ impl Pattern {
     {
         if text.len() <= 3 {
             return Ok(Pattern {
-                form: Form::Break(text),
+                form: Form::Break(Few::of(text.as_slice())),
             });
         }
         Pattern::part(alloc, Basic::Break(Set::of(alloc, text)?))
@@ -145,9 +151,10 @@ impl Pattern {
         ensures { IfOk result (λ code. code ≡ self.now) }
     {
         match &self.form {
-            Form::Lit(text) => one(alloc, Instr::Do(Basic::Lit(text.clone()?))),
+            Form::Lit(few) => one(alloc, Instr::Do(Basic::Lit(few.to_text()))),
+            Form::Long(many) => one(alloc, Instr::Do(Basic::Lit(many.clone()?.into_text()))),
             Form::Counted(part) => one(alloc, Instr::Do(part.basic())),
-            Form::Break(text) => one(alloc, Instr::Do(Basic::Break(Set::once(text.clone()?)))),
+            Form::Break(few) => one(alloc, Instr::Do(Basic::Break(Set::once(few.to_text())))),
             Form::Code(code) => code.clone(),
         }
     }
@@ -167,7 +174,7 @@ impl Pattern {
         ensures { result < 2 ^ 63 }
     {
         match &self.form {
-            Form::Lit(_) | Form::Counted(_) | Form::Break(_) => 1,
+            Form::Lit(_) | Form::Long(_) | Form::Counted(_) | Form::Break(_) => 1,
             Form::Code(code) => code.as_slice().len(),
         }
     }
@@ -179,9 +186,10 @@ impl Pattern {
     {
         let Pattern { form } = self;
         match form {
-            Form::Lit(text) => Ok(Instr::Do(Basic::Lit(text))),
+            Form::Lit(few) => Ok(Instr::Do(Basic::Lit(few.to_text()))),
+            Form::Long(many) => Ok(Instr::Do(Basic::Lit(many.into_text()))),
             Form::Counted(part) => Ok(Instr::Do(part.basic())),
-            Form::Break(text) => Ok(Instr::Do(Basic::Break(Set::once(text)))),
+            Form::Break(few) => Ok(Instr::Do(Basic::Break(Set::once(few.to_text())))),
             Form::Code(code) => Err(code),
         }
     }
@@ -221,9 +229,10 @@ impl Clone for Pattern {
     #[inline(never)]
     fn clone(&self) -> Result<Pattern, AllocError> {
         let form = match &self.form {
-            Form::Lit(text) => Form::Lit(text.clone()?),
+            Form::Lit(few) => Form::Lit(few.clone()?),
+            Form::Long(many) => Form::Long(many.clone()?),
             Form::Counted(part) => Form::Counted(*part),
-            Form::Break(text) => Form::Break(text.clone()?),
+            Form::Break(few) => Form::Break(few.clone()?),
             Form::Code(code) => Form::Code(code.clone()?),
         };
         Ok(Pattern { form })

@@ -184,7 +184,7 @@ fn same_value(left: &Value, right: &Value) -> Option<bool>
         (_, Value::Pattern(_) | Value::Expression(_)) => None,
         (Value::String(s), Value::String(t)) => Some(s == t),
         (Value::Integer(i), Value::Integer(j)) => Some(i == j),
-        (Value::Name(n), Value::Name(m)) => Some(same_name(n, m)),
+        (Value::Name(n), Value::Name(m)) => Some(same_name(n.as_name(), m.as_name())),
         (Value::Object(k), Value::Object(l)) => Some(k == l),
         _ => Some(false),
     }

@@ -11,7 +11,7 @@ use crate::state::State;
 use crate::status::Exit;
 use frames::{Named, pop_name, pop_value};
 use model::{ArithOp, Instr, KeyId, SignOp};
-use world::{Fault, Value, alt, arith, cond, cursor, imm, indir, sign};
+use world::{Fault, SharedName, Value, alt, arith, cond, cursor, imm, indir, sign};
 
 impl State {
     /// Unary `+` or `-`.
@@ -128,6 +128,7 @@ impl State {
         ensures stop { IfHalted result (λ stop. stop ≡ NoMemory) }
     {
         let Named { name, slot: _ } = pop_name(&mut self.operands);
+        let name = SharedName::of(self.alloc, name)?;
         self.put(Value::Name(name), next)
     }
 

@@ -1,7 +1,7 @@
 //! A text: a few bytes of its own, or many that are shared by its clones and by the parts cut from it.
 
 ghost use Rattle.std.specs.Prelude.{◌≡◌, ◌+◌, ◌*◌, ◌^◌, ◌<◌, ◌≤◌, ℕ, [], ◌++◌, length, take, drop, map, IfOk, IfErr};
-ghost use Rattle.std.specs.Prelude.{true, IsTrue, Err, ◌↔◌, slice_range, slice_index, nat_eq};
+ghost use Rattle.std.specs.Prelude.{true, IsTrue, Err, ◌↔◌, slice_range, slice_index, nat_eq, MatchResult};
 ghost use Rattle.std.specs.Cmp.Lexicographic.{pointwise};
 ghost use Rattle.std.specs.Fmt.{signed_decimal};
 ghost use Rattle.std.specs.List.{repeat};
@@ -59,6 +59,36 @@ fn let_go(_shared: Rc<Vec<u8>>) {}
 
 const _: () = prove!(size_of::<Text>() <= 24);
 
+/// The bytes of a text that are its own, at most 22; contracts see the list of them. They take no memory.
+#[derive(Drop)]
+pub struct Few {
+    len: u8,
+    array: [u8; FEW],
+}
+
+/// The bytes of a text that its clones share; contracts see the list of them.
+pub struct Many {
+    start: u32,
+    end: u32,
+    shared: Rc<Vec<u8>>,
+}
+
+const _: () = prove!(size_of::<Few>() <= 23);
+
+const _: () = prove!(size_of::<Many>() <= 16);
+
+impl Drop for Many {
+    #[inline(always)]
+    fn drop(self) {
+        let Many {
+            start: _,
+            end: _,
+            shared,
+        } = self;
+        let_go(shared)
+    }
+}
+
 impl Model for Text {
     ghost use Rattle.std.specs.Prelude.{List, ℕ};
 
@@ -69,6 +99,26 @@ impl Model for Text {
     ghost view = { λ t. bytes_of t.bytes };
 
     ghost invariant = { λ t. AreWithin t.bytes };
+}
+
+impl Model for Few {
+    ghost use Rattle.std.specs.Prelude.{◌≡◌, ◌≤◌, List, ℕ, length, take};
+
+    ghost Value = { List ℕ };
+
+    ghost view = { λ f. take f.len f.array };
+
+    ghost invariant = { λ f. (f.len ≤ 22) × (length f.array ≡ 22) };
+}
+
+impl Model for Many {
+    ghost use Rattle.std.specs.Prelude.{◌≤◌, List, ℕ, length, slice_range};
+
+    ghost Value = { List ℕ };
+
+    ghost view = { λ m. slice_range m.shared.value.items m.start m.end };
+
+    ghost invariant = { λ m. (m.start ≤ m.end) × (m.end ≤ length m.shared.value.items) };
 }
 
 impl Text {
@@ -89,15 +139,7 @@ impl Text {
         requires { length bytes.now ≤ 22 }
         ensures { result ≡ bytes.now }
     {
-        let len = bytes.len();
-        let mut array = [0; FEW];
-        array[..len].copy_from_slice(bytes);
-        Text {
-            bytes: Bytes::Own {
-                len: len as u8,
-                array,
-            },
-        }
+        Few::of(bytes).to_text()
     }
 
     // Two texts in one of a few bytes.
@@ -312,6 +354,87 @@ impl Text {
             }
             Bytes::Own { .. } => unreachable!(),
         }
+    }
+
+    /// The bytes, apart by whether they are its own. Takes no memory.
+    #[inline(always)]
+    pub fn into_few(self) -> Result<Few, Many>
+        ensures { MatchResult result (λ few. few ≡ self) (λ many. many ≡ self) }
+    {
+        let Text { bytes } = self;
+        match bytes {
+            Bytes::Own { len, array } => Ok(Few { len, array }),
+            Bytes::Shared { start, end, shared } => Err(Many { start, end, shared }),
+        }
+    }
+}
+
+impl Few {
+    /// These bytes, which are copied.
+    #[inline]
+    pub fn of(bytes: &[u8]) -> Few
+        requires { length bytes.now ≤ 22 }
+        ensures { result ≡ bytes.now }
+    {
+        let len = bytes.len();
+        let mut array = [0; FEW];
+        array[..len].copy_from_slice(bytes);
+        Few {
+            len: len as u8,
+            array,
+        }
+    }
+
+    /// The text of them. Takes no memory.
+    #[inline(always)]
+    pub fn to_text(&self) -> Text
+        ensures { result ≡ self.now }
+    {
+        Text {
+            bytes: Bytes::Own {
+                len: self.len,
+                array: self.array,
+            },
+        }
+    }
+}
+
+impl Clone for Few {
+    ghost is_clone = { λ few copy. copy ≡ few };
+
+    #[inline(always)]
+    fn clone(&self) -> Result<Few, AllocError> {
+        Ok(Few {
+            len: self.len,
+            array: self.array,
+        })
+    }
+}
+
+impl Many {
+    /// The text of them, which shares them.
+    #[inline(always)]
+    pub fn into_text(self) -> Text
+        ensures { result ≡ self }
+    {
+        let Many { start, end, shared } = self;
+        Text {
+            bytes: Bytes::Shared { start, end, shared },
+        }
+    }
+}
+
+impl Clone for Many {
+    ghost is_clone = { λ many copy. copy ≡ many };
+
+    #[inline(always)]
+    fn clone(&self) -> Result<Many, AllocError> {
+        let shared = self.shared.clone()?;
+        Ok(Many {
+            start: self.start,
+            end: self.end,
+            shared,
+        })
     }
 }
 

@@ -5,7 +5,7 @@ use pattern_compiler::{Instr, Name, PatCode, Pattern};
 use primitives::{Outcome, call_prim};
 use std::alloc::{AllocError, Global};
 use strings::Text;
-use world::{Fault, Value, World, alt, cond, imm};
+use world::{Fault, SharedName, Value, World, alt, cond, imm};
 
 /// An argument.
 #[derive(Clone, Copy)]
@@ -72,12 +72,15 @@ fn value(alloc: Global, arg: Arg<'_>) -> Result<Value, Fault> {
         Arg::Abort => Value::Pattern(Pattern::of(PatCode::abort(alloc)?)),
         Arg::Variable(bytes) => {
             let name = Text::from_slice(alloc, bytes.as_bytes())?;
-            Value::Name(Name::Variable(name))
+            Value::Name(SharedName::of(alloc, Name::Variable(name))?)
         }
-        Arg::Element => Value::Name(Name::Element {
-            object: 0,
-            index: 0,
-        }),
+        Arg::Element => {
+            let name = Name::Element {
+                object: 0,
+                index: 0,
+            };
+            Value::Name(SharedName::of(alloc, name)?)
+        }
         Arg::Expr(expr) => Value::Expression(expr),
         Arg::Object => Value::Object(0),
     })
@@ -88,7 +91,7 @@ fn converted(alloc: Global, call: Call, value: &Value) -> Result<Value, Fault> {
         Call::ToText => Ok(Value::String(value.to_text(alloc)?)),
         Call::ToInt => Ok(Value::Integer(value.to_int()?)),
         Call::ToPattern => Ok(Value::Pattern(Pattern::of(value.to_pattern(alloc)?))),
-        Call::ToName => Ok(Value::Name(value.to_name(alloc)?)),
+        Call::ToName => Ok(Value::Name(SharedName::of(alloc, value.to_name(alloc)?)?)),
         Call::ToLabel => Ok(Value::String(value.to_label(alloc)?)),
         _ => Ok(Value::String(value.to_variable(alloc)?)),
     }
@@ -173,7 +176,10 @@ fn shown(alloc: Global, value: &Value) -> Result<Seen, AllocError> {
         Value::String(bytes) => text(bytes),
         Value::Integer(n) => Seen::Integer(*n),
         Value::Pattern(pattern) => code(&pattern.to_code(alloc)?),
-        Value::Name(Name::Variable(name)) => text(name),
+        Value::Name(name) => match name.as_name() {
+            Name::Variable(variable) => text(variable),
+            _ => Seen::Other,
+        },
         _ => Seen::Other,
     })
 }

@@ -69,7 +69,7 @@ impl Value {
                 Ok(Name::Variable(text.clone()?))
             }
             Value::Integer(n) => Ok(Name::Variable(Text::int_text(alloc, *n)?)),
-            Value::Name(name) => Ok(name.clone()?),
+            Value::Name(name) => Ok(name.as_name().clone()?),
             _ => Err(Fault::Error(ErrorCode::WrongType)),
         }
     }
@@ -82,7 +82,10 @@ impl Value {
         match self {
             Value::String(text) => Ok(text.clone()?),
             Value::Integer(n) => Ok(Text::int_text(alloc, *n)?),
-            Value::Name(Name::Variable(text)) => Ok(text.clone()?),
+            Value::Name(name) => match name.as_name() {
+                Name::Variable(text) => Ok(text.clone()?),
+                _ => Err(Fault::Error(ErrorCode::WrongType)),
+            },
             _ => Err(Fault::Error(ErrorCode::WrongType)),
         }
     }

@@ -9,25 +9,26 @@ ghost use Rattle.world.specs.Answers.{Converts, IfStopped};
 ghost use Rattle.world.specs.Values.{value_of, has_text};
 
 use crate::fault::Fault;
+use crate::shared_name::SharedName;
 use aggregates::{Element, Key};
 use model::ErrorCode;
-use pattern_compiler::{Name, PatCode, Pattern};
+use pattern_compiler::{PatCode, Pattern};
 use std::alloc::{AllocError, Global};
 use strings::Text;
 
-/// A value. Its clones share its bytes and its code.
+/// A value. Its clones share its bytes, its code and its name.
 pub enum Value {
     String(Text),
     Integer(i64),
     Pattern(Pattern),
-    Name(Name),
+    Name(SharedName),
     /// An expression that isn't evaluated, by its number.
     Expression(u32),
     /// An array, a table or a record, by its number in the order of making.
     Object(usize),
 }
 
-const _: () = prove!(size_of::<Value>() <= 40);
+const _: () = prove!(size_of::<Value>() <= 32);
 
 impl Drop for Value {
     #[inline(always)]
@@ -67,7 +68,7 @@ fn of_pattern(pattern: &Pattern) -> Result<Value, AllocError>
 
 // The same name.
 #[inline(never)]
-fn of_name(name: &Name) -> Result<Value, AllocError>
+fn of_name(name: &SharedName) -> Result<Value, AllocError>
     ensures { IfOk result (λ value. value ≡ Value.Name name.now) }
 {
     Ok(Value::Name(name.clone()?))

@@ -44,7 +44,7 @@ pub(crate) struct Variable {
     output: Option<u8>,
 }
 
-const _: () = prove!(size_of::<Variable>() <= 48);
+const _: () = prove!(size_of::<Variable>() <= 40);
 
 impl Variable {
     // A variable without a unit.
