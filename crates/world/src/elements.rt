@@ -221,10 +221,13 @@ impl World {
             ≡ Gives (record {}) (world_of self.new io) }
         ensures kept { result ≡ false → self.new ≡ self.old }
     {
-        let Ok(()) = self.store(object, Place::Element(index), Value::Integer(n)) else {
+        let Ok(stored) = self
+            .heap
+            .set(object, Place::Element(index), Value::Integer(n))
+        else {
             return false;
         };
-        true
+        stored
     }
 
     // A copy of a value at a place of an object, if that was stored.
