@@ -8,3 +8,4 @@ pub mod Held
 pub mod Balance
 pub mod Act
 pub mod Again
+pub mod Straight
