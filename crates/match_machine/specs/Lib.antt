@@ -9,3 +9,4 @@ pub mod Held
 pub mod Balance
 pub mod Act
 pub mod Again
+pub mod Straight

@@ -25,8 +25,11 @@ mod search;
 mod starts;
 mod state;
 mod step;
+mod straight;
 mod trail;
 mod turn;
 
 pub use event::{Answer, Assignment, Event, Told, Want};
 pub use matcher::Matcher;
+pub use run::between;
+pub use straight::{Capture, Part, Straight, match_straight};

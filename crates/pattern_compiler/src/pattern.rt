@@ -1,6 +1,6 @@
 //! Patterns as values have them.
 
-ghost use Rattle.std.specs.Prelude.{◌≡◌, ◌<◌, ◌^◌, [], ◌∷◌, ◌++◌, ℕ, Option, IfOk, OnOk, MatchResult, length};
+ghost use Rattle.std.specs.Prelude.{◌≡◌, ◌<◌, ◌^◌, [], ◌∷◌, ◌++◌, ℕ, Option, IfOk, IfSome, OnOk, MatchResult, length};
 ghost use Rattle.model.specs.Pattern.Patterns as pattern;
 ghost use Rattle.model.specs.Pattern.Code.{basic_code};
 ghost use Rattle.model.specs.Pattern.Stands.{Stands};
@@ -88,6 +88,17 @@ impl Pattern {
     {
         Pattern {
             form: Form::Code(code),
+        }
+    }
+
+    /// The code of a pattern that is kept as code. Takes no memory.
+    #[inline(always)]
+    pub fn kept_code(&self) -> Option<&PatCode>
+        ensures { IfSome result (λ code. code.now ≡ self.now) }
+    {
+        match &self.form {
+            Form::Code(code) => Some(code),
+            _ => None,
         }
     }
 

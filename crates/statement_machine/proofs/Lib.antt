@@ -9,6 +9,7 @@ pub mod Fetching
 pub mod Flowing
 pub mod Wholes
 pub mod Sought
+pub mod Straights
 pub mod Going
 pub mod Joining
 pub mod Keys

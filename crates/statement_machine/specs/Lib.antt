@@ -16,3 +16,4 @@ pub mod Sought
 pub mod Trees
 pub mod Openings
 pub mod Prepared
+pub mod Straight

@@ -43,6 +43,7 @@ mod searches;
 mod slots;
 mod state;
 mod status;
+mod straight;
 mod sums;
 mod terms;
 mod texts;

@@ -314,6 +314,25 @@ impl World {
         }
     }
 
+    /// The value of the variable in a slot, if it has this name, and neither reads from a unit nor writes to one.
+    #[inline(always)]
+    pub fn silent(&self, name: &Text, slot: u32) -> Option<&Value>
+        ensures value { IfSome result (λ value. (io : Io)
+            → fetch_op (target.Variable name.now) (world_of self.now io)
+            ≡ Gives (value_of value.now) (world_of self.now io)) }
+        ensures plain { IfSome result (λ _. IsPlain (target.Variable name.now) slot self.now) }
+    {
+        let (key, variable) = self.variables.get_index(slot as usize)?;
+        let None = variable.output else {
+            return None;
+        };
+        if variable.input.is_none() && *key == *name {
+            Some(&variable.value)
+        } else {
+            None
+        }
+    }
+
     /// The integer in a slot, if the variable there has this name, holds an integer and reads from no unit.
     #[inline(always)]
     pub fn plain_integer(&self, name: &Text, slot: u32) -> Option<i64>

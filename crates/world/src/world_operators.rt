@@ -2,7 +2,8 @@
 
 ghost use Rattle.std.specs.Prelude.{◌≡◌, ◌++◌, ◌+◌, ◌<◌, ◌≤◌, length, IfOk, IfErr, IfSome, Err, ◌↔◌, take, drop};
 ghost use Rattle.model.specs.Language.Io.{Io};
-ghost use Rattle.model.specs.Machine.Steps.{codes_of};
+ghost use Rattle.model.specs.Machine.Steps.{codes_of, PCode};
+ghost use Rattle.model.specs.Deck.Trees.{Bytes};
 ghost use Rattle.model.specs.Language.Conversions.{Gives};
 ghost use Rattle.model.specs.Language.Values.{Str, Pat};
 ghost use Rattle.model.specs.Language.Operators.{cat_op, keyget_op, keyset_op, match_op, assign_op, splice_op};
@@ -245,6 +246,17 @@ impl World {
             pattern,
             anchored: !is_zero(&self.keywords, KeyId::Anchor),
         })
+    }
+
+    /// Whether a match begins at the first place alone.
+    #[inline(always)]
+    pub fn is_anchored(&self) -> bool
+        ensures { (io : Io) (subject : Bytes) (code : PCode)
+            → match_op codes_of (Str subject) (Pat code) (world_of self.now io)
+            ≡ Gives (begun_of (record { subject = subject; pattern = code; anchored = result }))
+            (world_of self.now io) }
+    {
+        !is_zero(&self.keywords, KeyId::Anchor)
     }
 
     /// What a match of these values begins with, where they are a string and a pattern.
