@@ -326,7 +326,10 @@ impl World {
         let None = variable.output else {
             return None;
         };
-        if variable.input.is_none() && *key == *name {
+        let None = variable.input else {
+            return None;
+        };
+        if *key == *name {
             Some(&variable.value)
         } else {
             None
