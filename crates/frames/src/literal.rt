@@ -6,47 +6,27 @@ ghost use Rattle.model.specs.Pattern.Patterns as pattern;
 
 use pattern_compiler::PatCode;
 use std::alloc::{AllocError, Global};
-use std::marker::Model;
 use strings::Text;
 
-/// A text with the code of its literal, which answers the same text again without memory of its own.
+/// The code of a literal, which answers the same text again without memory of its own, and another one in its memory.
 #[derive(Drop)]
 pub(crate) struct Literal {
-    text: Text,
     code: PatCode,
-}
-
-impl Model for Literal {
-    ghost use Rattle.std.specs.Prelude.{◌≡◌, List, ℕ};
-    ghost use Rattle.model.specs.Pattern.Code.{basic_code};
-    ghost use Rattle.model.specs.Pattern.Patterns as pattern;
-
-    ghost Value = { List ℕ };
-
-    ghost view = { λ l. l.text };
-
-    ghost invariant = { λ l. l.code ≡ basic_code (pattern.Lit l.text) };
 }
 
 impl Literal {
     /// The literal of the null text. Takes no memory.
     pub(crate) fn null() -> Literal {
         Literal {
-            text: Text::null(),
             code: PatCode::null(),
         }
     }
 
     /// The code of a text's literal, which stays for the next text.
+    #[inline(always)]
     pub(crate) fn code_of(&mut self, alloc: Global, text: &Text) -> Result<PatCode, AllocError>
         ensures { IfOk result (λ code. code ≡ basic_code (pattern.Lit text.now)) }
     {
-        if self.text != *text {
-            let code = PatCode::lit(alloc, text)?;
-            let copy = text.clone()?;
-            self.code = code;
-            self.text = copy;
-        }
-        self.code.clone()
+        self.code.lit_again(alloc, text)
     }
 }

@@ -1,6 +1,7 @@
 //! Pattern code, shared.
 
-ghost use Rattle.std.specs.Prelude.{◌≡◌, ◌<◌, ◌^◌, ◌++◌, ◌∷◌, [], IfOk, OnOk, length, map, slice_get, option_map};
+ghost use Rattle.std.specs.Prelude.{◌≡◌, ◌<◌, ◌^◌, ◌++◌, ◌∷◌, [], IfOk, IfSome, OnOk, length, map, slice_get, option_map};
+ghost use Rattle.std.specs.Prelude.{true};
 ghost use Rattle.pattern_compiler.specs.View.{instr_of, code_of, shared_code};
 
 use crate::instr::Instr;
@@ -175,6 +176,35 @@ impl PatCode {
             }
             Err(shared) => put(instrs, shared.as_ref().as_slice()),
         }
+    }
+
+    /// The only instruction, if there is just one.
+    #[inline(always)]
+    pub(crate) fn only(&self) -> Option<&Instr>
+        ensures { IfSome result (λ i. self.now ≡ instr_of i.now ∷ []) }
+    {
+        match self.as_slice() {
+            [only] => Some(only),
+            _ => None,
+        }
+    }
+
+    /// Becomes the code of this instruction, if it is that of one which nothing else holds; whether it does.
+    #[inline(always)]
+    pub(crate) fn replace_only(&mut self, instr: Instr) -> bool
+        ensures made { result ≡ true → self.new ≡ instr_of instr ∷ [] }
+    {
+        let Some(shared) = &mut self.shared else {
+            return false;
+        };
+        let Some(instrs) = Rc::get_mut(shared) else {
+            return false;
+        };
+        if instrs.len() != 1 {
+            return false;
+        }
+        instrs[0] = instr;
+        true
     }
 
     /// How many instructions there are.

@@ -1,6 +1,6 @@
 //! Code of patterns without parts.
 
-ghost use Rattle.std.specs.Prelude.{◌≡◌, [], ◌∷◌, ℕ, Option, Some, IfOk};
+ghost use Rattle.std.specs.Prelude.{◌≡◌, [], ◌∷◌, ℕ, Option, Some, IfOk, OnOk};
 ghost use Rattle.model.specs.Pattern.Patterns as pattern;
 ghost use Rattle.model.specs.Pattern.Code.{basic_code, cursor_code, defer_code, defer_basic_code};
 ghost use Rattle.model.specs.Pattern.Stands.{Stands};
@@ -21,6 +21,43 @@ impl PatCode {
             (xs : ℕ → Option Expr) → Stands xs (pattern.Plain (pattern.Lit text.now)) code) }
     {
         PatCode::prim(alloc, Basic::Lit(text.clone()?))
+    }
+
+    /// The same, which this code becomes where the text isn't null, in the same memory where nothing else holds it.
+    pub fn lit_again(&mut self, alloc: Global, text: &Text) -> Result<PatCode, AllocError>
+        ensures { IfOk result (λ code. code ≡ basic_code (pattern.Lit text.now)) }
+    {
+        if text.is_empty() {
+            Ok(PatCode::null())
+        } else {
+            self.become_lit(alloc, text)?;
+            self.clone()
+        }
+    }
+
+    // Becomes the code of a literal that isn't null.
+    #[inline(always)]
+    fn become_lit(&mut self, alloc: Global, text: &Text) -> Result<(), AllocError>
+        ensures { OnOk result (self.new ≡ pattern.Do (pattern.Lit text.now) ∷ []) }
+    {
+        if let Some(Instr::Do(Basic::Lit(last))) = self.only() {
+            if *last == *text {
+                return Ok(());
+            }
+        }
+        if self.replace_only(Instr::Do(Basic::Lit(text.clone()?))) {
+            return Ok(());
+        }
+        self.become_new_lit(alloc, text)
+    }
+
+    // The same in other memory.
+    #[inline(never)]
+    fn become_new_lit(&mut self, alloc: Global, text: &Text) -> Result<(), AllocError>
+        ensures { OnOk result (self.new ≡ pattern.Do (pattern.Lit text.now) ∷ []) }
+    {
+        *self = one(alloc, Instr::Do(Basic::Lit(text.clone()?)))?;
+        Ok(())
     }
 
     /// The code of a part without parts and without effect.
