@@ -1,7 +1,7 @@
 //! Pattern code, shared.
 
-ghost use Rattle.std.specs.Prelude.{◌≡◌, ◌<◌, ◌^◌, ◌++◌, ◌∷◌, [], IfOk, IfSome, OnOk, length, map, slice_get, option_map};
-ghost use Rattle.std.specs.Prelude.{true};
+ghost use Rattle.std.specs.Prelude.{◌≡◌, ◌<◌, ◌^◌, ◌++◌, ◌∷◌, [], IfOk, IfSome, OnOk, length, map};
+ghost use Rattle.std.specs.Prelude.{slice_get, option_map, true};
 ghost use Rattle.pattern_compiler.specs.View.{instr_of, code_of, shared_code};
 
 use crate::instr::Instr;
