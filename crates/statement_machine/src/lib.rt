@@ -30,6 +30,7 @@ mod joined_elements;
 mod joined_ends;
 mod joined_tests;
 mod joined_texts;
+mod known_matches;
 mod machine;
 mod matches;
 mod openings;
