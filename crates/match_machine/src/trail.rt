@@ -97,6 +97,14 @@ impl Trail {
         self.choices.is_empty()
     }
 
+    /// Whether there is one choice alone.
+    #[inline(always)]
+    pub fn is_single(&self) -> bool
+        ensures { result ≡ true → length self.now.backs ≡ 1 }
+    {
+        if self.choices.len() == 1 { true } else { false }
+    }
+
     /// Whether there is no note, no pending assignment and no choice.
     #[inline(always)]
     fn is_bare(&self) -> bool
