@@ -463,7 +463,7 @@ impl Trail {
         };
         let place = choice.place();
         let marks = choice.marks();
-        if !self.stored || self.codes.len() > marks.codes {
+        if self.codes.len() > marks.codes || !self.stored {
             return None;
         }
         self.head = marks.head;
