@@ -1,4 +1,4 @@
-use Rattle.std.proofs.Common.{◌∙◌, reverse}
+use Rattle.std.proofs.Common.{reverse}
 use Rattle.match_machine.specs.Logs.{chain, pending_of, logs_of}
 use Rattle.match_machine.proofs.Chains.{rest_marks, rest_backs}
 use Rattle.match_machine.proofs.trail.Trail.forget.Goals as goal
