@@ -2,10 +2,10 @@
 use Rattle.std.proofs.Common.{◌≡◌, ℕ, zero, suc, ◌+◌, ◌-◌, ◌<◌, ◌≤◌, List, [], ◌∷◌, ◌++◌, reverse, length, refl, sym, ◌∙◌, ap, subst, arith, ◌⊎◌, inl, inr, Option, Some, None, Bool, true, false, cond, take}
 use Rattle.std.proofs.Math.Dec.{eqb, ltb, eqb-suc-zero}
 use Rattle.std.proofs.Math.Seq.{drop-append_seam}
-use Rattle.std.specs.Prelude.{slice_get, get_or, drop}
+use Rattle.std.specs.Prelude.{slice_get, get_or, drop, min}
 use Rattle.std.proofs.lemmas.Bool.{ne_eqb, ltb-true, ltb-false}
 use Rattle.std.proofs.lemmas.Bool.Decides.{eqb_tells}
-use Rattle.std.proofs.lemmas.List.{reverse-append, reverse-reverse, length-reverse, length-append, length-drop, take-append-le, take-append-drop, take_all}
+use Rattle.std.proofs.lemmas.List.{reverse-append, reverse-reverse, length-reverse, length-append, length-drop, length-take, take-append-le, take-append-drop, take_all}
 use Rattle.std.proofs.lemmas.Option.{none-some, same_Some, slice_get_cases}
 use Rattle.model.specs.Pattern.Steps as s
 use Rattle.model.specs.Pattern.Steps.{Code}
@@ -14,7 +14,7 @@ use Rattle.match_machine.specs.declared.trail.Entry.{Entry}
 use Rattle.match_machine.specs.Choices.{Choice}
 use Rattle.match_machine.specs.declared.state.Kept.{Kept}
 use Rattle.match_machine.specs.declared.state.Kept.TheVariants as kept
-use Rattle.match_machine.specs.Standing.{Back, Standing, IsAtArb, no_backs, oldest, top_notes}
+use Rattle.match_machine.specs.Standing.{Back, Standing, IsAtArb, no_backs, older, oldest, top_notes}
 use Rattle.match_machine.specs.Logs.{note_of, pending_of, chain, entry_at, below_of, last_code, Logs, cut, back_of, backs, Marks, LeavesAll}
 
 -- ---- lists of notes
@@ -281,7 +281,7 @@ newest_is xs rest x y e h =
     same (inr (g, z)) = sym z
 
 -- the logs cut to a choice of the code under way
-abbrev cut_here : Logs → Choice → Logs
+abbrev pub cut_here : Logs → Choice → Logs
 cut_here l x = record { codes = l.codes; log = take x.log l.log; pending = take x.pending l.pending }
 
 pub newest_marks : (l : Logs) (xs rest : List Choice) (x y : Choice) → xs ≡ rest ++ x ∷ [] → slice_get xs (length xs - 1) ≡ Some y → length l.codes ≤ y.codes → Marks l (reverse xs) → Marks (record { codes = l.codes; log = take y.log l.log; pending = take y.pending l.pending }) (reverse rest)
@@ -305,6 +305,43 @@ newest_whole l xs rest x code e (y, h, n, p, c) k =
     let f : cut l x ≡ l = subst (λ z. cut l z ≡ l) q (uncut_by l y c n p) in
     ap (backs l) (ap reverse e ∙ reverse-append rest (x ∷ [])) ∙ ap (λ (m : Logs). back_of m x ∷ backs m (reverse rest)) f
     ∙ ap (λ (code' : Code). let bs : List Back = record { kept = x.kept; thread = record { code = code'; place = x.place; cursor = x.cursor; notes = chain (reverse l.log) x.head; pending = pending_of l.pending } } ∷ backs l (reverse rest) in bs) k
+
+-- without the newest
+pub rest_backs : (l : Logs) (xs rest : List Choice) (x : Choice) → xs ≡ rest ++ x ∷ [] → Marks l (reverse xs) → backs l (reverse rest) ≡ older (backs l (reverse xs))
+rest_backs l xs rest x e m =
+    let r : reverse xs ≡ x ∷ reverse rest = ap reverse e ∙ reverse-append rest (x ∷ []) in
+    (uncut_same l x (reverse rest) (subst (Marks l) r m).3).backs ∙ sym (ap (λ ys. older (backs l ys)) r)
+
+-- the logs cut to the newest, which stays
+pub rewound : (l : Logs) (xs : List Choice) (x : Choice) → slice_get xs (length xs - 1) ≡ Some x → length l.codes ≤ x.codes → Marks l (reverse xs) → Same l (cut_here l x) (reverse xs)
+rewound l xs x h c m = go (last_is xs x h)
+  where
+    go : (ys : List Choice) × (reverse xs ≡ x ∷ ys) → Same l (cut_here l x) (reverse xs)
+    go (ys, q) =
+        let marks : Marks l (x ∷ ys) = subst (Marks l) q m in
+        let log : length (take x.log l.log) ≡ min x.log (length l.log) = length-take x.log l.log in
+        let pending : length (take x.pending l.pending) ≡ min x.pending (length l.pending) = length-take x.pending l.pending in
+        let same : cut (cut_here l x) x ≡ cut l x =
+        uncut_by (cut_here l x) x c (omega (arith, log)) (omega (arith, pending))
+        ∙ ap (λ cs. let logs : Logs = record { codes = cs; log = take x.log l.log; pending = take x.pending l.pending } in logs) (sym (take_all x.codes l.codes c)) in
+        record {
+          marks = subst (Marks (cut_here l x)) (sym q) (marks.0, omega (arith, log, marks.1), omega (arith, pending, marks.2), subst (λ k. Marks k ys) (sym same) marks.3);
+          backs = ap (backs (cut_here l x)) q ∙ ap (λ (k : Logs). back_of k x ∷ backs k ys) same ∙ sym (ap (backs l) q);
+        }
+
+pub rewound_to : (l : Logs) (xs : List Choice) (x : Choice) (code : Code) → slice_get xs (length xs - 1) ≡ Some x → length l.codes ≤ x.codes → last_code l.codes ≡ code
+    → (bs : List Back) × (backs (cut_here l x) (reverse xs) ≡ record { kept = x.kept; thread = record { code = code; place = x.place; cursor = x.cursor; notes = chain (reverse (take x.log l.log)) x.head; pending = pending_of (take x.pending l.pending) } } ∷ bs)
+rewound_to l xs x code h c k = go (last_is xs x h)
+  where
+    go : (ys : List Choice) × (reverse xs ≡ x ∷ ys) → (bs : List Back) × (backs (cut_here l x) (reverse xs) ≡ record { kept = x.kept; thread = record { code = code; place = x.place; cursor = x.cursor; notes = chain (reverse (take x.log l.log)) x.head; pending = pending_of (take x.pending l.pending) } } ∷ bs)
+    go (ys, q) =
+        let log : length (take x.log l.log) ≡ min x.log (length l.log) = length-take x.log l.log in
+        let pending : length (take x.pending l.pending) ≡ min x.pending (length l.pending) = length-take x.pending l.pending in
+        let same : cut (cut_here l x) x ≡ cut_here l x = uncut_by (cut_here l x) x c (omega (arith, log)) (omega (arith, pending)) in (
+          backs (cut_here l x) ys,
+          ap (backs (cut_here l x)) q ∙ ap (λ (m : Logs). back_of m x ∷ backs m ys) same
+              ∙ ap (λ (code' : Code). let bs : List Back = record { kept = x.kept; thread = record { code = code'; place = x.place; cursor = x.cursor; notes = chain (reverse (take x.log l.log)) x.head; pending = pending_of (take x.pending l.pending) } } ∷ backs (cut_here l x) ys in bs) k,
+        )
 
 -- the choices that are left of the k oldest
 oldest_choices : (k : ℕ) (xs : List Choice) → reverse (take k xs) ≡ drop (length xs - k) (reverse xs)

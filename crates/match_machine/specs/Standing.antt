@@ -30,10 +30,23 @@ abbrev pub IsAtArb : Standing → ℕ → ℕ → Type 0
 IsAtArb st p e =
     (t : s.Thread) × (bs : List Back) × (st.backs ≡ record { kept = kept.Arb e; thread = t } ∷ bs) × (t.place ≡ p) × (t.code ≡ st.code)
 
--- the newest choice goes back to ARB from the end e on
+-- the newest choice goes back to something else
+abbrev pub from_kept : Kept → List Back → List Back
+from_kept k [] = []
+from_kept k (x ∷ xs) = record { kept = k; thread = x.thread } ∷ xs
+
+-- it goes back to ARB from the end e on
 abbrev pub from_end : ℕ → List Back → List Back
-from_end e [] = []
-from_end e (x ∷ xs) = record { kept = kept.Arb e; thread = x.thread } ∷ xs
+from_end e xs = from_kept (kept.Arb e) xs
+
+-- without the newest
+abbrev pub older : List Back → List Back
+older [] = []
+older (x ∷ xs) = xs
+
+-- the newest note is that of OPEN
+abbrev pub IsOpen : Standing → Type 0
+IsOpen st = (b : ℕ) × (ns : List s.Note) × (st.notes ≡ s.Opened b ∷ ns)
 
 -- the notes of the newest choice
 abbrev pub top_notes : List Back → List s.Note

@@ -18,6 +18,7 @@ mod arbs;
 mod choice;
 mod ends;
 mod event;
+mod falls;
 mod glide;
 mod matcher;
 mod run;

@@ -7,10 +7,10 @@ ghost use Rattle.model.specs.Pattern.Steps as s;
 ghost use Rattle.model.specs.Pattern.Steps.{Code};
 ghost use Rattle.model.specs.Pattern.Patterns.{Pending};
 ghost use Rattle.match_machine.specs.Standing.{Standing, Back, inside, opened, unopened, fenced};
-ghost use Rattle.match_machine.specs.Standing.{unfenced, no_backs, oldest, IsAtArb, IsOpenAtBack, from_end};
+ghost use Rattle.match_machine.specs.Standing.{unfenced, no_backs, oldest, older, IsAtArb, IsOpen, IsOpenAtBack, from_kept};
 ghost use Rattle.match_machine.specs.Logs.{assigned, pending_of, note_of, chain, entry_at, below_of, last_code};
 ghost use Rattle.match_machine.specs.Logs.{LeavesAll};
-ghost use Rattle.match_machine.specs.Turns.{IsRetried};
+ghost use Rattle.match_machine.specs.Turns.{IsRetried, IsRewound};
 
 use crate::choice::{Choice, Marks};
 use crate::event::Assignment;
@@ -95,6 +95,14 @@ impl Trail {
         ensures { result ≡ no_backs self.now.backs }
     {
         self.choices.is_empty()
+    }
+
+    /// Whether there is one choice alone.
+    #[inline(always)]
+    pub fn is_single(&self) -> bool
+        ensures { result ≡ true → length self.now.backs ≡ 1 }
+    {
+        if self.choices.len() == 1 { true } else { false }
     }
 
     /// Whether there is no note, no pending assignment and no choice.
@@ -401,15 +409,15 @@ impl Trail {
         }
     }
 
-    /// The newest choice, which goes back to ARB, does so from a further end.
-    pub fn pass_arb(&mut self, end: usize) -> Result<(), AllocError>
-        ensures { OnOk result
-            (self.new ≡ record self.old { backs = from_end end self.old.backs }) }
+    /// The newest choice goes back to something else.
+    #[inline(always)]
+    pub fn pass_to(&mut self, kept: Kept) -> Result<(), AllocError>
+        ensures ok { OnOk result
+            (self.new ≡ record self.old { backs = from_kept kept self.old.backs }) }
+        ensures code { self.new.code ≡ self.old.code }
     {
         if let Some(choice) = self.choices.pop() {
-            let (place, cursor) = (choice.place(), choice.cursor());
-            let passed = Choice::new(Kept::Arb(end), place, cursor, choice.marks())?;
-            self.choices.push(passed)?;
+            self.choices.push_reserved(choice.leading_to(kept)?);
         }
         Ok(())
     }
@@ -438,6 +446,58 @@ impl Trail {
             Some(_choice) => Some((place, cursor)),
             None => unreachable!(),
         }
+    }
+
+    /// Back to where the newest choice was kept, with the choice, if it goes on at a further end in the code under way;
+    /// at which place it was kept, and what is gone back to. Else nothing changes.
+    #[inline(always)]
+    pub fn rewind(&mut self) -> Option<(usize, Kept)>
+        ensures back { IfSome result (λ (place, kept). IsRewound self.old self.new place kept) }
+        ensures code { self.new.code ≡ self.old.code }
+        ensures none { result ≡ None → self.new ≡ self.old }
+    {
+        let choice = self.choices.last()?;
+        let kept = choice.kept();
+        let (Kept::Arb(_) | Kept::Bal(_)) = kept else {
+            return None;
+        };
+        let place = choice.place();
+        let marks = choice.marks();
+        if self.codes.len() > marks.codes || !self.stored {
+            return None;
+        }
+        self.head = marks.head;
+        cut_log(&mut self.log, marks.log);
+        cut_pending(&mut self.pending, marks.pending);
+        Some((place, kept))
+    }
+
+    /// Whether the newest choice goes on at a further end.
+    #[inline(always)]
+    pub fn goes_to_end(&self) -> bool {
+        match self.choices.last() {
+            Some(choice) => choice.goes_to_end(),
+            None => false,
+        }
+    }
+
+    /// Without the newest choice.
+    #[inline(always)]
+    pub fn forget(&mut self)
+        ensures { self.new ≡ record self.old { backs = older self.old.backs } }
+    {
+        match self.choices.pop() {
+            Some(_choice) => return,
+            None => {}
+        }
+    }
+
+    /// Whether the newest note is that of OPEN.
+    #[inline(always)]
+    pub fn is_open(&self) -> bool
+        ensures { result ≡ true → IsOpen self.now }
+    {
+        is_opened_at(self.log.as_slice(), self.head)
     }
 
     /// Back to the newest choice, if there is one.

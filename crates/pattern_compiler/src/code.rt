@@ -59,7 +59,8 @@ impl PatCode {
     }
 
     /// The instructions in order.
-    pub(crate) fn as_slice(&self) -> &[Instr]
+    #[inline(always)]
+    pub fn as_slice(&self) -> &[Instr]
         ensures { code_of result.now ≡ self.now }
     {
         match &self.shared {

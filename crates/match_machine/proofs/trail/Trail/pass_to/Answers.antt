@@ -1,6 +1,6 @@
 use Rattle.match_machine.specs.Logs.{logs_of}
 use Rattle.match_machine.proofs.Chains.{rest_marks}
-use Rattle.match_machine.proofs.trail.Trail.pass_arb.Goals as goal
+use Rattle.match_machine.proofs.trail.Trail.pass_to.Goals as goal
 
 pub invariant_of-self : goal.invariant_of-self
 invariant_of-self c =
