@@ -13,7 +13,7 @@ ghost use Rattle.aggregates.specs.Keys.{key_of};
 ghost use Rattle.aggregates.specs.Objects.{stored_at};
 ghost use Rattle.pattern_compiler.specs.View.{name_of};
 ghost use Rattle.world.specs.Values.{value_of};
-ghost use Rattle.world.specs.Held.{world_of};
+ghost use Rattle.world.specs.Held.{StaySilent, world_of};
 ghost use Rattle.world.specs.Elements.{HoldsAt, IndexesEntry, IsEntry, key_value};
 ghost use Rattle.world.specs.Answers.{answer_map, done, AnswersAs, AnswersOrFails, IfStopped};
 
@@ -98,6 +98,7 @@ impl World {
         ensures set { result ≡ true → (name : target.Name) → IsEntry name object index self.old → (io : Io)
             → assign_op name (Int n) (world_of self.old io)
             ≡ Gives (record {}) (world_of self.new io) }
+        ensures silent { StaySilent self.old self.new }
         ensures kept { result ≡ false → self.new ≡ self.old }
     {
         let stored = self.heap.put_entry(object, index, Value::Integer(n));
@@ -219,6 +220,7 @@ impl World {
         ensures set { result ≡ true → (io : Io)
             → assign_op (Element object index) (Int n) (world_of self.old io)
             ≡ Gives (record {}) (world_of self.new io) }
+        ensures silent { StaySilent self.old self.new }
         ensures kept { result ≡ false → self.new ≡ self.old }
     {
         let Ok(stored) = self
