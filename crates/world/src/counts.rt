@@ -45,10 +45,7 @@ impl World {
         ensures { (io : Io) → result ≡ over_limit (world_of self.now io) }
     {
         let limit = integer(&self.keywords, KeyId::StLimit);
-        if limit < 0 {
-            return false;
-        }
-        limit <= integer(&self.keywords, KeyId::StCount)
+        limit >= 0 && limit <= integer(&self.keywords, KeyId::StCount)
     }
 
     /// The statement of this number begins.
