@@ -7,6 +7,7 @@ pub mod Calling
 pub mod Resuming
 pub use Rattle.world.specs.Answers
 pub mod Elements
+pub mod Fixed
 pub mod Forms
 pub mod Joined
 pub mod Sums

@@ -20,6 +20,8 @@ mod elements;
 mod entries;
 mod evaluating;
 mod failing;
+mod fixed;
+mod fixed_forms;
 mod forms;
 mod gotos;
 mod instructions;

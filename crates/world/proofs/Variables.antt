@@ -18,7 +18,7 @@ use Rattle.model.specs.Language.Keywords.{Keys}
 use Rattle.model.specs.Language.Values.{Object, Str, set_var, set_plain}
 use Rattle.model.specs.Language.Primitives.{set_reads, set_writes}
 use Rattle.model.specs.Language.Conversions.{Gives}
-use Rattle.model.specs.Language.Operators.{assign_op, write_var}
+use Rattle.model.specs.Language.Operators.{assign_op, fetch_op, fetch_var, write_var}
 use Rattle.model.specs.Deck.Target as target
 use Rattle.model.specs.Machine.Steps.{MVal}
 use Rattle.world.specs.Values.{value_of}
@@ -26,7 +26,7 @@ use Rattle.world.specs.Functions.{Functions, functions_in}
 use Rattle.world.specs.Objects.{object_map}
 use Rattle.world.specs.declared.value.Value.{Value}
 use Rattle.world.specs.declared.value.Value.TheVariants.{String}
-use Rattle.world.specs.Held.{WorldView, IsPlain, StandsIn, variable_at, name_at, value_in, input_in, output_in, world_of}
+use Rattle.world.specs.Held.{WorldView, IsPlain, IsSilent, StandsIn, StaySilent, variable_at, name_at, value_in, input_in, output_in, world_of}
 use Rattle.world.specs.declared.world.Variable.{Variable}
 
 -- the variable of one name is this, and all others stay
@@ -240,6 +240,29 @@ plain_still m h new (target.Element a b) other k at old v value is made unique t
 plain_still m h new (target.IntegerKey a b) other k at old v value is made unique there e plain next = absurd plain
 plain_still m h new (target.StringKey a b) other k at old v value is made unique there e plain next = absurd plain
 
+-- the variable in a slot has a name, by which it is found
+named_there : (vs : List (Bytes × Variable)) (k : ℕ) (v : Variable) → Some v ≡ slice_get (values_of vs) k → IsDistinct bytes_eq (keys_of vs) → (x : Bytes) × StandsIn x k vs
+named_there vs k v there unique = go (slice_get vs k) refl (sym (there ∙ slice_get-map (λ e. e.1) vs k))
+  where
+    go : (o : Option (Bytes × Variable)) → slice_get vs k ≡ o → option_map (λ e. e.1) o ≡ Some v → (x : Bytes) × StandsIn x k vs
+    go None is e = absurd (cc)
+    go (Some p) is e = (p.0, (p.1, is, lookup_from_place nat_list_eq_equiv vs k p.0 p.1 unique is))
+
+-- and so does every variable that has no unit
+pub silent_still : {S : Type 0} (m : IndexMap Bytes Variable S) (h new : WorldView) (k : ℕ) (old v : Variable) (value : Value) → m.entries ≡ h.variables → new.variables ≡ (with_value_at m k v).entries → IsUnique bytes_eq m → Some old ≡ slice_get (values_of m.entries) k → v ≡ record old { value = value }
+    → StaySilent h new
+silent_still m h new k old v value is made unique there e y at silent =
+    let named = named_there m.entries k old there unique in
+    let x = named.0 in
+    let stands = named.1 in
+    let before = sym is in
+    let after = with_value_at m k v in
+    let puts : Puts m.entries after.entries x v = (updates-with_value_at m k v nat_list_eq_equiv unique x stands.0 stands.1).0 in
+    let reads : input_in (Some v) ≡ input_in (variable_at x m.entries) = ap (λ z. z.input) e ∙ sym (ap input_in (held_there m.entries x k old stands there)) in
+    let still = stands_still m x y k at old v value unique stands there e (subst (StandsIn y at) before silent.0) (subst (λ l. output_in (variable_at y l) ≡ None) before silent.2) in
+    let none = stays input_in m.entries after.entries x v puts reads y ∙ subst (λ l. input_in (variable_at y l) ≡ None) before silent.1 in
+    subst (λ l. StandsIn y at l × (input_in (variable_at y l) ≡ None) × (output_in (variable_at y l) ≡ None)) (sym made) (still.0, none, still.1)
+
 -- ---- variables without units
 
 -- what is assigned to a variable that writes to none
@@ -247,3 +270,8 @@ pub assigned_plain : (h new : WorldView) (n : target.Name) (k : ℕ) (v : MVal) 
     → (io : Io) → assign_op n v (world_of h io) ≡ Gives (record {}) (world_of new io)
 assigned_plain h new (target.Variable x) k v plain set io = ap (λ u. write_var u v (set_var x v (world_of h io))) plain.1 ∙ ap (λ w. Gives (record {}) w) (sym (set x plain.0 io))
 assigned_plain h new _ k v plain set io = absurd plain
+
+-- what is fetched from a variable that has none, by what stands in its slot
+pub fetched_silent : (h : WorldView) (x : Bytes) (k : ℕ) (v : Variable) → IsSilent x k h → slice_get (values_of h.variables) k ≡ Some v → (io : Io) → fetch_op (target.Variable x) (world_of h io) ≡ Gives (value_of v.value) (world_of h io)
+fetched_silent h x k v silent there io =
+    ap (λ u. fetch_var x u (world_of h io)) silent.1 ∙ ap (λ o. Gives (value_in o) (world_of h io)) (held_there h.variables x k v silent.0 (sym there))

@@ -60,6 +60,14 @@ abbrev pub IsPlain : target.Name → (slot : ℕ) → WorldView → Type 0
 IsPlain (target.Variable x) slot h = StandsIn x slot h.variables × (output_in (variable_at x h.variables) ≡ None)
 IsPlain _ slot h = ⊥
 
+-- a variable of this name stands in this slot, and neither reads from a unit nor writes to one
+abbrev pub IsSilent : Bytes → (slot : ℕ) → WorldView → Type 0
+IsSilent x slot h = StandsIn x slot h.variables × (input_in (variable_at x h.variables) ≡ None) × (output_in (variable_at x h.variables) ≡ None)
+
+-- what stands so in one world stands so in the other
+abbrev pub StaySilent : (old new : WorldView) → Type 0
+StaySilent old new = (x : Bytes) (slot : ℕ) → IsSilent x slot old → IsSilent x slot new
+
 -- the world that it is, with what stands on units
 abbrev pub world_of : WorldView → Io → MW
 world_of h io = record {

@@ -8,7 +8,7 @@ ghost use Rattle.model.specs.Language.Meaning.{over_limit};
 ghost use Rattle.model.specs.Language.Values as values;
 ghost use Rattle.model.specs.Language.Values.{enter_stmt};
 ghost use Rattle.world.specs.Counts.{deeper, is_counted, with_caller};
-ghost use Rattle.world.specs.Held.{world_of};
+ghost use Rattle.world.specs.Held.{StaySilent, world_of};
 
 use crate::world::World;
 use keywords::{KeyValue, Keywords};
@@ -50,7 +50,8 @@ impl World {
 
     /// The statement of this number begins.
     pub fn enter_statement(&mut self, number: u32)
-        ensures { (io : Io) → world_of self.new io ≡ enter_stmt number (world_of self.old io) }
+        ensures entered { (io : Io) → world_of self.new io ≡ enter_stmt number (world_of self.old io) }
+        ensures silent { StaySilent self.old self.new }
     {
         let count = counted(integer(&self.keywords, KeyId::StCount));
         let last = integer(&self.keywords, KeyId::StNo);
@@ -85,7 +86,8 @@ impl World {
 
     /// A statement failed.
     pub fn count_failure(&mut self)
-        ensures { (io : Io) → world_of self.new io ≡ values.count_failure (world_of self.old io) }
+        ensures counted { (io : Io) → world_of self.new io ≡ values.count_failure (world_of self.old io) }
+        ensures silent { StaySilent self.old self.new }
     {
         let count = counted(integer(&self.keywords, KeyId::StFCount));
         self.keywords.put(KeyId::StFCount, count);

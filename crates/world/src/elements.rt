@@ -7,13 +7,13 @@ ghost use Rattle.model.specs.Deck.Target.{Element};
 ghost use Rattle.model.specs.Language.Values.{Int, Obj, Str};
 ghost use Rattle.model.specs.Language.Operators.{there, assign_op, entry_of, fetch_op, put_object};
 ghost use Rattle.model.specs.Language.Aggregates.{element_op};
-ghost use Rattle.model.specs.Language.Conversions.{Gives};
+ghost use Rattle.model.specs.Language.Conversions.{Gives, Refuses};
 ghost use Rattle.model.specs.declared.run.Stop.TheVariants.{NoMemory};
 ghost use Rattle.aggregates.specs.Keys.{key_of};
 ghost use Rattle.aggregates.specs.Objects.{stored_at};
 ghost use Rattle.pattern_compiler.specs.View.{name_of};
 ghost use Rattle.world.specs.Values.{value_of};
-ghost use Rattle.world.specs.Held.{world_of};
+ghost use Rattle.world.specs.Held.{StaySilent, world_of};
 ghost use Rattle.world.specs.Elements.{HoldsAt, IndexesEntry, IsEntry, key_value};
 ghost use Rattle.world.specs.Answers.{answer_map, done, AnswersAs, AnswersOrFails, IfStopped};
 
@@ -34,6 +34,21 @@ impl World {
             ≡ Gives (Element object index) (world_of self.now io)) }
     {
         self.heap.place_of_one(object, subscript)
+    }
+
+    /// Whether an array of one dimension has no element for a subscript.
+    #[inline(never)]
+    pub fn is_outside(&self, object: usize, subscript: i64) -> bool
+        ensures { result ≡ true → (io : Io)
+            → element_op (Obj object) (Int subscript ∷ []) (world_of self.now io) ≡ Refuses (world_of self.now io) }
+    {
+        if self.heap.dimensions(object) != 1 {
+            return false;
+        }
+        match self.heap.place_of_one(object, subscript) {
+            Some(_) => false,
+            None => true,
+        }
     }
 
     /// The value of an element by its place.
@@ -98,6 +113,7 @@ impl World {
         ensures set { result ≡ true → (name : target.Name) → IsEntry name object index self.old → (io : Io)
             → assign_op name (Int n) (world_of self.old io)
             ≡ Gives (record {}) (world_of self.new io) }
+        ensures silent { StaySilent self.old self.new }
         ensures kept { result ≡ false → self.new ≡ self.old }
     {
         let stored = self.heap.put_entry(object, index, Value::Integer(n));
@@ -219,6 +235,7 @@ impl World {
         ensures set { result ≡ true → (io : Io)
             → assign_op (Element object index) (Int n) (world_of self.old io)
             ≡ Gives (record {}) (world_of self.new io) }
+        ensures silent { StaySilent self.old self.new }
         ensures kept { result ≡ false → self.new ≡ self.old }
     {
         let Ok(stored) = self

@@ -1,8 +1,9 @@
 //! The world of a run.
 
-ghost use Rattle.std.specs.Prelude.{◌≡◌, ℕ, [], pos, Some, None, is_some, option_copied};
+ghost use Rattle.std.specs.Prelude.{◌≡◌, ◌<◌, ℕ, [], length, pos, Some, None, is_some, option_copied};
 ghost use Rattle.std.specs.Prelude.{IfOk, IfSome, true, false, OnOk, OnErr, if◌then◌else◌};
 ghost use Rattle.model.specs.Deck.Target as target;
+ghost use Rattle.model.specs.Deck.Trees.{Bytes};
 ghost use Rattle.model.specs.Language.Conversions.{Gives};
 ghost use Rattle.model.specs.Language.Io.{Io};
 ghost use Rattle.model.specs.Language.Operators.{assign_op, fetch_op};
@@ -14,6 +15,7 @@ ghost use Rattle.model.specs.Laws.PrintedBefore.{after_w};
 ghost use Rattle.pattern_compiler.specs.View.{name_of};
 ghost use Rattle.world.specs.Values.{value_of};
 ghost use Rattle.world.specs.Held.{world_of, IsPlain, StandsIn, name_at, zero_in, variable_at, value_in};
+ghost use Rattle.world.specs.Held.{IsSilent, StaySilent};
 ghost use Rattle.world.specs.Held.{input_in, output_in};
 ghost use Rattle.world.specs.Held.{with_variable, pattern_variable, first_patterns, first_variables};
 ghost use Rattle.world.specs.declared.value.Value.TheVariants.{String};
@@ -336,6 +338,34 @@ impl World {
         }
     }
 
+    /// Whether the variable in a slot has this name, and neither reads from a unit nor writes to one.
+    #[inline(always)]
+    pub fn is_silent(&self, name: &Text, slot: u32) -> bool
+        ensures { result ≡ true → IsSilent name.now slot self.now }
+    {
+        let Some((key, variable)) = self.variables.get_index(slot as usize) else {
+            return false;
+        };
+        let None = variable.output else {
+            return false;
+        };
+        let None = variable.input else {
+            return false;
+        };
+        *key == *name
+    }
+
+    /// The value of the variable in a slot.
+    #[inline(always)]
+    pub fn value_in(&self, slot: u32) -> &Value
+        requires { slot < length self.now.variables }
+        ensures { (x : Bytes) → IsSilent x slot self.now → (io : Io)
+            → fetch_op (target.Variable x) (world_of self.now io)
+            ≡ Gives (value_of result.now) (world_of self.now io) }
+    {
+        &self.variables[slot as usize].value
+    }
+
     /// The integer in a slot, if the variable there has this name, holds an integer and reads from no unit.
     #[inline(always)]
     pub fn plain_integer(&self, name: &Text, slot: u32) -> Option<i64>
@@ -388,6 +418,7 @@ impl World {
             ≡ Gives (record {}) (world_of self.new io) }
         ensures others { (name other : target.Name) (at : ℕ) → IsPlain name slot self.old
             → IsPlain other at self.old → IsPlain other at self.new }
+        ensures silent { StaySilent self.old self.new }
         ensures keys { self.new.keys ≡ self.old.keys }
     {
         let Some(variable) = self.variables.get_index_mut(slot as usize) else {

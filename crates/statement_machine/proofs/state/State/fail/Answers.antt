@@ -24,7 +24,7 @@ returns-in-Some-Statement-clause-left c im fs io =
     let ops = operands_of new_ops.top in
     let hs = handlers_of o new_hs.top in
     subst (λ x. fail_to (handlers_of o s.handlers.top) (operands_of s.operands.top) waits w ≡ caught_at o (Some x) ops hs waits w) c.in-Some-Statement.field-0-is (c.in-Some-Statement.ensures.leads o waits w)
-    ∙ ap (λ v. Run to ops hs waits v) (sym (c.count_failure.ensures io))
+    ∙ ap (λ v. Run to ops hs waits v) (sym (c.count_failure.ensures.counted io))
     ∙ ap (λ us. Run to ops hs (frames_of o fs us s.handlers.under s.saved.items) w1) (sym (ap (λ (l : Stacked Operand). l.under) c.in-Some-Statement.ensures.operands))
     ∙ ap (λ us. Run to ops hs (frames_of o fs new_ops.under us s.saved.items) w1) (sym (ap (λ (l : Stacked Handler). l.under) c.in-Some-Statement.ensures.handlers))
 

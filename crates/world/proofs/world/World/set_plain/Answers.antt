@@ -1,7 +1,8 @@
 use Rattle.std.proofs.Common.{ap, refl, subst, sym}
+use Rattle.indexmap.specs.IndexMap.{with_value_at}
 use Rattle.world.specs.Held.{WorldView, StandsIn}
 use Rattle.world.specs.Values.{value_of}
-use Rattle.world.proofs.Variables.{assigned_plain, plain_still, put_in_slot}
+use Rattle.world.proofs.Variables.{assigned_plain, plain_still, put_in_slot, silent_still}
 use Rattle.world.proofs.world.World.set_plain.Goals as goal
 
 pub returns-clause-set : goal.returns-clause-set
@@ -17,3 +18,9 @@ returns-clause-others c name other at plain next =
     let w = c.self.inside in
     plain_still w.variables c.args.self.now _ name other c.args.slot at c.in-Some.variable.now c.set.new.self c.args.value (ap {A = WorldView} (λ h. h.variables) c.self.view_is) refl
     c.get_index_mut.ensures.unique c.in-Some.ensures.value c.set.ensures plain next
+
+pub returns-clause-silent : goal.returns-clause-silent
+returns-clause-silent c =
+    let w = c.self.inside in
+    silent_still w.variables c.args.self.now (record { variables = (with_value_at w.variables c.args.slot c.set.new.self).entries; objects = w.heap; functions = w.functions; keys = w.keywords; level = w.level }) c.args.slot c.in-Some.variable.now c.set.new.self c.args.value (ap {A = WorldView} (λ h. h.variables) c.self.view_is) refl
+    c.get_index_mut.ensures.unique c.in-Some.ensures.value c.set.ensures
