@@ -32,3 +32,4 @@ pub mod Constantly
 pub mod Expressions
 pub mod Needles
 pub mod Preparing
+pub mod AtOnce

@@ -9,6 +9,7 @@ pub use Rattle.world.specs.Answers
 pub mod Elements
 pub mod Forms
 pub mod Joined
+pub mod KnownCalls
 pub mod Sums
 pub mod Texts
 pub mod Constants

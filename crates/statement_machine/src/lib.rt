@@ -14,6 +14,7 @@
 mod alone;
 mod callers;
 mod calls;
+mod calls_at_once;
 mod constants;
 mod destinations;
 mod elements;
@@ -30,6 +31,7 @@ mod joined_elements;
 mod joined_ends;
 mod joined_tests;
 mod joined_texts;
+mod known_calls;
 mod machine;
 mod matches;
 mod openings;
