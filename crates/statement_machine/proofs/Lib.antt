@@ -33,3 +33,4 @@ pub mod Expressions
 pub mod Needles
 pub mod Preparing
 pub mod Fixing
+pub mod AtOnce

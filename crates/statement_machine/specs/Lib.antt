@@ -10,6 +10,7 @@ pub mod Elements
 pub mod Fixed
 pub mod Forms
 pub mod Joined
+pub mod KnownCalls
 pub mod Sums
 pub mod Texts
 pub mod Constants

@@ -14,6 +14,7 @@
 mod alone;
 mod callers;
 mod calls;
+mod calls_at_once;
 mod constants;
 mod destinations;
 mod elements;
@@ -32,6 +33,7 @@ mod joined_elements;
 mod joined_ends;
 mod joined_tests;
 mod joined_texts;
+mod known_calls;
 mod known_matches;
 mod machine;
 mod matches;
