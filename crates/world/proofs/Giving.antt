@@ -48,6 +48,11 @@ pub take_one : {T : Type 0} (n : ℕ) (x : T) → 0 < n → x ∷ [] ≡ take n 
 take_one zero x some = absurd omega (arith, some)
 take_one {T = T} (suc n) x some = ap (λ xs. x ∷ xs) (sym (take_nothing T n))
 
+-- the same of two
+pub take_two : {T : Type 0} (n : ℕ) (x y : T) → 1 < n → x ∷ y ∷ [] ≡ take n (x ∷ y ∷ [])
+take_two zero x y some = absurd omega (arith, some)
+take_two (suc n) x y some = ap (λ xs. x ∷ xs) (take_one n y (omega (arith, some)))
+
 pub put_all : (f : FunctionPrototype) (given before mid after : List Value) (null : Value) (n count : ℕ) → value_of null ≡ Str [] → n ≡ length f.arguments → mid ≡ (before ++ null ∷ []) ++ take n given → count ≡ length before + length (names_of f)
     → AreFilled count mid after → ArePut f given before after
 put_all f given before mid after null n count is arity put all (ns, filled, same, size) =

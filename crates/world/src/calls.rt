@@ -147,6 +147,25 @@ fn put_one(
     fill(values, count)
 }
 
+// The same of two arguments, for a function that takes them.
+#[inline(always)]
+fn put_two(
+    prototype: &FunctionPrototype,
+    first: Value,
+    second: Value,
+    values: &mut Vec<Value>,
+) -> Result<(), AllocError>
+    requires { 1 < length prototype.now.arguments }
+    ensures { OnOk result
+        (ArePut prototype.now (first ∷ second ∷ []) values.old.items values.new.items) }
+{
+    let count = values.len() + prototype.names().len();
+    put(values, Value::null())?;
+    put(values, first)?;
+    put(values, second)?;
+    fill(values, count)
+}
+
 impl World {
     // A variable's value, which is null at first.
     fn value(&self, name: &Text, slot: u32) -> Result<Value, AllocError>
@@ -227,6 +246,35 @@ impl World {
         let level = self.level();
         let base = saved.len();
         put_one(&prototype, argument, saved)?;
+        self.exchange_all(prototype.names(), prototype.slots(), base, saved)?;
+        self.deepen();
+        Ok(Kept {
+            prototype,
+            statement,
+            level,
+        })
+    }
+
+    /// `enter_call` with two arguments, of a function that takes them.
+    #[inline(always)]
+    pub fn enter_call_with_two(
+        &mut self,
+        prototype: FunctionPrototype,
+        first: Value,
+        second: Value,
+        saved: &mut Vec<Value>,
+    ) -> Result<Kept, AllocError>
+        requires { 1 < length prototype.arguments }
+        ensures entered { OnOk result ((io : Io)
+            → world_of self.new io
+            ≡ enter_call prototype.name prototype.arguments prototype.locals
+            (value_of first ∷ value_of second ∷ []) (world_of self.old io)) }
+        ensures kept { IfOk result (λ kept. IsKept kept prototype saved.old.items saved.new.items self.old) }
+    {
+        let statement = self.statement();
+        let level = self.level();
+        let base = saved.len();
+        put_two(&prototype, first, second, saved)?;
         self.exchange_all(prototype.names(), prototype.slots(), base, saved)?;
         self.deepen();
         Ok(Kept {
