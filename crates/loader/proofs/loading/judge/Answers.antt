@@ -1,7 +1,7 @@
 use Rattle.std.proofs.Common.{◌∙◌, ap, map, subst}
 use Rattle.model.specs.declared.format.Version.TheVariants as versions
 use Rattle.model.specs.Module.WellFormed.{IsTold}
-use Rattle.loader.specs.Places.{place_from, place_of}
+use Rattle.loader.specs.Places.{place_by_offset, place_of}
 use Rattle.loader.proofs.Judging.{loaded}
 use Rattle.loader.proofs.loading.judge.Goals as goal
 
@@ -10,4 +10,4 @@ new-requires-clause-loaded c = loaded c.args.image c.requires (subst (IsTold ver
 
 pub new-requires-clause-places : goal.new-requires-clause-places
 new-requires-clause-places c =
-    c.in_ok-statements.ensures ∙ ap (λ code. map (place_from 0 code) c.statements.result.now) c.in_ok-placed.ensures ∙ ap (map (place_of c.args.image)) c.statements.ensures
+    c.in_ok-statements.ensures ∙ ap (λ code. map (place_by_offset 0 code) c.statements.result.now) c.in_ok-placed.ensures ∙ ap (map (place_of c.args.image)) c.statements.ensures
