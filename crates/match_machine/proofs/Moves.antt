@@ -58,7 +58,7 @@ pub go_past : (t : s.Thread) (cs : List s.Choice) (b left : ℕ) → length t.co
 go_past t cs b left h = go_at t cs b left None (slice_get_past t.code t.place h)
 
 -- ---- ARB
-from_up_head : (c n : ℕ) → from_up c n ≡ c ∷ drop 1 (from_up c n)
+pub from_up_head : (c n : ℕ) → from_up c n ≡ c ∷ drop 1 (from_up c n)
 from_up_head c zero = refl
 from_up_head c (suc n) = refl
 
