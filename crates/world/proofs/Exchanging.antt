@@ -4,15 +4,14 @@ use Rattle.std.specs.Prelude.{not, ◌&&◌, ◌||◌, if◌then◌else◌}
 use Rattle.std.specs.List.{list_any}
 use Rattle.std.proofs.lemmas.List.{take_more, take_all, length-map, length-append, length-take-le, map-append, take-append-drop}
 use Rattle.std.proofs.Math.Seq.{get_or-append_seam, set-append_seam}
-use Rattle.std.proofs.lemmas.Slice.Eq.{bytes_eq-Decides}
 use Rattle.model.specs.Deck.Trees.{Bytes}
 use Rattle.model.specs.Language.Io.{Io}
 use Rattle.model.specs.Language.Values.{set_var}
-use Rattle.model.specs.Language.Calls.{arg_at, bind_arguments, restore}
+use Rattle.model.specs.Language.Calls.{arg_at, bind_arguments}
 use Rattle.model.specs.Language.Prototypes.{are_distinct}
 use Rattle.model.specs.Machine.Steps.{MVal, MW}
 use Rattle.world.specs.Values.{value_of}
-use Rattle.world.specs.Calling.{AreSaved, saved_as}
+use Rattle.world.specs.Calling.{AreSaved}
 use Rattle.world.specs.Held.{WorldView, world_of}
 use Rattle.world.specs.declared.value.Value.{Value}
 use Rattle.world.proofs.Passing.{bind_turn, bind_end}
@@ -68,14 +67,14 @@ distinct_take (x ∷ xs) (suc n) h =
     both_true (not (list_any (λ y. bytes_eq x y) (take n xs))) (are_distinct (take n xs)) (ap not (none_in (λ y. bytes_eq x y) xs n parts.0)) (distinct_take xs n parts.1)
 
 -- none of those before one is that one
-differ_before : (xs : List Bytes) (k : ℕ) (x : Bytes) → are_distinct xs ≡ true → k < length xs → x ≡ get_or xs k x → list_any (λ y. bytes_eq y x) (take k xs) ≡ false
+pub differ_before : (xs : List Bytes) (k : ℕ) (x : Bytes) → are_distinct xs ≡ true → k < length xs → x ≡ get_or xs k x → list_any (λ y. bytes_eq y x) (take k xs) ≡ false
 differ_before [] k x h within at = absurd (omega arith)
 differ_before (y ∷ xs) zero x h within at = refl
 differ_before (y ∷ xs) (suc k) x h within at =
     let parts = first_differs y xs h in
     both_false (bytes_eq y x) (list_any (λ z. bytes_eq z x) (take k xs)) (none_at (λ z. bytes_eq y z) xs k x parts.0 (omega arith) at) (differ_before xs k x parts.1 (omega arith) at)
 
-none_split : (p : Bytes → Bool) (xs : List Bytes) (x : Bytes) → list_any p (xs ++ x ∷ []) ≡ false → (list_any p xs ≡ false) × (p x ≡ false)
+pub none_split : (p : Bytes → Bool) (xs : List Bytes) (x : Bytes) → list_any p (xs ++ x ∷ []) ≡ false → (list_any p xs ≡ false) × (p x ≡ false)
 none_split p [] x h = (refl, (or_false (p x) false h).0)
 none_split p (y ∷ xs) x h =
     let parts = or_false (p y) (list_any p (xs ++ x ∷ [])) h in
@@ -187,32 +186,3 @@ all_exchanged names before given now k old new count past (us, parts, same, othe
     drop_past [] (suc n) h = refl
     drop_past (v ∷ vs) zero h = absurd (omega arith)
     drop_past (v ∷ vs) (suc n) h = drop_past vs n (omega arith)
-
--- ---- one order of the names is as good as another
-
-either : (a b : Bool) (u v z : MVal) → (a ≡ true → b ≡ true → false ≡ true) → (if b then v else (if a then u else z)) ≡ (if a then u else (if b then v else z))
-either true true u v z h = absurd (true≢false (sym (h refl refl)))
-either true false u v z h = refl
-either false true u v z h = refl
-either false false u v z h = refl
-
-sets_commute : (x y : Bytes) (u v : MVal) (w : MW) → bytes_eq x y ≡ false → set_var y v (set_var x u w) ≡ set_var x u (set_var y v w)
-sets_commute x y u v w other = λ i. record { vars = λ z. at z i; objects = w.objects; plain = w.plain; io = w.io }
-  where
-    at : (z : Bytes) → (if bytes_eq y z then v else (if bytes_eq x z then u else w.vars z)) ≡ (if bytes_eq x z then u else (if bytes_eq y z then v else w.vars z))
-    at z = either (bytes_eq x z) (bytes_eq y z) u v (w.vars z)
-        (λ a b. sym other ∙ (bytes_eq-Decides x y).1 ((bytes_eq-Decides x z).0 a ∙ sym ((bytes_eq-Decides y z).0 b)))
-
-restore_past : (xs : List Bytes) (vs : List Value) (x : Bytes) (u : MVal) (w : MW) → list_any (λ y. bytes_eq x y) xs ≡ false → restore (saved_as xs vs) (set_var x u w) ≡ set_var x u (restore (saved_as xs vs) w)
-restore_past [] vs x u w h = refl
-restore_past (y ∷ xs) [] x u w h = refl
-restore_past (y ∷ xs) (v ∷ vs) x u w h =
-    let parts = or_false (bytes_eq x y) (list_any (λ z. bytes_eq x z) xs) h in
-    ap (set_var y (value_of v)) (restore_past xs vs x u w parts.1) ∙ sets_commute x y u (value_of v) (restore (saved_as xs vs) w) parts.0
-
-pub bind_restores : (xs : List Bytes) (vs : List Value) (w : MW) → are_distinct xs ≡ true → length vs ≡ length xs → bind_arguments xs (map value_of vs) w ≡ restore (saved_as xs vs) w
-bind_restores [] vs w h size = refl
-bind_restores (x ∷ xs) [] w h size = absurd (omega arith)
-bind_restores (x ∷ xs) (v ∷ vs) w h size =
-    let parts = first_differs x xs h in
-    bind_restores xs vs (set_var x (value_of v) w) parts.1 (omega arith) ∙ restore_past xs vs x (value_of v) w parts.0

@@ -81,7 +81,7 @@ bind_none : (xs ys : List Bytes) (w : MW) → bind_arguments (xs ++ ys) [] w ≡
 bind_none [] ys w = refl
 bind_none (x ∷ xs) ys w = bind_none xs ys (set_var x (Str []) w)
 
-bind_all : (xs ys : List Bytes) (vs : List MVal) (k : ℕ) (w : MW) → bind_arguments (xs ++ ys) (take (length xs) vs ++ nulls k) w ≡ bind_arguments ys [] (bind_arguments xs vs w)
+pub bind_all : (xs ys : List Bytes) (vs : List MVal) (k : ℕ) (w : MW) → bind_arguments (xs ++ ys) (take (length xs) vs ++ nulls k) w ≡ bind_arguments ys [] (bind_arguments xs vs w)
 bind_all [] ys [] k w = bind_nulls ys k w
 bind_all [] ys (v ∷ vs) k w = bind_nulls ys k w
 bind_all (x ∷ xs) ys [] k w = bind_nulls (x ∷ (xs ++ ys)) k w ∙ bind_none (x ∷ xs) ys w

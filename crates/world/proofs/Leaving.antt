@@ -1,8 +1,6 @@
 -- The end of a call.
-use Rattle.std.proofs.Common.{◌≡◌, ℕ, zero, suc, ◌+◌, ◌-◌, ◌<◌, min, ℤ, List, [], ◌∷◌, ◌++◌, length, map, take, drop, true, arith, Option, Some, None, Result, Ok, Err, sym, ap, subst, ◌∙◌}
+use Rattle.std.proofs.Common.{◌≡◌, ℕ, min, ℤ, List, [], ◌∷◌, length, take, drop, arith, Option, Some, None, Result, Ok, Err, sym, ap, subst, ◌∙◌}
 use Rattle.std.specs.Prelude.{option_map}
-use Rattle.std.proofs.lemmas.List.{length-drop, length-take-le}
-use Rattle.std.proofs.Math.Seq.{take-append-add}
 use Rattle.model.specs.declared.instr.ReturnKind.{ReturnKind}
 use Rattle.model.specs.declared.instr.ReturnKind.TheVariants as kind
 use Rattle.model.specs.declared.run.ErrorCode.{ErrorCode}
@@ -11,7 +9,7 @@ use Rattle.model.specs.Language.Io.{Io}
 use Rattle.model.specs.Language.Told.{IfTold}
 use Rattle.model.specs.Deck.Trees.{Bytes}
 use Rattle.model.specs.Language.Operators.{fetch_op}
-use Rattle.model.specs.Language.Prototypes.{FunctionPrototype, are_distinct}
+use Rattle.model.specs.Language.Prototypes.{FunctionPrototype}
 use Rattle.model.specs.Deck.Target.{Name}
 use Rattle.model.specs.Language.Conversions.{Conv, Got, Bad, Op, Gives, Refuses, Faults, conv, to_name}
 use Rattle.model.specs.Language.Calls.{AValue, AName, as_value, back_to_caller, bind_arguments, leave_op, or_no_name}
@@ -27,9 +25,7 @@ use Rattle.world.specs.Values.{value_of}
 use Rattle.world.specs.declared.calls.Given.TheVariants as given
 use Rattle.world.specs.declared.value.Value.{Value}
 use Rattle.world.specs.Answers.{AnswersOrFails}
-use Rattle.world.specs.Calling.{AreSaved, LeavesTo, given_of, kept_with, older, saved_as, saved_below, saved_by}
-use Rattle.world.proofs.Exchanging.{bind_restores, distinct_take}
-use Rattle.world.proofs.Saving.{same_end, saved_short, values_in}
+use Rattle.world.specs.Calling.{LeavesTo, given_of, kept_with, older, saved_as, saved_below, saved_by}
 use Rattle.world.specs.declared.calls.Kept.{Kept}
 use Rattle.world.specs.declared.calls.Given.{Given}
 use Rattle.world.specs.declared.fault.Fault.{Fault}
@@ -69,35 +65,6 @@ gone_back r k xs saved statement level w w1 w2 names here depth restored last =
     ∙ ap (with_caller r k.statement k.level) (restored ∙ ap (λ ys. calls.restore (saved_as ys (saved_by ys saved)) w) names)
 
 -- ---- giving back
-
-older_is : (names : List Bytes) (saved : List Value) (count base : ℕ) → count ≡ min (length names) (length saved) → base ≡ length saved - count → older names saved ≡ base
-older_is names saved count base many at = omega (arith, many, at)
-
-pub restored_by : (names : List Bytes) (saved : List Value) (count base : ℕ) (w w1 : MW) → are_distinct names ≡ true → count ≡ min (length names) (length saved) → base ≡ length saved - count
-    → w1 ≡ bind_arguments (take count names) (map value_of (drop base saved)) w → w1 ≡ calls.restore (saved_as names (saved_by names saved)) w
-restored_by names saved count base w w1 distinct many at set =
-    let vs = drop base saved in
-    let size : length vs ≡ count = length-drop base saved ∙ omega (arith, many, at) in
-    let fits : length vs ≡ length (take count names) = size ∙ sym (length-take-le count names (omega (arith, many))) in
-    set
-    ∙ bind_restores (take count names) vs w (distinct_take names count distinct) fits
-    ∙ ap (λ n. calls.restore (saved_as (take n names) vs) w) (sym size)
-    ∙ ap (λ ss. calls.restore ss w) (saved_short names vs)
-    ∙ ap (λ n. calls.restore (saved_as names (drop n saved)) w) (sym (older_is names saved count base many at))
-
--- the values that are left, and what the first name had
-pub taken_back : (f : FunctionPrototype) (saved mid cut rest : List Value) (count base : ℕ) (had : Value) (h : WorldView) → count ≡ min (length (names_of f)) (length saved) → base ≡ length saved - count → 0 < count
-    → AreSaved (take count (names_of f)) (take base saved) mid h → cut ≡ take (base + 1) mid → cut ≡ rest ++ had ∷ [] → (rest ≡ saved_below (names_of f) saved) × (value_of had ≡ values_in h f.name)
-taken_back f saved mid cut rest zero base had h many at some so short last = absurd (omega arith)
-taken_back f saved mid cut rest (suc n) base had h many at some ([], all, same) short last = absurd (cc)
-taken_back f saved mid cut rest (suc n) base had h many at some (v ∷ vs, all, same) short last =
-    let size : length (take base saved) ≡ base = length-take-le base saved (omega (arith, at)) in
-    let first : value_of v ≡ values_in h f.name = cc in
-    let ends = same_end rest (take base saved) had v
-    (sym last ∙ short ∙ (λ i. take (sym size i + 1) (all i)) ∙ take-append-add (take base saved) (v ∷ vs) 1) in (
-      ends.0 ∙ ap (λ k. take k saved) (sym (older_is (names_of f) saved (suc n) base many at)),
-      ap value_of ends.1 ∙ first,
-    )
 
 -- where nothing was saved
 pub none_saved : (f : FunctionPrototype) (saved : List Value) → min (length (names_of f)) (length saved) ≡ 0 → (w : MW) → (saved ≡ saved_below (names_of f) saved) × (w ≡ calls.restore (saved_as (names_of f) (saved_by (names_of f) saved)) w)

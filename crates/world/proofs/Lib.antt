@@ -17,4 +17,6 @@ pub mod Recorded
 pub mod Placed
 pub mod Exchanging
 pub mod Giving
+pub mod Entering
+pub mod Restoring
 pub mod Joined

@@ -1,10 +1,10 @@
 //! Calls of functions that DEFINE made: what a call saves, and what it gives back.
 
-ghost use Rattle.std.specs.Prelude.{◌≡◌, ◌+◌, ◌<◌, ◌≤◌, ◌++◌, ◌∷◌, ℕ, [], map, length, take, drop};
+ghost use Rattle.std.specs.Prelude.{◌≡◌, ◌+◌, ◌-◌, ◌<◌, ◌≤◌, ◌++◌, ◌∷◌, ℕ, [], map, length, take, drop, get_or};
 ghost use Rattle.std.specs.Prelude.{true, option_map, Some, IfOk, OnOk, OnErr};
 ghost use Rattle.model.specs.Language.Io.{Io};
 ghost use Rattle.model.specs.Language.Calls.{as_name, as_value, back_to_caller, bind_arguments, enter_call, leave_op};
-ghost use Rattle.model.specs.Language.Calls.{AValue};
+ghost use Rattle.model.specs.Language.Calls.{AValue, restore};
 ghost use Rattle.model.specs.Language.Calls as calls;
 ghost use Rattle.model.specs.Language.Conversions.{Gives};
 ghost use Rattle.model.specs.Language.Prototypes.{are_distinct};
@@ -13,7 +13,7 @@ ghost use Rattle.model.specs.declared.run.Stop.TheVariants.{NoMemory};
 ghost use Rattle.pattern_compiler.specs.View.{name_of};
 ghost use Rattle.prototypes.specs.Views.{names_of};
 ghost use Rattle.world.specs.Answers.{answer_map, op_of, stopped_by, AnswersOrFails, IfStopped};
-ghost use Rattle.world.specs.Calling.{AreFilled, ArePut, AreSaved, IsKept, LeavesTo, given_of, kept_with, saved_below};
+ghost use Rattle.world.specs.Calling.{AreFilled, ArePut, AreSaved, IsKept, LeavesTo, given_of, kept_with, saved_as, saved_below};
 ghost use Rattle.world.specs.declared.calls.Given.TheVariants as given;
 ghost use Rattle.world.specs.Held.{value_in, variable_at, world_of};
 ghost use Rattle.world.specs.Values.{value_of};
@@ -100,19 +100,6 @@ fn fill(values: &mut Vec<Value>, count: usize) -> Result<(), AllocError>
     Ok(())
 }
 
-// Drops values at the end, down to so many. Each is let go in line.
-#[inline(always)]
-fn shorten(values: &mut Vec<Value>, count: usize)
-    ensures { values.new.items ≡ take count values.old.items }
-{
-    while values.len() > count {
-        match values.pop() {
-            Some(_value) => {}
-            None => unreachable!(),
-        }
-    }
-}
-
 // Puts at the end what a call gives to the variables of its function: null to its name, to each argument its value,
 // which is moved, and null to a missing one and to locals.
 fn put_values(
@@ -127,42 +114,6 @@ fn put_values(
     put(values, Value::null())?;
     arguments.truncate(prototype.arity());
     values.append(arguments)?;
-    fill(values, count)
-}
-
-// The same of one argument, for a function that takes any.
-#[inline(always)]
-fn put_one(
-    prototype: &FunctionPrototype,
-    argument: Value,
-    values: &mut Vec<Value>,
-) -> Result<(), AllocError>
-    requires { 0 < length prototype.now.arguments }
-    ensures { OnOk result
-        (ArePut prototype.now (argument ∷ []) values.old.items values.new.items) }
-{
-    let count = values.len() + prototype.names().len();
-    put(values, Value::null())?;
-    put(values, argument)?;
-    fill(values, count)
-}
-
-// The same of two arguments, for a function that takes them.
-#[inline(always)]
-fn put_two(
-    prototype: &FunctionPrototype,
-    first: Value,
-    second: Value,
-    values: &mut Vec<Value>,
-) -> Result<(), AllocError>
-    requires { 1 < length prototype.now.arguments }
-    ensures { OnOk result
-        (ArePut prototype.now (first ∷ second ∷ []) values.old.items values.new.items) }
-{
-    let count = values.len() + prototype.names().len();
-    put(values, Value::null())?;
-    put(values, first)?;
-    put(values, second)?;
     fill(values, count)
 }
 
@@ -197,6 +148,40 @@ impl World {
             self.exchange(name, slot_at(slots, number), &mut values[base + number])?;
         }
         Ok(())
+    }
+
+    // Gives variables the values at the end, which are taken off there, the last one first. Tells what the first variable
+    // had.
+    #[inline(always)]
+    fn give_back(
+        &mut self,
+        names: &[Text],
+        slots: &[u32],
+        saved: &mut Vec<Value>,
+    ) -> Result<Value, AllocError>
+        requires distinct { are_distinct names.now ≡ true }
+        requires some { 0 < length names.now }
+        requires count { length names.now ≤ length saved.old.items }
+        ensures values { OnOk result
+            (saved.new.items ≡ take (length saved.old.items - length names.now) saved.old.items) }
+        ensures set { OnOk result ((io : Io) → world_of self.new io
+            ≡ restore (saved_as names.now (drop (length saved.old.items - length names.now) saved.old.items))
+            (world_of self.old io)) }
+        ensures had { IfOk result (λ had.
+            value_of had ≡ value_in (variable_at (get_or names.now 0 []) self.old.variables)) }
+    {
+        let mut left = names.len() - 1;
+        while left > 0 {
+            let Some(value) = saved.pop() else {
+                unreachable!()
+            };
+            self.give(&names[left], slot_at(slots, left), value)?;
+            left -= 1;
+        }
+        let Some(value) = saved.pop() else {
+            unreachable!()
+        };
+        self.replace_value(&names[0], slot_at(slots, 0), value)
     }
 
     /// Begins a call: puts the values that it changes at the end of `saved`, and gives each argument its value, which
@@ -244,9 +229,13 @@ impl World {
     {
         let statement = self.statement();
         let level = self.level();
-        let base = saved.len();
-        put_one(&prototype, argument, saved)?;
-        self.exchange_all(prototype.names(), prototype.slots(), base, saved)?;
+        let names = prototype.names();
+        let slots = prototype.slots();
+        self.save(&names[0], slot_at(slots, 0), Value::null(), saved)?;
+        self.save(&names[1], slot_at(slots, 1), argument, saved)?;
+        for number in 2..names.len() {
+            self.save(&names[number], slot_at(slots, number), Value::null(), saved)?;
+        }
         self.deepen();
         Ok(Kept {
             prototype,
@@ -273,9 +262,14 @@ impl World {
     {
         let statement = self.statement();
         let level = self.level();
-        let base = saved.len();
-        put_two(&prototype, first, second, saved)?;
-        self.exchange_all(prototype.names(), prototype.slots(), base, saved)?;
+        let names = prototype.names();
+        let slots = prototype.slots();
+        self.save(&names[0], slot_at(slots, 0), Value::null(), saved)?;
+        self.save(&names[1], slot_at(slots, 1), first, saved)?;
+        self.save(&names[2], slot_at(slots, 2), second, saved)?;
+        for number in 3..names.len() {
+            self.save(&names[number], slot_at(slots, number), Value::null(), saved)?;
+        }
         self.deepen();
         Ok(Kept {
             prototype,
@@ -322,14 +316,9 @@ impl World {
             self.put_back(kind, kept.statement, kept.level);
             return Ok(had);
         }
-        let base = saved.len() - count;
-        self.exchange_all(&names[..count], slots, base, saved)?;
+        let had = self.give_back(&names[..count], slots, saved)?;
         self.put_back(kind, kept.statement, kept.level);
-        shorten(saved, base + 1);
-        match saved.pop() {
-            Some(had) => Ok(had),
-            None => unreachable!(),
-        }
+        Ok(had)
     }
 
     // Ends a call that gives a name, unless it can't.

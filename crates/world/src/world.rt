@@ -1,6 +1,6 @@
 //! The world of a run.
 
-ghost use Rattle.std.specs.Prelude.{◌≡◌, ◌<◌, ℕ, [], length, pos, Some, None, is_some, option_copied};
+ghost use Rattle.std.specs.Prelude.{◌≡◌, ◌<◌, ◌∷◌, ℕ, [], length, pos, Some, None, is_some, option_copied};
 ghost use Rattle.std.specs.Prelude.{IfOk, IfSome, true, false, OnOk, OnErr, if◌then◌else◌};
 ghost use Rattle.model.specs.Deck.Target as target;
 ghost use Rattle.model.specs.Deck.Trees.{Bytes};
@@ -17,6 +17,7 @@ ghost use Rattle.world.specs.Values.{value_of};
 ghost use Rattle.world.specs.Held.{world_of, IsPlain, StandsIn, name_at, zero_in, variable_at, value_in};
 ghost use Rattle.world.specs.Held.{IsSilent, StaySilent};
 ghost use Rattle.world.specs.Held.{input_in, output_in};
+ghost use Rattle.world.specs.Calling.{AreSaved};
 ghost use Rattle.world.specs.Held.{with_variable, pattern_variable, first_patterns, first_variables};
 ghost use Rattle.world.specs.declared.value.Value.TheVariants.{String};
 ghost use Rattle.world.specs.declared.world.Variable.{Variable};
@@ -96,6 +97,20 @@ impl Variable {
             return;
         }
         mem::swap(&mut self.value, value);
+    }
+
+    // Takes another value, and gives the one that it had.
+    #[inline(always)]
+    fn replace(&mut self, value: Value) -> Value
+        ensures had { result ≡ self.old.value }
+        ensures set { self.new ≡ record self.old { value = value } }
+    {
+        if let Value::Integer(n) = &self.value {
+            let n = *n;
+            self.value = value;
+            return Value::Integer(n);
+        }
+        mem::replace(&mut self.value, value)
     }
 
     fn set_units(&mut self, input: Option<u8>, output: Option<u8>)
@@ -516,6 +531,75 @@ impl World {
         };
         match self.variables.get_index_mut(at) {
             Some(variable) => variable.exchange(value),
+            None => unreachable!(),
+        }
+        Ok(())
+    }
+
+    /// Puts the value of a variable at the end, and gives the variable another one. Tells no unit.
+    #[inline(always)]
+    pub(crate) fn save(
+        &mut self,
+        name: &Text,
+        slot: u32,
+        value: Value,
+        saved: &mut Vec<Value>,
+    ) -> Result<(), AllocError>
+        ensures set { OnOk result
+            ((io : Io) → world_of self.new io
+            ≡ set_var name.now (value_of value) (world_of self.old io)) }
+        ensures had { OnOk result (AreSaved (name.now ∷ []) saved.old.items saved.new.items self.old) }
+    {
+        if saved.len() >= saved.capacity() {
+            saved.reserve(1)?;
+        }
+        let Some(at) = self.slot(name, slot) else {
+            saved.push_reserved(Value::null());
+            return self.set_new(name, value);
+        };
+        match self.variables.get_index_mut(at) {
+            Some(variable) => saved.push_reserved(mem::replace(&mut variable.value, value)),
+            None => unreachable!(),
+        }
+        Ok(())
+    }
+
+    /// Gives a variable another value, and tells the one that it had. Tells no unit.
+    #[inline(always)]
+    pub(crate) fn replace_value(
+        &mut self,
+        name: &Text,
+        slot: u32,
+        value: Value,
+    ) -> Result<Value, AllocError>
+        ensures set { OnOk result
+            ((io : Io) → world_of self.new io
+            ≡ set_var name.now (value_of value) (world_of self.old io)) }
+        ensures had { IfOk result (λ had.
+            value_of had ≡ value_in (variable_at name.now self.old.variables)) }
+    {
+        let Some(at) = self.slot(name, slot) else {
+            self.set_new(name, value)?;
+            return Ok(Value::null());
+        };
+        match self.variables.get_index_mut(at) {
+            Some(variable) => Ok(variable.replace(value)),
+            None => unreachable!(),
+        }
+    }
+
+    /// Gives a variable another value. Tells no unit.
+    #[inline(always)]
+    pub(crate) fn give(&mut self, name: &Text, slot: u32, value: Value) -> Result<(), AllocError>
+        ensures { OnOk result
+            ((io : Io) → world_of self.new io
+            ≡ set_var name.now (value_of value) (world_of self.old io)) }
+    {
+        let Some(at) = self.slot(name, slot) else {
+            return self.set_new(name, value);
+        };
+        match self.variables.get_index_mut(at) {
+            Some(variable) => variable.set(value),
             None => unreachable!(),
         }
         Ok(())

@@ -1,24 +1,54 @@
-use Rattle.std.proofs.Common.{◌≡◌, ◌∷◌, [], refl, ◌∙◌, w64, to_z, of_z, rules}
+use Rattle.std.proofs.Common.{◌≡◌, ◌<◌, List, ◌∷◌, [], length, refl, ap, ◌∙◌, arith, w64, to_z, of_z, rules}
+use Rattle.std.proofs.lemmas.List.{length-append}
+use Rattle.model.specs.Language.Values.{Str}
+use Rattle.model.specs.Machine.Steps.{MVal}
 use Rattle.world.specs.Held.{world_of}
-use Rattle.world.proofs.Giving.{entered, put_count, saved_before}
+use Rattle.world.specs.Values.{value_of}
+use Rattle.world.proofs.Entering.{all_saved, entered_with_two, none_saved, past_two, save_turn}
 use Rattle.world.proofs.Saving.{kept_is}
 use Rattle.world.proofs.world.World.enter_call_with_two.Goals as goal
 
-pub exchange_all-requires-clause-count : goal.exchange_all-requires-clause-count
-exchange_all-requires-clause-count c =
-    put_count c.args.prototype (c.args.first ∷ c.args.second ∷ []) c.args.saved.now.items c.put_two.new.values.items c.len-base.result (c.len-base.ensures ∙ c.args.saved.now.ok.0) c.in_ok-put_two.ensures c.names.result.now c.names.ensures.names
+pub loop-number-init : goal.loop-number-init
+loop-number-init c =
+    let names = c.names-names.result.now in
+    let gs : List MVal = Str [] ∷ value_of c.args.first ∷ value_of c.args.second ∷ [] in
+    let saved = c.args.saved.now.items in
+    let self = c.args.self.now in
+    let f = c.args.prototype in
+    let many : 2 < length names = omega (arith, c.requires, ap length c.names-names.ensures.names, length-append f.arguments f.locals) in
+    let turn0 = save_turn names gs saved saved c.save.new.saved.items 0 c.index-names-0.result (value_of c.null.result) self c.args.self.now c.save.new.self c.names-names.ensures.distinct (omega (arith, many)) c.index-names-0.is c.null.ensures c.in_ok-save.ensures.set c.in_ok-save.ensures.had (none_saved names gs saved self) in
+    let turn1 = save_turn names gs saved c.save.new.saved.items c.save-2.new.saved.items 1 c.index-names-1.result (value_of c.args.first) self c.save.new.self c.save-2.new.self c.names-names.ensures.distinct (omega (arith, many)) c.index-names-1.is refl c.in_ok-save-2.ensures.set c.in_ok-save-2.ensures.had turn0 in
+    let turn2 = save_turn names gs saved c.save-2.new.saved.items c.save-3.new.saved.items 2 c.index-names-2.result (value_of c.args.second) self c.save-2.new.self c.save-3.new.self c.names-names.ensures.distinct (omega (arith, many)) c.index-names-2.is refl c.in_ok-save-3.ensures.set c.in_ok-save-3.ensures.had turn1 in
+    record { past = omega arith; given = turn2 }
+
+pub loop-number-preserved : goal.loop-number-preserved
+loop-number-preserved c =
+    let names = c.names-names.result.now in
+    let gs : List MVal = Str [] ∷ value_of c.args.first ∷ value_of c.args.second ∷ [] in
+    let k = c.loop-number.number in
+    record {
+      past = omega (arith, c.loop-number.invariant.past);
+      given =
+          save_turn names gs c.args.saved.now.items c.loop-number.saved.items c.save-in-loop-number.new.saved.items k c.index-names-number.result (value_of c.null-in-loop-number.result)
+          c.args.self.now c.loop-number.self c.save-in-loop-number.new.self c.names-names.ensures.distinct c.loop-number-test.true c.index-names-number.is
+          (c.null-in-loop-number.ensures ∙ past_two (Str []) (value_of c.args.first) (value_of c.args.second) k c.loop-number.invariant.past) c.in_ok-save-4.ensures.set c.in_ok-save-4.ensures.had c.loop-number.invariant.given;
+    }
 
 pub returns-clause-entered : goal.returns-clause-entered
 returns-clause-entered c io =
-    entered c.args.prototype (c.args.first ∷ c.args.second ∷ []) c.args.saved.now.items c.put_two.new.values.items c.len-base.result (c.len-base.ensures ∙ c.args.saved.now.ok.0) c.in_ok-put_two.ensures c.names.result.now
-    (world_of c.args.self.now io) (world_of c.exchange_all.new.self io) (world_of c.deepen.new.self io) c.names.ensures.names (c.in_ok-exchange_all.ensures.set io) (c.deepen.ensures io)
+    let names = c.names-names.result.now in
+    let gs : List MVal = Str [] ∷ value_of c.args.first ∷ value_of c.args.second ∷ [] in
+    let all = all_saved names gs c.args.saved.now.items c.loop-number.saved.items c.loop-number.number c.args.self.now c.loop-number.self c.loop-number-test.false c.loop-number.invariant.given in
+    entered_with_two c.args.prototype names (value_of c.args.first) (value_of c.args.second) (world_of c.args.self.now io) (world_of c.loop-number.self io) (world_of c.deepen.new.self io) c.requires c.names-names.ensures.names (all.1 io) (c.deepen.ensures io)
 
 pub returns-clause-kept : goal.returns-clause-kept
 returns-clause-kept c =
+    let names = c.names-names.result.now in
+    let gs : List MVal = Str [] ∷ value_of c.args.first ∷ value_of c.args.second ∷ [] in
     let here = c.statement-statement.result in
     let depth = c.level-level.result in
     let statement : here ≡ to_z w64 (of_z w64 here) = search rules in
     let level : depth ≡ to_z w64 (of_z w64 depth) = search rules in
-    kept_is c.args.prototype (record { prototype = c.args.prototype; statement = to_z w64 (of_z w64 here); level = to_z w64 (of_z w64 depth) }) c.names.result.now c.args.self.now c.args.saved.now.items c.exchange_all.new.values.items
-    refl c.names.ensures.names (c.statement-statement.ensures ∙ statement) (c.level-level.ensures ∙ level)
-    (saved_before c.args.prototype (c.args.first ∷ c.args.second ∷ []) c.args.saved.now.items c.put_two.new.values.items c.len-base.result (c.len-base.ensures ∙ c.args.saved.now.ok.0) c.in_ok-put_two.ensures c.names.result.now c.exchange_all.new.values.items c.args.self.now c.in_ok-exchange_all.ensures.had)
+    let all = all_saved names gs c.args.saved.now.items c.loop-number.saved.items c.loop-number.number c.args.self.now c.loop-number.self c.loop-number-test.false c.loop-number.invariant.given in
+    kept_is c.args.prototype (record { prototype = c.args.prototype; statement = to_z w64 (of_z w64 here); level = to_z w64 (of_z w64 depth) }) names c.args.self.now c.args.saved.now.items c.loop-number.saved.items
+    refl c.names-names.ensures.names (c.statement-statement.ensures ∙ statement) (c.level-level.ensures ∙ level) all.0

@@ -1,0 +1,77 @@
+use Rattle.std.proofs.Common.{◌≡◌, ◌-◌, ◌+◌, ℕ, [], suc, get_or, length, take, drop, subst, ◌∙◌, arith}
+use Rattle.std.proofs.lemmas.List.{length-drop}
+use Rattle.std.proofs.lemmas.Result.{IfOk-weaker, on_ok_weaker}
+use Rattle.world.specs.Values.{value_of}
+use Rattle.world.proofs.Saving.{values_in}
+use Rattle.world.proofs.Restoring.{IsGivenBack, all_given, first_had, give_turn, none_given}
+use Rattle.world.proofs.world.World.give_back.Goals as goal
+
+pub loop-left-init : goal.loop-left-init
+loop-left-init c =
+    let names = c.args.names.now in
+    let all = c.args.saved.now.items in
+    let base = length all - length names in
+    let size : length (drop base all) ≡ length names = length-drop base all ∙ omega (arith, c.requires.count) in
+    record {
+      within = omega (arith, c.requires.some);
+      given = none_given names base (length names - 1 + 1) all c.args.self.now (omega arith) (omega (arith, size));
+    }
+
+pub loop-left-preserved : goal.loop-left-preserved
+loop-left-preserved c =
+    let names = c.args.names.now in
+    let all = c.args.saved.now.items in
+    let base = length all - length names in
+    let left = c.loop-left.left in
+    let size : length (drop base all) ≡ length names = length-drop base all ∙ omega (arith, c.requires.count) in
+    let now : ℕ = left - 1 + 1 in
+    let same : left ≡ now = omega (arith, c.loop-left-test.true) in
+    let next : left + 1 ≡ suc left = omega arith in
+    let so = subst (λ n. IsGivenBack names (take base all) (drop base all) n c.loop-left.saved.items c.args.self.now c.loop-left.self) next c.loop-left.invariant.given in
+    record {
+      within = omega (arith, c.loop-left.invariant.within);
+      given =
+          subst (λ n. IsGivenBack names (take base all) (drop base all) n c.pop.new.self.items c.args.self.now c.give.new.self) same
+          (give_turn names (take base all) (drop base all) c.loop-left.saved.items c.pop.new.self.items left c.index-names-left.result c.in-Some.value c.args.self.now c.loop-left.self c.give.new.self size
+          c.loop-left.invariant.within c.index-names-left.is c.in-Some.ensures.items c.in_ok-give.ensures so);
+    }
+
+pub returns-clause-values : goal.returns-clause-values
+returns-clause-values c =
+    let names = c.args.names.now in
+    let all = c.args.saved.now.items in
+    let base = length all - length names in
+    let size : length (drop base all) ≡ length names = length-drop base all ∙ omega (arith, c.requires.count) in
+    let one : c.loop-left.left + 1 ≡ suc 0 = omega (arith, c.loop-left-test.false) in
+    let so = subst (λ n. IsGivenBack names (take base all) (drop base all) n c.loop-left.saved.items c.args.self.now c.loop-left.self) one c.loop-left.invariant.given in
+    on_ok_weaker c.replace_value.result
+    (λ put. (all_given names all c.pop-2.new.self.items base c.args.self.now c.replace_value.new.self
+    (give_turn names (take base all) (drop base all) c.loop-left.saved.items c.pop-2.new.self.items 0 c.index-names-0.result c.in-Some-pop.value c.args.self.now c.loop-left.self c.replace_value.new.self size
+    c.requires.some c.index-names-0.is c.in-Some-pop.ensures.items put so)).0)
+    c.replace_value.ensures.set
+
+pub returns-clause-set : goal.returns-clause-set
+returns-clause-set c =
+    let names = c.args.names.now in
+    let all = c.args.saved.now.items in
+    let base = length all - length names in
+    let size : length (drop base all) ≡ length names = length-drop base all ∙ omega (arith, c.requires.count) in
+    let one : c.loop-left.left + 1 ≡ suc 0 = omega (arith, c.loop-left-test.false) in
+    let so = subst (λ n. IsGivenBack names (take base all) (drop base all) n c.loop-left.saved.items c.args.self.now c.loop-left.self) one c.loop-left.invariant.given in
+    on_ok_weaker c.replace_value.result
+    (λ put. (all_given names all c.pop-2.new.self.items base c.args.self.now c.replace_value.new.self
+    (give_turn names (take base all) (drop base all) c.loop-left.saved.items c.pop-2.new.self.items 0 c.index-names-0.result c.in-Some-pop.value c.args.self.now c.loop-left.self c.replace_value.new.self size
+    c.requires.some c.index-names-0.is c.in-Some-pop.ensures.items put so)).1)
+    c.replace_value.ensures.set
+
+pub returns-clause-had : goal.returns-clause-had
+returns-clause-had c =
+    let names = c.args.names.now in
+    let all = c.args.saved.now.items in
+    let base = length all - length names in
+    let one : c.loop-left.left + 1 ≡ 1 = omega (arith, c.loop-left-test.false) in
+    let so = subst (λ n. IsGivenBack names (take base all) (drop base all) n c.loop-left.saved.items c.args.self.now c.loop-left.self) one c.loop-left.invariant.given in
+    let before = first_had names (take base all) (drop base all) c.loop-left.saved.items c.index-names-0.result c.args.self.now c.loop-left.self c.requires.distinct c.requires.some c.index-names-0.is so in
+    IfOk-weaker c.replace_value.result
+    (λ had. value_of had ≡ values_in c.loop-left.self c.index-names-0.result) (λ had. value_of had ≡ values_in c.args.self.now (get_or names 0 []))
+    (λ had is. is ∙ before) c.replace_value.ensures.had
