@@ -10,6 +10,7 @@ pub mod Flowing
 pub mod Wholes
 pub mod Sought
 pub mod Straights
+pub mod Rows
 pub mod Going
 pub mod Joining
 pub mod Keys
