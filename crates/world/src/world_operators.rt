@@ -178,6 +178,7 @@ impl World {
 
     /// Two values one after the other, if the first is a short string and the second a string or an integer, and
     /// neither is null. They stay as they are.
+    #[inline(always)]
     pub fn cat_short(&self, alloc: Global, left: &Value, right: &Value) -> Option<Value>
         ensures { (io : Io) → IfSome result (λ v.
             cat_op codes_of (value_of left.now) (value_of right.now) (world_of self.now io)
