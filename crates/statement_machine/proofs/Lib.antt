@@ -34,3 +34,5 @@ pub mod Needles
 pub mod Preparing
 pub mod Fixing
 pub mod AtOnce
+pub mod Testing
+pub mod Upon

@@ -11,6 +11,7 @@ pub mod Fixed
 pub mod Forms
 pub mod Joined
 pub mod KnownCalls
+pub mod KnownTests
 pub mod Sums
 pub mod Texts
 pub mod Constants
@@ -19,3 +20,4 @@ pub mod Trees
 pub mod Openings
 pub mod Prepared
 pub mod Straight
+pub mod Upon
