@@ -8,6 +8,7 @@ pub mod Resuming
 pub use Rattle.world.specs.Answers
 pub mod Elements
 pub mod Fixed
+pub mod Quick
 pub mod Forms
 pub mod Joined
 pub mod KnownCalls
