@@ -18,7 +18,7 @@ pub(crate) fn copied<T: Clone + Drop>(alloc: Global, items: &[T]) -> Result<Vec<
     Ok(copy)
 }
 
-/// An item, so many times.
+/// An item, so many times. What is cloned is a clone that stands here, so that a turn need not read its kind again.
 #[tactic(auto, using(crate::proofs::Lists::replicate_more))]
 pub(crate) fn repeated<T: Clone + Drop>(
     alloc: Global,
@@ -28,9 +28,10 @@ pub(crate) fn repeated<T: Clone + Drop>(
     requires { (item copy : T) → T.is_clone item copy → copy ≡ item }
     ensures { IfOk result (λ items. items.items ≡ replicate n item.now) }
 {
+    let first = item.clone()?;
     let mut items = Vec::with_capacity(alloc, n)?;
     for _turn in 0..n {
-        items.push(item.clone()?)?;
+        items.push_reserved(first.clone()?);
     }
     Ok(items)
 }
