@@ -4,6 +4,7 @@ ghost use Rattle.std.specs.Prelude.{◌≡◌, IfOk, replicate, length, false};
 ghost use Rattle.model.specs.Language.Operators.{with_item};
 ghost use Rattle.aggregates.specs.Objects.{if_stored};
 
+use crate::element::Element;
 use std::alloc::{AllocError, Global};
 
 /// The same items again.
@@ -18,19 +19,22 @@ pub(crate) fn copied<T: Clone + Drop>(alloc: Global, items: &[T]) -> Result<Vec<
     Ok(copy)
 }
 
-/// An item, so many times.
+/// An item, so many times. What is cloned is a clone that stands here, so that a turn need not read its kind again. A null
+/// item, the most usual one, has a loop of its own, in which its kind is known.
 #[tactic(auto, using(crate::proofs::Lists::replicate_more))]
-pub(crate) fn repeated<T: Clone + Drop>(
-    alloc: Global,
-    item: &T,
-    n: usize,
-) -> Result<Vec<T>, AllocError>
-    requires { (item copy : T) → T.is_clone item copy → copy ≡ item }
+pub(crate) fn repeated<T: Element>(alloc: Global, item: &T, n: usize) -> Result<Vec<T>, AllocError>
     ensures { IfOk result (λ items. items.items ≡ replicate n item.now) }
 {
+    let first = item.clone()?;
     let mut items = Vec::with_capacity(alloc, n)?;
-    for _turn in 0..n {
-        items.push(item.clone()?)?;
+    if first.is_null() {
+        for _turn in 0..n {
+            items.push_reserved(first.clone()?);
+        }
+    } else {
+        for _turn in 0..n {
+            items.push_reserved(first.clone()?);
+        }
     }
     Ok(items)
 }
