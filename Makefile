@@ -49,7 +49,7 @@ run: input build/sno ## DECK=file [INPUT=file]: run a deck on the proved program
 ifeq ($(INPUT),)
 	@build/sno < $(DECK)
 else
-	@build/sno compile $(DECK) build/deck.module && build/sno run build/deck.module 5=$(INPUT)
+	@build/sno go $(DECK) 5=$(INPUT)
 endif
 
 try: deck ## DECK=file: run a deck with nothing proved, in seconds; at most 60 seconds and 1 MiB of output

@@ -14,7 +14,7 @@ FILES = {
 # What is typed, and what is offered, in a folder with the files a.sno and a.module.
 COMPLETED = [
     ("sno", ["sno", "co"], ["compile"]),
-    ("sno", ["sno", ""], ["compile", "upgrade", "check", "show", "run"]),
+    ("sno", ["sno", ""], ["compile", "upgrade", "check", "show", "run", "go"]),
     ("sno", ["sno", "compile", "a.s"], ["a.sno"]),
     ("sno", ["sno", "run", "a.module", "--"], ["--steps"]),
     ("sno", ["sno", "run", "a.module", "5", "=", "a.s"], ["a.sno"]),

@@ -49,6 +49,12 @@ pub enum Job<'a> {
         steps: u64,
         files: Vec<UnitFile<'a>>,
     },
+    /// Compile a deck and run its module, in the same way.
+    Go {
+        deck: &'a str,
+        steps: u64,
+        files: Vec<UnitFile<'a>>,
+    },
 }
 
 // A word that must be there.
@@ -81,17 +87,24 @@ fn upgrade_words<'a>(alloc: Global) -> Result<Command<'a>, AllocError> {
         .arg(file(alloc, "NEW"))
 }
 
-fn run_words<'a>(alloc: Global) -> Result<Command<'a>, AllocError> {
-    let run = of_module(alloc, "run")?;
+// A command that leads to a run.
+fn of_run<'a>(
+    alloc: Global,
+    command: Result<Command<'a>, AllocError>,
+) -> Result<Command<'a>, AllocError> {
     let files = Arg::new(alloc, "UNIT=FILE")
         .num_args(0..)
         .action(ArgAction::Append);
-    let run = run.arg(files)?;
-    run.arg(
+    let command = command?.arg(files)?;
+    command.arg(
         Arg::new(alloc, "steps")
             .long("steps")
             .action(ArgAction::Set),
     )
+}
+
+fn go_words<'a>(alloc: Global) -> Result<Command<'a>, AllocError> {
+    of_run(alloc, bare(alloc, "go").arg(file(alloc, "DECK")))
 }
 
 // A command with one below it. Here alone a command is held where memory may be refused: a proof follows the fall of
@@ -109,7 +122,8 @@ fn command<'a>(alloc: Global) -> Result<Command<'a>, AllocError> {
     let top = with(top, upgrade_words(alloc))?;
     let top = with(top, of_module(alloc, "check"))?;
     let top = with(top, of_module(alloc, "show"))?;
-    with(top, run_words(alloc))
+    let top = with(top, of_run(alloc, of_module(alloc, "run")))?;
+    with(top, go_words(alloc))
 }
 
 // The number that digits spell. Nothing, if there is no digit, or another byte, or the number is too large.
@@ -175,6 +189,14 @@ fn run_job<'a>(
     })
 }
 
+// What the words of `go` ask for.
+fn go_job<'a>(alloc: Global, matches: &ArgMatches<'a>) -> Result<Job<'a>, Told<'static>> {
+    let deck = matches.get_str("DECK").ok_or(Told::BadCommandLine)?;
+    let steps = steps(matches).ok_or(Told::BadCommandLine)?;
+    let files = unit_files(alloc, matches.get_strs("UNIT=FILE").unwrap_or(&[]))?;
+    Ok(Job::Go { deck, steps, files })
+}
+
 // What the words of `upgrade` ask for.
 fn upgrade_job<'a>(matches: &ArgMatches<'a>) -> Result<Job<'a>, Told<'static>> {
     let old = matches.get_str("OLD").ok_or(Told::BadCommandLine)?;
@@ -190,6 +212,9 @@ fn subcommand_job<'a>(
 ) -> Result<Job<'a>, Told<'static>> {
     if name == "upgrade" {
         return upgrade_job(matches);
+    }
+    if name == "go" {
+        return go_job(alloc, matches);
     }
     let module = matches.get_str("MODULE").ok_or(Told::BadCommandLine)?;
     match name {

@@ -54,15 +54,35 @@ fn run<R: Files + Input + Print + AllocGlobal>(
     }
 }
 
+/// Compiles a deck and runs its module.
 fn compile_and_run<R: Files + Input + Print + AllocGlobal>(
+    rt: &R,
+    deck: &[u8],
+    steps: u64,
+    files: &[UnitFile<'_>],
+) -> Result<Ran, Told<'static>> {
+    match compile_deck(rt.alloc(), deck) {
+        Ok(module) => run(rt, &module, steps, files),
+        Err(refusal) => Err(Told::Refused(refusal)),
+    }
+}
+
+fn run_input<R: Files + Input + Print + AllocGlobal>(
     rt: &R,
     steps: u64,
 ) -> Result<Ran, Told<'static>> {
     let deck = read_input(rt)?;
-    match compile_deck(rt.alloc(), &deck) {
-        Ok(module) => run(rt, &module, steps, &[]),
-        Err(refusal) => Err(Told::Refused(refusal)),
-    }
+    compile_and_run(rt, &deck, steps, &[])
+}
+
+fn run_deck_file<'a, R: Files + Input + Print + AllocGlobal>(
+    rt: &R,
+    deck: &'a str,
+    steps: u64,
+    files: &[UnitFile<'_>],
+) -> Result<Ran, Told<'a>> {
+    let bytes = read_file(rt, deck)?;
+    compile_and_run(rt, &bytes, steps, files)
 }
 
 fn compile<'a, R: Files + AllocGlobal>(
@@ -147,7 +167,7 @@ pub(crate) fn perform<'a, R: Files + Input + Print + AllocGlobal>(
     job: Job<'a>,
 ) -> Option<Told<'a>> {
     match job {
-        Job::CompileAndRun { steps } => told_of(compile_and_run(rt, steps)),
+        Job::CompileAndRun { steps } => told_of(run_input(rt, steps)),
         Job::Compile { deck, module } => compile(rt, deck, module).err(),
         Job::Upgrade { old, new } => upgrade_file(rt, old, new).err(),
         Job::Check { module } => check(rt, module).err(),
@@ -157,5 +177,6 @@ pub(crate) fn perform<'a, R: Files + Input + Print + AllocGlobal>(
             steps,
             files,
         } => told_of(run_file(rt, module, steps, &files)),
+        Job::Go { deck, steps, files } => told_of(run_deck_file(rt, deck, steps, &files)),
     }
 }

@@ -1,0 +1,2 @@
+go deck.sno
+go deck.sno 5=not_there

@@ -1,0 +1,1 @@
+go deck.sno
