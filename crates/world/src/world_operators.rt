@@ -82,10 +82,10 @@ fn without(alloc: Global, subject: &Text, start: usize, end: usize) -> Result<Te
     ensures ok { IfOk result (λ all. all ≡ take start subject.now ++ drop end subject.now) }
     ensures err { IfErr result (λ fault. fault ≡ StrFault.Memory) }
 {
-    let back = part_behind(subject, end)?;
     if start == 0 {
-        return Ok(back);
+        return part_behind(subject, end);
     }
+    let back = part_behind(subject, end)?;
     let front = part_before(subject, start)?;
     match Text::concat(alloc, &front, &back, usize::MAX) {
         Ok(all) => Ok(all),
