@@ -99,7 +99,3 @@ same_eight xs ys i le len h front =
 -- less of what is the same
 pub same_less : (a b : ℕ) (xs ys : List ℕ) → a ≤ b → take b xs ≡ take b ys → take a xs ≡ take a ys
 same_less a b xs ys le same = sym (take-take a b xs le) ∙ ap (take a) same ∙ take-take a b ys le
-
--- the first seven, the next eight and the last eight of 22
-pub same_arrays : (a : ℕ) (xs ys : List ℕ) → a ≤ 22 → take 7 xs ≡ take 7 ys → (take 7 xs ≡ take 7 ys → take 15 xs ≡ take 15 ys) → (take 14 xs ≡ take 14 ys → take 22 xs ≡ take 22 ys) → take a xs ≡ take a ys
-same_arrays a xs ys le first second third = same_less a 22 xs ys le (third (same_less 14 15 xs ys (omega arith) (second first)))

@@ -577,11 +577,23 @@ fn same_start(len: &u8, other_len: &u8, left: &[u8; FEW], right: &[u8; FEW]) -> 
     ensures len { result ≡ true → len.now ≡ other_len.now }
     ensures bytes { result ≡ true → take 7 left.now ≡ take 7 right.now }
 {
-    let first = (*len == *other_len) & (left[0] == right[0]);
-    let second = (left[1] == right[1]) & (left[2] == right[2]);
-    let third = (left[3] == right[3]) & (left[4] == right[4]);
-    let fourth = (left[5] == right[5]) & (left[6] == right[6]);
+    let [a, b, c, d, e, f, g, ..] = left;
+    let [p, q, r, s, t, u, v, ..] = right;
+    let first = (*len == *other_len) & (*a == *p);
+    let second = (*b == *q) & (*c == *r);
+    let third = (*d == *s) & (*e == *t);
+    let fourth = (*f == *u) & (*g == *v);
     (first & second) & (third & fourth)
+}
+
+// Whether the bytes of two arrays behind the first seven are the same.
+#[inline(never)]
+fn same_rest(left: &[u8; FEW], right: &[u8; FEW]) -> bool
+    requires left { length left.now ≡ 22 }
+    requires right { length right.now ≡ 22 }
+    ensures { result ≡ true → take 7 left.now ≡ take 7 right.now → take 22 left.now ≡ take 22 right.now }
+{
+    same_eight(left, right, 7) & same_eight(left, right, 14)
 }
 
 // Whether both are texts of few bytes of their own, and the same.
@@ -605,7 +617,7 @@ fn are_same_few(left: &Text, right: &Text) -> bool
     if *len <= 7 {
         return true;
     }
-    same_eight(array, others, 7) & same_eight(array, others, 14)
+    same_rest(array, others)
 }
 
 // Whether two texts are the same, wherever their bytes are.

@@ -1,7 +1,6 @@
 use Rattle.std.proofs.Common.{ap, sym, subst, take, ◌∙◌}
-use Rattle.std.proofs.lemmas.Bool.{and_parts}
 use Rattle.strings.specs.Shared.{bytes_of, AreWithin}
-use Rattle.strings.proofs.Lists.{same_arrays, same_less}
+use Rattle.strings.proofs.Lists.{same_less}
 use Rattle.strings.proofs.text.are_same_few.Goals as goal
 
 pub returns-then-len-le7 : goal.returns-then-len-le7
@@ -15,11 +14,10 @@ returns-then-len-le7 c h =
 
 pub returns : goal.returns
 returns c h =
-    let both = and_parts _ _ h in
     let few = (subst AreWithin c.in-Own.is c.left.invariant).0 in
     sym c.left.view_is
     ∙ ap bytes_of c.in-Own.is
-    ∙ same_arrays c.in-Own.len c.in-Own.array c.in-Own-bytes.others few (c.same_start.ensures.bytes c.if-not-same_start.false) (c.same_eight.ensures both.0) (c.same_eight-2.ensures both.1)
+    ∙ same_less c.in-Own.len 22 c.in-Own.array c.in-Own-bytes.others few (c.same_rest.ensures h (c.same_start.ensures.bytes c.if-not-same_start.false))
     ∙ ap (λ n. take n c.in-Own-bytes.others) (c.same_start.ensures.len c.if-not-same_start.false)
     ∙ sym (ap bytes_of c.in-Own-bytes.is)
     ∙ c.right.view_is
