@@ -332,6 +332,39 @@ impl Trail {
               } ∷ self.old.backs;
             }) }
     {
+        if !self.stored {
+            self.store_code()?;
+        }
+        self.keep_stored(kept, place, cursor)
+    }
+
+    /// The code as the last of the codes. Apart, so that a choice whose code is there is short.
+    #[inline(never)]
+    fn store_code(&mut self) -> Result<(), AllocError>
+        ensures { OnOk result (self.new ≡ self.old) }
+    {
+        store(&self.code, self.stored, &mut self.codes)?;
+        self.stored = true;
+        Ok(())
+    }
+
+    /// Keeps a choice, by the shorter way where the code is stored.
+    #[inline(always)]
+    fn keep_stored(&mut self, kept: Kept, place: usize, cursor: usize) -> Result<(), AllocError>
+        ensures { OnOk result
+            (self.new ≡ record self.old {
+              backs = record {
+                kept = kept;
+                thread = record {
+                  code = self.old.code;
+                  place = place;
+                  cursor = cursor;
+                  notes = self.old.notes;
+                  pending = self.old.pending;
+                };
+              } ∷ self.old.backs;
+            }) }
+    {
         let (count, room) = (self.choices.len(), self.choices.capacity());
         if !self.stored || count >= room {
             return self.keep_growing(kept, place, cursor);
