@@ -135,9 +135,9 @@ impl Trail {
         self.stored = false;
         self.head = 0;
         self.choices.clear();
-        self.codes.clear();
-        self.log.clear();
-        self.pending.clear();
+        empty(&mut self.codes);
+        empty(&mut self.log);
+        empty(&mut self.pending);
     }
 
     /// Whether a list has more room than it keeps for the next match.
@@ -593,6 +593,16 @@ impl Trail {
             }
             None => Ok(None),
         }
+    }
+}
+
+/// Lets go of all that a list holds, and keeps its room.
+#[inline(always)]
+fn empty<T: Drop>(list: &mut Vec<T>)
+    ensures { list.new.items ≡ [] }
+{
+    while let Some(last) = list.pop() {
+        drop(last);
     }
 }
 
