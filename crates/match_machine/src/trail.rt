@@ -135,9 +135,9 @@ impl Trail {
         self.stored = false;
         self.head = 0;
         self.choices.clear();
-        self.codes.clear();
-        self.log.clear();
-        self.pending.clear();
+        empty(&mut self.codes);
+        empty(&mut self.log);
+        empty(&mut self.pending);
     }
 
     /// Whether a list has more room than it keeps for the next match.
@@ -318,6 +318,39 @@ impl Trail {
     /// Keeps a choice. Takes memory only where a log has to grow.
     #[inline(always)]
     pub fn keep(&mut self, kept: Kept, place: usize, cursor: usize) -> Result<(), AllocError>
+        ensures { OnOk result
+            (self.new ≡ record self.old {
+              backs = record {
+                kept = kept;
+                thread = record {
+                  code = self.old.code;
+                  place = place;
+                  cursor = cursor;
+                  notes = self.old.notes;
+                  pending = self.old.pending;
+                };
+              } ∷ self.old.backs;
+            }) }
+    {
+        if !self.stored {
+            self.store_code()?;
+        }
+        self.keep_stored(kept, place, cursor)
+    }
+
+    /// The code as the last of the codes. Apart, so that a choice whose code is there is short.
+    #[inline(never)]
+    fn store_code(&mut self) -> Result<(), AllocError>
+        ensures { OnOk result (self.new ≡ self.old) }
+    {
+        store(&self.code, self.stored, &mut self.codes)?;
+        self.stored = true;
+        Ok(())
+    }
+
+    /// Keeps a choice, by the shorter way where the code is stored.
+    #[inline(always)]
+    fn keep_stored(&mut self, kept: Kept, place: usize, cursor: usize) -> Result<(), AllocError>
         ensures { OnOk result
             (self.new ≡ record self.old {
               backs = record {
@@ -560,6 +593,16 @@ impl Trail {
             }
             None => Ok(None),
         }
+    }
+}
+
+/// Lets go of all that a list holds, and keeps its room.
+#[inline(always)]
+fn empty<T: Drop>(list: &mut Vec<T>)
+    ensures { list.new.items ≡ [] }
+{
+    while let Some(last) = list.pop() {
+        drop(last);
     }
 }
 
