@@ -58,6 +58,15 @@ impl PatCode {
         }
     }
 
+    /// The memory of its instructions, if it takes some.
+    #[inline(always)]
+    pub(crate) fn into_shared(self) -> Option<Rc<Vec<Instr>>>
+        ensures { shared_code result ≡ self }
+    {
+        let PatCode { shared } = self;
+        shared
+    }
+
     /// The instructions in order.
     #[inline(always)]
     pub fn as_slice(&self) -> &[Instr]

@@ -1,8 +1,9 @@
 //! Code behind parts that change.
 
-ghost use Rattle.std.specs.Prelude.{◌≡◌, ◌<◌, ◌∷◌, IfOk, length};
+ghost use Rattle.std.specs.Prelude.{◌≡◌, ◌<◌, ◌∷◌, IfOk, IfSome, length};
 ghost use Rattle.model.specs.Pattern.Code.{cat_code};
 ghost use Rattle.model.specs.Pattern.Steps.{Code};
+ghost use Rattle.pattern_compiler.specs.Behind.{IsBehind};
 ghost use Rattle.pattern_compiler.specs.View.{instr_of, code_of, IsLed};
 
 use crate::code::{PatCode, put};
@@ -57,6 +58,36 @@ impl Led {
             Ok(only) => self.led_by(alloc, only),
             Err(code) => code.followed_by(alloc, Pattern::of(self.rest.clone()?)),
         }
+    }
+
+    /// The same of a part of one instruction, in the memory of what was made last, which is lent until it is brought back.
+    /// None where there is none, or where something else holds it.
+    #[inline(always)]
+    pub fn lend(&mut self, first: Pattern) -> Option<PatCode>
+        ensures code { IfSome result (λ code. code ≡ cat_code first self.old) }
+        ensures led { IfSome result (λ code. IsBehind self.old code) }
+        ensures same { self.new ≡ self.old }
+    {
+        let Ok(only) = first.into_instr() else {
+            return None;
+        };
+        let Some(mut whole) = self.whole.take() else {
+            return None;
+        };
+        let Some(instrs) = Rc::get_mut(&mut whole) else {
+            return None;
+        };
+        lead(instrs, only);
+        Some(PatCode::shared(whole))
+    }
+
+    /// Takes what was lent.
+    #[inline(always)]
+    pub fn bring_back(&mut self, code: PatCode)
+        requires { IsBehind self.old code }
+        ensures { self.new ≡ self.old }
+    {
+        self.whole = code.into_shared();
     }
 
     // The same of a part that is one instruction.
