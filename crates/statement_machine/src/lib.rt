@@ -46,6 +46,7 @@ mod patterns;
 mod predicates;
 mod prepared;
 mod quick;
+mod quick_forms;
 mod resuming;
 mod run;
 mod searches;
