@@ -24,5 +24,7 @@ pub use answering::answer_of;
 pub use frame::{Frame, Waiting};
 pub use handler::{Caught, Handler, fail, pop_begin, pop_try};
 pub use matching::Matching;
-pub use operand::{Named, Operand, pop_name, pop_span, pop_value, pop_values, top_name};
+pub use operand::{
+    Named, Operand, pop_name, pop_span, pop_value, pop_values, replace_integers, top_name,
+};
 pub use stack::Stack;

@@ -1,6 +1,6 @@
 //! The operands of instructions.
 
-ghost use Rattle.std.specs.Prelude.{◌≡◌, [], ◌∷◌, ◌++◌, List, map, reverse, replicate, length, drop, OnOk, OnErr};
+ghost use Rattle.std.specs.Prelude.{◌≡◌, [], ◌∷◌, ◌++◌, ℤ, List, map, reverse, replicate, length, drop, OnOk, OnErr};
 ghost use Rattle.frames.specs.View.{operands_of};
 ghost use Rattle.frames.specs.Kinds.{TopIs, AreOnTop};
 ghost use Rattle.frames.specs.declared.operand.Operand.TheVariants as operand;
@@ -8,6 +8,7 @@ ghost use Rattle.model.specs.Module.Flow.{V, N, R};
 ghost use Rattle.model.specs.Machine.Steps as m;
 ghost use Rattle.model.specs.Machine.Steps.{MVal, MW, State, pop_many};
 ghost use Rattle.world.specs.Values.{value_of};
+ghost use Rattle.world.specs.declared.value.Value.TheVariants as value;
 
 use crate::stack::Stack;
 use pattern_compiler::Name;
@@ -86,6 +87,23 @@ pub fn pop_value(operands: &mut Stack<Operand>) -> Value
     ensures { operands.old ≡ record operands.new { top = operand.Value result ∷ operands.new.top } }
 {
     operands.pop().into_value()
+}
+
+/// Another integer in the place of the newest two operands, which are integers.
+#[inline(always)]
+pub fn replace_integers(operands: &mut Stack<Operand>, n: i64)
+    requires { (a : ℤ) × (b : ℤ) × (operands.old.top
+        ≡ operand.Value (value.Integer b) ∷ operand.Value (value.Integer a) ∷ drop 2 operands.old.top) }
+    ensures { operands.new
+        ≡ record operands.old { top = operand.Value (value.Integer n) ∷ drop 2 operands.old.top } }
+{
+    let Value::Integer(..) = pop_value(operands) else {
+        unreachable!()
+    };
+    let old = operands.replace_top(Operand::Value(Value::Integer(n)));
+    let Value::Integer(..) = old.into_value() else {
+        unreachable!()
+    };
 }
 
 /// Takes off the newest operand, a name.

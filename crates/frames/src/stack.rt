@@ -1,10 +1,11 @@
 //! A stack, which contracts see newest first.
 
 ghost use Rattle.std.specs.Prelude.{◌≡◌, ◌==◌, ◌<◌, ◌-◌, [], ◌∷◌, ◌++◌, length, take, drop, OnOk, OnErr};
-ghost use Rattle.std.specs.Prelude.{option_copied, slice_get};
+ghost use Rattle.std.specs.Prelude.{Some, option_copied, slice_get};
 
 use std::alloc::{AllocError, Global};
 use std::marker::Model;
+use std::mem;
 
 /// Items, of which the newest is taken off first. Those of the code that runs lie above those of what waits for it,
 /// which stay where they are.
@@ -59,6 +60,17 @@ impl<T: Drop> Stack<T> {
     {
         let newest = self.items.len() - 1;
         self.items[newest] = item;
+    }
+
+    /// Another one in the place of the newest, which is given.
+    #[inline(always)]
+    pub(crate) fn replace_top(&mut self, item: T) -> T
+        requires { 0 < length self.old.top }
+        ensures had { slice_get self.old.top 0 ≡ Some result }
+        ensures set { self.new ≡ record self.old { top = item ∷ drop 1 self.old.top } }
+    {
+        let newest = self.items.len() - 1;
+        mem::replace(&mut self.items[newest], item)
     }
 
     /// Another one in the place of the newest two.
