@@ -25,6 +25,7 @@ mod fixed;
 mod fixed_forms;
 mod forms;
 mod gotos;
+mod growing;
 mod instructions;
 mod joined;
 mod joined_calls;

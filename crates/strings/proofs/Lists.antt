@@ -68,6 +68,29 @@ drop_part xs ys a b le within =
     ∙ ap (λ n. drop a (take n xs) ++ ys) count
     ∙ ap (λ zs. zs ++ ys) (drop-take a (b - a) xs)
 
+-- a part of a list, and two others behind it, where only that stands
+pub part_extended : (xs ys zs : List ℕ) (a b n : ℕ) → a ≤ b → b ≤ length xs → n ≡ b + (length ys + length zs) → slice_range ((take b xs ++ ys) ++ zs) a n ≡ (slice_range xs a b ++ ys) ++ zs
+part_extended xs ys zs a b n le within is =
+    let front = take b xs ++ ys in
+    let all = front ++ zs in
+    let short : length front ≡ b + length ys = length-append (take b xs) ys ∙ ap (λ k. k + length ys) (length-take-le b xs within) in
+    let long : n ≡ length all = omega (arith, is, short, length-append front zs) in
+    ap (λ k. slice_range all a k) long
+    ∙ slice_range_to_end all a
+    ∙ drop-append-le a front zs (omega (arith, le, short))
+    ∙ ap (λ l. l ++ zs) (drop_part xs ys a b le within)
+
+-- a part of a list without its front
+pub part_without : (xs : List ℕ) (a b n : ℕ) → n ≤ b - a → slice_range xs (a + n) b ≡ drop n (slice_range xs a b)
+part_without xs a b n le =
+    let m : ℕ = b - a - n in
+    let count : b - a ≡ n + m = omega (arith, le) in
+    let same : b - (a + n) ≡ m = omega arith in
+    ap (λ k. take k (drop (a + n) xs)) same
+    ∙ ap (λ ys. take m ys) (sym (drop-drop n a xs))
+    ∙ sym (drop-take n m (drop a xs))
+    ∙ ap (λ k. drop n (take k (drop a xs))) (sym count)
+
 -- ---- lists that are the same up to a place
 
 same_one : (xs ys : List ℕ) (i j : ℕ) → j ≡ i + 1 → j ≤ length xs → length xs ≡ length ys → nat_eq (get_or xs i 0) (get_or ys i 0) ≡ true → take i xs ≡ take i ys → take j xs ≡ take j ys

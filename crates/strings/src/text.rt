@@ -1,7 +1,7 @@
 //! A text: a few bytes of its own, or many that are shared by its clones and by the parts cut from it.
 
 ghost use Rattle.std.specs.Prelude.{◌≡◌, ◌+◌, ◌*◌, ◌^◌, ◌<◌, ◌≤◌, ℕ, [], ◌++◌, length, take, drop, map, IfOk, IfErr};
-ghost use Rattle.std.specs.Prelude.{true, IsTrue, Err, ◌↔◌, slice_range, slice_index, nat_eq, MatchResult};
+ghost use Rattle.std.specs.Prelude.{true, false, IsTrue, Err, ◌↔◌, slice_range, slice_index, nat_eq, MatchResult};
 ghost use Rattle.std.specs.Cmp.Lexicographic.{pointwise};
 ghost use Rattle.std.specs.Fmt.{signed_decimal};
 ghost use Rattle.std.specs.List.{repeat};
@@ -143,6 +143,7 @@ impl Text {
     }
 
     // Two texts in one of a few bytes.
+    #[inline]
     fn few_joined(left: &Text, right: &[u8]) -> Text
         requires { length left.now + length right.now ≤ 22 }
         ensures { result ≡ left.now ++ right.now }
@@ -252,6 +253,60 @@ impl Text {
                 ),
             },
         }
+    }
+
+    /// Puts bytes behind these, and others behind them. Bytes that nothing else shares aren't copied while they have room.
+    /// Whether there was memory for that; else nothing changes.
+    #[inline(always)]
+    pub fn extend(&mut self, alloc: Global, one: &[u8], two: &[u8]) -> bool
+        requires fits { length self.old + length one.now + length two.now < 2 ^ 64 }
+        ensures made { result ≡ true → self.new ≡ (self.old ++ one.now) ++ two.now }
+        ensures kept { result ≡ false → self.new ≡ self.old }
+    {
+        if self.len() + one.len() + two.len() > FEW {
+            return self.extend_many(alloc, one, two);
+        }
+        *self = Text::few_joined(self, one);
+        if !two.is_empty() {
+            *self = Text::few_joined(self, two);
+        }
+        true
+    }
+
+    // The same of many, or of a few that become many.
+    #[inline(never)]
+    fn extend_many(&mut self, alloc: Global, one: &[u8], two: &[u8]) -> bool
+        requires fits { length self.old + length one.now + length two.now < 2 ^ 64 }
+        ensures made { result ≡ true → self.new ≡ (self.old ++ one.now) ++ two.now }
+        ensures kept { result ≡ false → self.new ≡ self.old }
+    {
+        if let Bytes::Shared { start, end, shared } = &mut self.bytes {
+            if extend_shared(*start, end, shared, one, two) {
+                return true;
+            }
+        }
+        match lengthy(alloc, self.as_slice(), one, two) {
+            Ok(text) => {
+                *self = text;
+                true
+            }
+            Err(_) => false,
+        }
+    }
+
+    /// Takes bytes off the front. Takes no memory.
+    #[inline(always)]
+    pub fn cut_front(&mut self, count: usize)
+        requires within { count ≤ length self.old }
+        ensures { self.new ≡ drop count self.old }
+    {
+        if self.len() - count > FEW {
+            if let Bytes::Shared { start, .. } = &mut self.bytes {
+                *start += count as u32;
+                return;
+            }
+        }
+        *self = Text::few(&self.as_slice()[count..]);
     }
 
     /// The text, `n` times.
@@ -462,6 +517,60 @@ impl Clone for Text {
             }
         }
     }
+}
+
+// Puts bytes behind many that nothing else shares, and others behind them, where memory is there.
+#[inline(always)]
+fn extend_shared(
+    start: u32,
+    end: &mut u32,
+    shared: &mut Rc<Vec<u8>>,
+    one: &[u8],
+    two: &[u8],
+) -> bool
+    requires ordered { start ≤ end.old }
+    requires within { end.old ≤ length shared.old.value.items }
+    requires fits { length one.now + length two.now < 2 ^ 64 }
+    ensures made { result ≡ true → slice_range shared.new.value.items start end.new
+        ≡ (slice_range shared.old.value.items start end.old ++ one.now) ++ two.now }
+    ensures kept { result ≡ false → slice_range shared.new.value.items start end.new
+        ≡ slice_range shared.old.value.items start end.old }
+    ensures ordered { start ≤ end.new }
+    ensures within { end.new ≤ length shared.new.value.items }
+{
+    let old = *end as usize;
+    let Ok(more) = u32::try_from(one.len() + two.len()) else {
+        return false;
+    };
+    let Some(new) = end.checked_add(more) else {
+        return false;
+    };
+    let Some(all) = Rc::get_mut(shared) else {
+        return false;
+    };
+    all.truncate(old);
+    let Ok(()) = all.extend_from_slice(one) else {
+        return false;
+    };
+    let Ok(()) = all.extend_from_slice(two) else {
+        all.truncate(old);
+        return false;
+    };
+    *end = new;
+    true
+}
+
+// Three rows of bytes in a text, with room for as many again.
+fn lengthy(alloc: Global, left: &[u8], one: &[u8], two: &[u8]) -> Result<Text, StrFault>
+    requires fits { length left.now + length one.now + length two.now < 2 ^ 64 }
+    ensures ok { IfOk result (λ text. text ≡ (left.now ++ one.now) ++ two.now) }
+{
+    let len = left.len() + one.len() + two.len();
+    let mut all = Vec::with_capacity(alloc, len.saturating_mul(2))?;
+    all.extend_from_slice(left)?;
+    all.extend_from_slice(one)?;
+    all.extend_from_slice(two)?;
+    Text::from_vec(all)
 }
 
 // Two texts in one.

@@ -1,5 +1,5 @@
 -- A world whose variables were changed at one name.
-use Rattle.std.proofs.Common.{◌≡◌, ℕ, List, [], ◌∷◌, ◌++◌, length, map, Bool, true, false, cond, Option, Some, None, option_map, position, Result, Ok, Err, refl, sym, ap, subst, ◌∙◌, is_some, bytes_eq, slice_get, get_or}
+use Rattle.std.proofs.Common.{◌≡◌, ℕ, zero, suc, List, [], ◌∷◌, ◌++◌, length, map, Bool, true, false, cond, Option, Some, None, option_map, position, Result, Ok, Err, refl, sym, ap, subst, ◌∙◌, is_some, bytes_eq, slice_get, get_or}
 use Rattle.std.specs.Prelude.{IfSome, OnOk, if◌then◌else◌}
 use Rattle.std.specs.List.{IsDistinct}
 use Rattle.std.proofs.lemmas.Slice.Eq.{bytes_eq-Decides}
@@ -8,7 +8,7 @@ use Rattle.std.proofs.lemmas.Map.Entries.{lookup_from_place}
 use Rattle.std.proofs.lemmas.Option.{slice_get-map, slice_get-get_or}
 use Rattle.std.specs.Map.{keys_of, values_of}
 use Rattle.std.specs.Cmp.Lexicographic.{nat_list_eq_equiv}
-use Rattle.indexmap.specs.IndexMap.{IndexMap, IsUnique, insert_entry, with_value_at}
+use Rattle.indexmap.specs.IndexMap.{IndexMap, IsUnique, insert_entry, set_value_at, with_value_at}
 use Rattle.indexmap.proofs.CallerLemmas.{keys-with_value_at, updates-with_value_at}
 use Rattle.indexmap.proofs.MapLemmas.{absent_from_lookup, insert_entry-absent}
 use Rattle.model.specs.declared.image.Level.{Level}
@@ -26,7 +26,7 @@ use Rattle.world.specs.Functions.{Functions, functions_in}
 use Rattle.world.specs.Objects.{object_map}
 use Rattle.world.specs.declared.value.Value.{Value}
 use Rattle.world.specs.declared.value.Value.TheVariants.{String}
-use Rattle.world.specs.Held.{WorldView, IsPlain, IsSilent, StandsIn, StaySilent, variable_at, name_at, value_in, input_in, output_in, world_of}
+use Rattle.world.specs.Held.{WorldView, Holds, IsPlain, IsSilent, StandsIn, StaySilent, variable_at, name_at, value_in, input_in, output_in, world_of}
 use Rattle.world.specs.declared.world.Variable.{Variable}
 
 -- the variable of one name is this, and all others stay
@@ -262,6 +262,29 @@ silent_still m h new k old v value is made unique there e y at silent =
     let still = stands_still m x y k at old v value unique stands there e (subst (StandsIn y at) before silent.0) (subst (λ l. output_in (variable_at y l) ≡ None) before silent.2) in
     let none = stays input_in m.entries after.entries x v puts reads y ∙ subst (λ l. input_in (variable_at y l) ≡ None) before silent.1 in
     subst (λ l. StandsIn y at l × (input_in (variable_at y l) ≡ None) × (output_in (variable_at y l) ≡ None)) (sym made) (still.0, none, still.1)
+
+-- what a slot holds is the value of the variable there
+pub holds_there : (h : WorldView) (vs : List (Bytes × Variable)) (k : ℕ) (old : Variable) (u : Value) → vs ≡ h.variables → Some old ≡ slice_get (values_of vs) k → Holds k u h → old.value ≡ u
+holds_there h vs k old u e there (v, at, is) =
+    let both : Some old ≡ Some v = there ∙ ap (λ l. slice_get (values_of l) k) e ∙ at in
+    let same : old ≡ v = cc in
+    ap (λ (x : Variable). x.value) same ∙ is
+
+-- the same variable in its slot changes nothing
+pub kept_at : (es : List (Bytes × Variable)) (k : ℕ) (v : Variable) → Some v ≡ slice_get (values_of es) k → set_value_at es k v ≡ es
+kept_at [] k v there = refl
+kept_at (e ∷ es) zero v there =
+    let same : v ≡ e.1 = cc in
+    ap (λ w. (e.0, w) ∷ es) same
+kept_at (e ∷ es) (suc k) v there = ap (λ l. e ∷ l) (kept_at es k v there)
+
+-- a variable in one slot changes no other
+pub others_at : (es : List (Bytes × Variable)) (k at : ℕ) (w : Variable) → (at ≡ k → ⊥) → slice_get (values_of (set_value_at es k w)) at ≡ slice_get (values_of es) at
+others_at [] k at w apart = refl
+others_at (e ∷ es) zero zero w apart = absurd (apart refl)
+others_at (e ∷ es) zero (suc at) w apart = refl
+others_at (e ∷ es) (suc k) zero w apart = refl
+others_at (e ∷ es) (suc k) (suc at) w apart = others_at es k at w (λ same. apart (ap suc same))
 
 -- ---- variables without units
 

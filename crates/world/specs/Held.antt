@@ -1,6 +1,6 @@
 -- The world as it is held, and as the definitions see it.
 use Rattle.std.specs.Prelude.{◌≡◌, ◌⊎◌, ℕ, List, [], ◌∷◌, ◌++◌, map, Option, Some, None, bytes_eq, codes, slice_get, Bool, false}
-use Rattle.std.specs.Map.{lookup, keys_of}
+use Rattle.std.specs.Map.{lookup, keys_of, values_of}
 use Rattle.model.specs.declared.image.Level.{Level}
 use Rattle.model.specs.Deck.Trees.{Bytes}
 use Rattle.model.specs.Language.Io.{Io}
@@ -54,6 +54,10 @@ input_in (Some v) = v.input
 abbrev pub output_in : Option Variable → Option ℕ
 output_in None = None
 output_in (Some v) = v.output
+
+-- the variable in a slot holds this
+abbrev pub Holds : (slot : ℕ) → Value → WorldView → Type 0
+Holds slot u h = (v : Variable) × (slice_get (values_of h.variables) slot ≡ Some v) × (v.value ≡ u)
 
 -- the name is that of the variable in this slot, which writes to no unit
 abbrev pub IsPlain : target.Name → (slot : ℕ) → WorldView → Type 0

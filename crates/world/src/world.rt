@@ -1,13 +1,13 @@
 //! The world of a run.
 
-ghost use Rattle.std.specs.Prelude.{◌≡◌, ◌<◌, ◌∷◌, ℕ, [], length, pos, Some, None, is_some, option_copied};
+ghost use Rattle.std.specs.Prelude.{◌≡◌, ◌<◌, ◌≤◌, ◌+◌, ◌^◌, ◌∷◌, ◌++◌, ℕ, [], drop, length, pos, Some, None, is_some, option_copied};
 ghost use Rattle.std.specs.Prelude.{IfOk, IfSome, true, false, OnOk, OnErr, if◌then◌else◌};
 ghost use Rattle.model.specs.Deck.Target as target;
 ghost use Rattle.model.specs.Deck.Trees.{Bytes};
 ghost use Rattle.model.specs.Language.Conversions.{Gives};
 ghost use Rattle.model.specs.Language.Io.{Io};
 ghost use Rattle.model.specs.Language.Operators.{assign_op, fetch_op};
-ghost use Rattle.model.specs.Language.Values.{Int, set_var};
+ghost use Rattle.model.specs.Language.Values.{Int, Str, set_var};
 ghost use Rattle.model.specs.Language.Primitives.{set_reads, set_writes};
 ghost use Rattle.model.specs.Language.Keywords.{key_value};
 ghost use Rattle.model.specs.Laws.Agreement.{first_m};
@@ -15,7 +15,7 @@ ghost use Rattle.model.specs.Laws.PrintedBefore.{after_w};
 ghost use Rattle.pattern_compiler.specs.View.{name_of};
 ghost use Rattle.world.specs.Values.{value_of};
 ghost use Rattle.world.specs.Held.{world_of, IsPlain, StandsIn, name_at, zero_in, variable_at, value_in};
-ghost use Rattle.world.specs.Held.{IsSilent, StaySilent};
+ghost use Rattle.world.specs.Held.{Holds, IsLeftOf, IsSilent, StaySilent};
 ghost use Rattle.world.specs.Held.{input_in, output_in};
 ghost use Rattle.world.specs.Calling.{AreSaved};
 ghost use Rattle.world.specs.Held.{with_variable, pattern_variable, first_patterns, first_variables};
@@ -81,6 +81,33 @@ impl Variable {
             return;
         }
         self.value = value;
+    }
+
+    // Puts two texts behind the string that it holds, where it lies; whether that is made, or else nothing changes.
+    #[inline(always)]
+    fn lengthen(&mut self, alloc: Global, one: &Text, two: &Text) -> bool
+        requires fits { (u : Bytes) → self.old.value ≡ String u → length u + length one.now + length two.now < 2 ^ 64 }
+        ensures made { result ≡ true → (u : Bytes) × (self.old.value ≡ String u)
+            × (self.new ≡ record self.old { value = String ((u ++ one.now) ++ two.now) }) }
+        ensures kept { result ≡ false → self.new ≡ self.old }
+    {
+        match &mut self.value {
+            Value::String(text) => text.extend(alloc, one.as_slice(), two.as_slice()),
+            _ => false,
+        }
+    }
+
+    // Takes bytes off the front of the string that it holds, if that is so long.
+    #[inline(always)]
+    fn cut_front(&mut self, count: usize)
+        ensures { (u : Bytes) → self.old.value ≡ String u → count ≤ length u
+            → self.new ≡ record self.old { value = String (drop count u) } }
+    {
+        if let Value::String(text) = &mut self.value {
+            if count <= text.len() {
+                text.cut_front(count);
+            }
+        }
     }
 
     // Takes another value, which becomes the one that it had.
@@ -338,6 +365,7 @@ impl World {
             → fetch_op (target.Variable name.now) (world_of self.now io)
             ≡ Gives (value_of value.now) (world_of self.now io)) }
         ensures plain { IfSome result (λ _. IsPlain (target.Variable name.now) slot self.now) }
+        ensures held { IfSome result (λ value. Holds slot value.now self.now) }
     {
         let (key, variable) = self.variables.get_index(slot as usize)?;
         let None = variable.output else {
@@ -434,12 +462,77 @@ impl World {
         ensures others { (name other : target.Name) (at : ℕ) → IsPlain name slot self.old
             → IsPlain other at self.old → IsPlain other at self.new }
         ensures silent { StaySilent self.old self.new }
+        ensures apart { (at : ℕ) (u : Value) → (at ≡ slot → ⊥) → Holds at u self.old → Holds at u self.new }
         ensures keys { self.new.keys ≡ self.old.keys }
     {
         let Some(variable) = self.variables.get_index_mut(slot as usize) else {
             return;
         };
         variable.set(value);
+    }
+
+    /// Puts two texts behind the string of a variable that neither reads from a unit nor writes to one, where it lies in its
+    /// slot; whether that is made, or else nothing changes. Made in one string of so many bytes at most, and, where that is
+    /// asked for, behind another one than the null string.
+    #[inline(always)]
+    pub fn lengthen(
+        &mut self,
+        alloc: Global,
+        name: &Text,
+        slot: u32,
+        one: &Text,
+        two: &Text,
+        filled: bool,
+        limit: usize,
+    ) -> bool
+        ensures made { result ≡ true → (u : Bytes)
+            × ((io : Io) → fetch_op (target.Variable name.now) (world_of self.old io)
+            ≡ Gives (Str u) (world_of self.old io))
+            × (length u + (length one.now + length two.now) ≤ limit)
+            × (filled ≡ true → 0 < length u)
+            × ((io : Io) → assign_op (target.Variable name.now) (Str ((u ++ one.now) ++ two.now)) (world_of self.old io)
+            ≡ Gives (record {}) (world_of self.new io)) }
+        ensures kept { result ≡ false → self.new ≡ self.old }
+    {
+        let Some(Value::String(text)) = self.silent(name, slot) else {
+            return false;
+        };
+        let front = text.len();
+        let middle = one.len();
+        let back = two.len();
+        if filled && front == 0 {
+            return false;
+        }
+        if front > limit || middle > limit - front || back > limit - front - middle {
+            return false;
+        }
+        let Some(variable) = self.variables.get_index_mut(slot as usize) else {
+            return false;
+        };
+        variable.lengthen(alloc, one, two)
+    }
+
+    /// Whether what is left of a subject without its front is no longer than `&MAXLNGTH` allows.
+    #[inline(always)]
+    pub fn may_cut(&self, subject: &Text, count: usize) -> bool
+        ensures left { result ≡ true → IsLeftOf subject.now 0 count (String (drop count subject.now)) self.now }
+        ensures within { result ≡ true → count ≤ length subject.now }
+    {
+        let len = subject.len();
+        count <= len && len - count <= self.longest()
+    }
+
+    /// Takes bytes off the front of the string in a slot.
+    #[inline(always)]
+    pub fn cut_front(&mut self, slot: u32, count: usize)
+        ensures set { (u : Bytes) (name : target.Name) → Holds slot (String u) self.old → count ≤ length u
+            → IsPlain name slot self.old → (io : Io)
+            → assign_op name (Str (drop count u)) (world_of self.old io) ≡ Gives (record {}) (world_of self.new io) }
+    {
+        let Some(variable) = self.variables.get_index_mut(slot as usize) else {
+            return;
+        };
+        variable.cut_front(count);
     }
 
     /// The unit that a variable reads from, unless `&INPUT` is 0.

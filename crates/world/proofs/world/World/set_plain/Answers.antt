@@ -1,8 +1,9 @@
-use Rattle.std.proofs.Common.{ap, refl, subst, sym}
+use Rattle.std.proofs.Common.{ap, refl, slice_get, subst, sym, ◌∙◌}
+use Rattle.std.specs.Map.{values_of}
 use Rattle.indexmap.specs.IndexMap.{with_value_at}
 use Rattle.world.specs.Held.{WorldView, StandsIn}
 use Rattle.world.specs.Values.{value_of}
-use Rattle.world.proofs.Variables.{assigned_plain, plain_still, put_in_slot, silent_still}
+use Rattle.world.proofs.Variables.{assigned_plain, others_at, plain_still, put_in_slot, silent_still}
 use Rattle.world.proofs.world.World.set_plain.Goals as goal
 
 pub returns-clause-set : goal.returns-clause-set
@@ -24,3 +25,9 @@ returns-clause-silent c =
     let w = c.self.inside in
     silent_still w.variables c.args.self.now (record { variables = (with_value_at w.variables c.args.slot c.set.new.self).entries; objects = w.heap; functions = w.functions; keys = w.keywords; level = w.level }) c.args.slot c.in-Some.variable.now c.set.new.self c.args.value (ap {A = WorldView} (λ h. h.variables) c.self.view_is) refl
     c.get_index_mut.ensures.unique c.in-Some.ensures.value c.set.ensures
+
+pub returns-clause-apart : goal.returns-clause-apart
+returns-clause-apart c at u apart (v, there, is) =
+    let es = c.self.inside.variables.entries in
+    let before = ap {A = WorldView} (λ h. h.variables) c.self.view_is in
+    (v, others_at es c.args.slot at c.set.new.self apart ∙ ap (λ l. slice_get (values_of l) at) before ∙ there, is)
