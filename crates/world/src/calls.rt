@@ -172,10 +172,7 @@ impl World {
     {
         let mut left = names.len() - 1;
         while left > 0 {
-            let Some(value) = saved.pop() else {
-                unreachable!()
-            };
-            self.give(&names[left], slot_at(slots, left), value)?;
+            self.give_last(&names[left], slot_at(slots, left), saved)?;
             left -= 1;
         }
         let Some(value) = saved.pop() else {

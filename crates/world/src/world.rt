@@ -20,6 +20,7 @@ ghost use Rattle.world.specs.Held.{input_in, output_in};
 ghost use Rattle.world.specs.Calling.{AreSaved};
 ghost use Rattle.world.specs.Held.{with_variable, pattern_variable, first_patterns, first_variables};
 ghost use Rattle.world.specs.declared.value.Value.TheVariants.{String};
+ghost use Rattle.world.specs.declared.value.Value.{Value};
 ghost use Rattle.world.specs.declared.world.Variable.{Variable};
 
 use crate::functions::FunctionTable;
@@ -681,18 +682,32 @@ impl World {
         }
     }
 
-    /// Gives a variable another value. Tells no unit.
+    /// Gives a variable the last value, which is taken off once it is known where the variable stands. Tells no unit.
     #[inline(always)]
-    pub(crate) fn give(&mut self, name: &Text, slot: u32, value: Value) -> Result<(), AllocError>
-        ensures { OnOk result
-            ((io : Io) → world_of self.new io
-            ≡ set_var name.now (value_of value) (world_of self.old io)) }
+    pub(crate) fn give_last(
+        &mut self,
+        name: &Text,
+        slot: u32,
+        saved: &mut Vec<Value>,
+    ) -> Result<(), AllocError>
+        requires { 0 < length saved.old.items }
+        ensures { OnOk result ((value : Value) × (saved.old.items ≡ saved.new.items ++ value ∷ [])
+            × ((io : Io) → world_of self.new io
+            ≡ set_var name.now (value_of value) (world_of self.old io))) }
     {
         let Some(at) = self.slot(name, slot) else {
+            let Some(value) = saved.pop() else {
+                unreachable!()
+            };
             return self.set_new(name, value);
         };
         match self.variables.get_index_mut(at) {
-            Some(variable) => variable.set(value),
+            Some(variable) => {
+                let Some(last) = saved.pop() else {
+                    unreachable!()
+                };
+                variable.set(last);
+            }
             None => unreachable!(),
         }
         Ok(())

@@ -1,4 +1,4 @@
-use Rattle.std.proofs.Common.{◌≡◌, ◌∷◌, drop, ap, length}
+use Rattle.std.proofs.Common.{◌∷◌, drop, ap}
 use Rattle.frames.specs.Kinds.{kinds_of}
 use Rattle.frames.specs.declared.operand.Operand.TheVariants as operand
 use Rattle.world.specs.declared.value.Value.TheVariants as value

@@ -1,6 +1,6 @@
-use Rattle.std.proofs.Common.{rules, sym, ◌∙◌, ap, subst, get_or}
-use Rattle.std.specs.Prelude.{◌≡◌, slice_set, ◌-◌}
-use Rattle.frames.specs.Stacked.{Stacked, parted}
+use Rattle.std.proofs.Common.{rules, ◌∙◌, ap}
+use Rattle.std.specs.Prelude.{slice_set, ◌-◌}
+use Rattle.frames.specs.Stacked.{parted}
 use Rattle.frames.proofs.Stacks.{set_newest}
 use Rattle.frames.proofs.stack.Stack.replace_top.Goals as goal
 

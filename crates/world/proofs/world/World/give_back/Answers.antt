@@ -31,9 +31,9 @@ loop-left-preserved c =
     record {
       within = omega (arith, c.loop-left.invariant.within);
       given =
-          subst (λ n. IsGivenBack names (take base all) (drop base all) n c.pop.new.self.items c.args.self.now c.give.new.self) same
-          (give_turn names (take base all) (drop base all) c.loop-left.saved.items c.pop.new.self.items left c.index-names-left.result c.in-Some.value c.args.self.now c.loop-left.self c.give.new.self size
-          c.loop-left.invariant.within c.index-names-left.is c.in-Some.ensures.items c.in_ok-give.ensures so);
+          subst (λ n. IsGivenBack names (take base all) (drop base all) n c.give_last.new.saved.items c.args.self.now c.give_last.new.self) same
+          (give_turn names (take base all) (drop base all) c.loop-left.saved.items c.give_last.new.saved.items left c.index-names-left.result c.in_ok-give_last.ensures.0 c.args.self.now c.loop-left.self c.give_last.new.self size
+          c.loop-left.invariant.within c.index-names-left.is c.in_ok-give_last.ensures.1 c.in_ok-give_last.ensures.2 so);
     }
 
 pub returns-clause-values : goal.returns-clause-values
@@ -45,9 +45,9 @@ returns-clause-values c =
     let one : c.loop-left.left + 1 ≡ suc 0 = omega (arith, c.loop-left-test.false) in
     let so = subst (λ n. IsGivenBack names (take base all) (drop base all) n c.loop-left.saved.items c.args.self.now c.loop-left.self) one c.loop-left.invariant.given in
     on_ok_weaker c.replace_value.result
-    (λ put. (all_given names all c.pop-2.new.self.items base c.args.self.now c.replace_value.new.self
-    (give_turn names (take base all) (drop base all) c.loop-left.saved.items c.pop-2.new.self.items 0 c.index-names-0.result c.in-Some-pop.value c.args.self.now c.loop-left.self c.replace_value.new.self size
-    c.requires.some c.index-names-0.is c.in-Some-pop.ensures.items put so)).0)
+    (λ put. (all_given names all c.pop.new.self.items base c.args.self.now c.replace_value.new.self
+    (give_turn names (take base all) (drop base all) c.loop-left.saved.items c.pop.new.self.items 0 c.index-names-0.result c.in-Some.value c.args.self.now c.loop-left.self c.replace_value.new.self size
+    c.requires.some c.index-names-0.is c.in-Some.ensures.items put so)).0)
     c.replace_value.ensures.set
 
 pub returns-clause-set : goal.returns-clause-set
@@ -59,9 +59,9 @@ returns-clause-set c =
     let one : c.loop-left.left + 1 ≡ suc 0 = omega (arith, c.loop-left-test.false) in
     let so = subst (λ n. IsGivenBack names (take base all) (drop base all) n c.loop-left.saved.items c.args.self.now c.loop-left.self) one c.loop-left.invariant.given in
     on_ok_weaker c.replace_value.result
-    (λ put. (all_given names all c.pop-2.new.self.items base c.args.self.now c.replace_value.new.self
-    (give_turn names (take base all) (drop base all) c.loop-left.saved.items c.pop-2.new.self.items 0 c.index-names-0.result c.in-Some-pop.value c.args.self.now c.loop-left.self c.replace_value.new.self size
-    c.requires.some c.index-names-0.is c.in-Some-pop.ensures.items put so)).1)
+    (λ put. (all_given names all c.pop.new.self.items base c.args.self.now c.replace_value.new.self
+    (give_turn names (take base all) (drop base all) c.loop-left.saved.items c.pop.new.self.items 0 c.index-names-0.result c.in-Some.value c.args.self.now c.loop-left.self c.replace_value.new.self size
+    c.requires.some c.index-names-0.is c.in-Some.ensures.items put so)).1)
     c.replace_value.ensures.set
 
 pub returns-clause-had : goal.returns-clause-had
