@@ -12,6 +12,7 @@ pub mod Wholes
 pub mod Sought
 pub mod Straights
 pub mod Rows
+pub mod Lengthening
 pub mod Going
 pub mod Joining
 pub mod Keys

@@ -507,10 +507,10 @@ impl World {
         if front > limit || middle > limit - front || back > limit - front - middle {
             return false;
         }
-        let Some(variable) = self.variables.get_index_mut(slot as usize) else {
+        let Some(found) = self.variables.get_index_mut(slot as usize) else {
             return false;
         };
-        variable.lengthen(alloc, one, two)
+        found.lengthen(alloc, one, two)
     }
 
     /// Whether what is left of a subject without its front is no longer than `&MAXLNGTH` allows.
@@ -530,10 +530,10 @@ impl World {
             → IsPlain name slot self.old → (io : Io)
             → assign_op name (Str (drop count u)) (world_of self.old io) ≡ Gives (record {}) (world_of self.new io) }
     {
-        let Some(variable) = self.variables.get_index_mut(slot as usize) else {
+        let Some(found) = self.variables.get_index_mut(slot as usize) else {
             return;
         };
-        variable.cut_front(count);
+        found.cut_front(count);
     }
 
     /// The unit that a variable reads from, unless `&INPUT` is 0.

@@ -8,13 +8,13 @@ use Rattle.world.proofs.world.World.cut_front.Goals as goal
 pub returns : goal.returns
 returns c = record {
   set = λ u name holds within plain io.
-    let w = c.self.inside in
-    let h = c.args.self.now in
-    let old = c.in-Some.variable.now in
-    let before = ap {A = WorldView} (λ h. h.variables) c.self.view_is in
-    let held = holds_there h w.variables.entries c.args.slot old (String u) before c.in-Some.ensures.value holds in
-    assigned_plain h _ name c.args.slot (Str (drop c.args.count u)) plain
-    (λ y stands io. put_in_slot w.variables w.heap w.functions w.keywords w.level h y c.args.slot old c.cut_front.new.self (String (drop c.args.count u)) c.self.view_is
-    c.get_index_mut.ensures.unique (subst (StandsIn y c.args.slot) (sym before) stands) c.in-Some.ensures.value (c.cut_front.ensures u held within) io)
-    io;
+      let w = c.self.inside in
+      let h = c.args.self.now in
+      let old = c.in-Some.found.now in
+      let before = ap {A = WorldView} (λ h. h.variables) c.self.view_is in
+      let held = holds_there h w.variables.entries c.args.slot old (String u) before c.in-Some.ensures.value holds in
+      assigned_plain h _ name c.args.slot (Str (drop c.args.count u)) plain
+      (λ y stands io. put_in_slot w.variables w.heap w.functions w.keywords w.level h y c.args.slot old c.cut_front.new.self (String (drop c.args.count u)) c.self.view_is
+      c.get_index_mut.ensures.unique (subst (StandsIn y c.args.slot) (sym before) stands) c.in-Some.ensures.value (c.cut_front.ensures u held within) io)
+      io;
 }

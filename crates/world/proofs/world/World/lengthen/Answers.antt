@@ -21,7 +21,7 @@ returns-clause-made c done =
     let h = c.args.self.now in
     let x = c.args.name.now in
     let u : Bytes = c.in-Some-String.text in
-    let old : Variable = c.in-Some.variable.now in
+    let old : Variable = c.in-Some.found.now in
     let new : Variable = c.lengthen.new.self in
     let all : Bytes = (u ++ c.args.one.now) ++ c.args.two.now in
     let before = ap {A = WorldView} (λ h. h.variables) c.self.view_is in
@@ -40,8 +40,8 @@ returns-clause-made c done =
         | else-filled-via-else-filled b ↦ absurd cc
       ],
       λ io. assigned_plain h _ (target.Variable x) c.args.slot (Str all) c.in-Some-String.ensures.plain
-      (λ y stands io. put_in_slot w.variables w.heap w.functions w.keywords w.level h y c.args.slot old new (String all) c.self.view_is
-      c.get_index_mut.ensures.unique (subst (StandsIn y c.args.slot) (sym before) stands) c.in-Some.ensures.value e io) io,
+          (λ y stands io. put_in_slot w.variables w.heap w.functions w.keywords w.level h y c.args.slot old new (String all) c.self.view_is
+          c.get_index_mut.ensures.unique (subst (StandsIn y c.args.slot) (sym before) stands) c.in-Some.ensures.value e io) io,
     )
 
 pub returns-clause-kept : goal.returns-clause-kept
@@ -49,5 +49,5 @@ returns-clause-kept c failed =
     let w = c.self.inside in
     let es = w.variables.entries in
     ap (λ l. record { variables = l; objects = w.heap; functions = w.functions; keys = w.keywords; level = w.level })
-    (ap (λ (v : Variable). set_value_at es c.args.slot v) (c.lengthen.ensures.kept failed) ∙ kept_at es c.args.slot c.in-Some.variable.now c.in-Some.ensures.value)
+    (ap (λ (v : Variable). set_value_at es c.args.slot v) (c.lengthen.ensures.kept failed) ∙ kept_at es c.args.slot c.in-Some.found.now c.in-Some.ensures.value)
     ∙ c.self.view_is
