@@ -36,6 +36,7 @@ pub mod Expressions
 pub mod Needles
 pub mod Preparing
 pub mod Fixing
+pub mod Limited
 pub mod AtOnce
 pub mod Testing
 pub mod Upon
