@@ -143,7 +143,6 @@ impl Text {
     }
 
     // Two texts in one of a few bytes.
-    #[inline]
     fn few_joined(left: &Text, right: &[u8]) -> Text
         requires { length left.now + length right.now ≤ 22 }
         ensures { result ≡ left.now ++ right.now }
@@ -266,11 +265,29 @@ impl Text {
         if self.len() + one.len() + two.len() > FEW {
             return self.extend_many(alloc, one, two);
         }
-        *self = Text::few_joined(self, one);
+        self.extend_few(one);
         if !two.is_empty() {
-            *self = Text::few_joined(self, two);
+            self.extend_few(two);
         }
         true
+    }
+
+    // The same of a few bytes that stay few.
+    #[inline(always)]
+    fn extend_few(&mut self, more: &[u8])
+        requires few { length self.old + length more.now ≤ 22 }
+        ensures { self.new ≡ self.old ++ more.now }
+    {
+        let front = self.len();
+        let back = front + more.len();
+        if let Bytes::Own { array, .. } = &mut self.bytes {
+            array[front..back].copy_from_slice(more);
+            if let Bytes::Own { len, .. } = &mut self.bytes {
+                *len = back as u8;
+            }
+            return;
+        }
+        *self = Text::few_joined(self, more);
     }
 
     // The same of many, or of a few that become many.
