@@ -1,6 +1,6 @@
 use Rattle.std.proofs.Common.{◌∷◌, ◌∙◌, ap, sym}
 use Rattle.model.specs.Pattern.Code.{cat_code}
-use Rattle.pattern_compiler.specs.View.{instr_of, code_of, IsLed}
+use Rattle.pattern_compiler.specs.View.{instr_of, IsLed}
 use Rattle.pattern_compiler.proofs.Sets.{at_some}
 use Rattle.pattern_compiler.proofs.led.Led.lend.Goals as goal
 
