@@ -175,7 +175,10 @@ impl World {
             self.give_last(&names[left], slot_at(slots, left), saved)?;
             left -= 1;
         }
-        self.swap_last(&names[0], slot_at(slots, 0), saved)
+        let Some(value) = saved.pop() else {
+            unreachable!()
+        };
+        self.replace_value(&names[0], slot_at(slots, 0), value)
     }
 
     /// Begins a call: puts the values that it changes at the end of `saved`, and gives each argument its value, which

@@ -658,35 +658,26 @@ impl World {
         Ok(())
     }
 
-    /// Gives a variable the last value, which is taken off, and tells the one that it had. Tells no unit.
+    /// Gives a variable another value, and tells the one that it had. Tells no unit.
     #[inline(always)]
-    pub(crate) fn swap_last(
+    pub(crate) fn replace_value(
         &mut self,
         name: &Text,
         slot: u32,
-        saved: &mut Vec<Value>,
+        value: Value,
     ) -> Result<Value, AllocError>
-        requires { 0 < length saved.old.items }
-        ensures set { OnOk result ((value : Value) × (saved.old.items ≡ saved.new.items ++ value ∷ [])
-            × ((io : Io) → world_of self.new io
-            ≡ set_var name.now (value_of value) (world_of self.old io))) }
+        ensures set { OnOk result
+            ((io : Io) → world_of self.new io
+            ≡ set_var name.now (value_of value) (world_of self.old io)) }
         ensures had { IfOk result (λ had.
             value_of had ≡ value_in (variable_at name.now self.old.variables)) }
     {
         let Some(at) = self.slot(name, slot) else {
-            let Some(value) = saved.pop() else {
-                unreachable!()
-            };
             self.set_new(name, value)?;
             return Ok(Value::null());
         };
         match self.variables.get_index_mut(at) {
-            Some(variable) => {
-                let Some(value) = saved.pop() else {
-                    unreachable!()
-                };
-                Ok(variable.replace(value))
-            }
+            Some(variable) => Ok(variable.replace(value)),
             None => unreachable!(),
         }
     }

@@ -44,11 +44,11 @@ returns-clause-values c =
     let size : length (drop base all) ≡ length names = length-drop base all ∙ omega (arith, c.requires.count) in
     let one : c.loop-left.left + 1 ≡ suc 0 = omega (arith, c.loop-left-test.false) in
     let so = subst (λ n. IsGivenBack names (take base all) (drop base all) n c.loop-left.saved.items c.args.self.now c.loop-left.self) one c.loop-left.invariant.given in
-    on_ok_weaker c.swap_last.result
-    (λ put. (all_given names all c.swap_last.new.saved.items base c.args.self.now c.swap_last.new.self
-    (give_turn names (take base all) (drop base all) c.loop-left.saved.items c.swap_last.new.saved.items 0 c.index-names-0.result put.0 c.args.self.now c.loop-left.self c.swap_last.new.self size
-    c.requires.some c.index-names-0.is put.1 put.2 so)).0)
-    c.swap_last.ensures.set
+    on_ok_weaker c.replace_value.result
+    (λ put. (all_given names all c.pop.new.self.items base c.args.self.now c.replace_value.new.self
+    (give_turn names (take base all) (drop base all) c.loop-left.saved.items c.pop.new.self.items 0 c.index-names-0.result c.in-Some.value c.args.self.now c.loop-left.self c.replace_value.new.self size
+    c.requires.some c.index-names-0.is c.in-Some.ensures.items put so)).0)
+    c.replace_value.ensures.set
 
 pub returns-clause-set : goal.returns-clause-set
 returns-clause-set c =
@@ -58,11 +58,11 @@ returns-clause-set c =
     let size : length (drop base all) ≡ length names = length-drop base all ∙ omega (arith, c.requires.count) in
     let one : c.loop-left.left + 1 ≡ suc 0 = omega (arith, c.loop-left-test.false) in
     let so = subst (λ n. IsGivenBack names (take base all) (drop base all) n c.loop-left.saved.items c.args.self.now c.loop-left.self) one c.loop-left.invariant.given in
-    on_ok_weaker c.swap_last.result
-    (λ put. (all_given names all c.swap_last.new.saved.items base c.args.self.now c.swap_last.new.self
-    (give_turn names (take base all) (drop base all) c.loop-left.saved.items c.swap_last.new.saved.items 0 c.index-names-0.result put.0 c.args.self.now c.loop-left.self c.swap_last.new.self size
-    c.requires.some c.index-names-0.is put.1 put.2 so)).1)
-    c.swap_last.ensures.set
+    on_ok_weaker c.replace_value.result
+    (λ put. (all_given names all c.pop.new.self.items base c.args.self.now c.replace_value.new.self
+    (give_turn names (take base all) (drop base all) c.loop-left.saved.items c.pop.new.self.items 0 c.index-names-0.result c.in-Some.value c.args.self.now c.loop-left.self c.replace_value.new.self size
+    c.requires.some c.index-names-0.is c.in-Some.ensures.items put so)).1)
+    c.replace_value.ensures.set
 
 pub returns-clause-had : goal.returns-clause-had
 returns-clause-had c =
@@ -72,6 +72,6 @@ returns-clause-had c =
     let one : c.loop-left.left + 1 ≡ 1 = omega (arith, c.loop-left-test.false) in
     let so = subst (λ n. IsGivenBack names (take base all) (drop base all) n c.loop-left.saved.items c.args.self.now c.loop-left.self) one c.loop-left.invariant.given in
     let before = first_had names (take base all) (drop base all) c.loop-left.saved.items c.index-names-0.result c.args.self.now c.loop-left.self c.requires.distinct c.requires.some c.index-names-0.is so in
-    IfOk-weaker c.swap_last.result
+    IfOk-weaker c.replace_value.result
     (λ had. value_of had ≡ values_in c.loop-left.self c.index-names-0.result) (λ had. value_of had ≡ values_in c.args.self.now (get_or names 0 []))
-    (λ had is. is ∙ before) c.swap_last.ensures.had
+    (λ had is. is ∙ before) c.replace_value.ensures.had

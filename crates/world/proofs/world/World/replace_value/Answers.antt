@@ -3,17 +3,13 @@ use Rattle.std.specs.Map.{values_of}
 use Rattle.world.specs.Held.{WorldView, StandsIn, value_in}
 use Rattle.world.specs.Values.{value_of}
 use Rattle.world.proofs.Variables.{held_there, put_in_slot}
-use Rattle.world.proofs.world.World.swap_last.Goals as goal
+use Rattle.world.proofs.world.World.replace_value.Goals as goal
 
 pub returns-clause-set : goal.returns-clause-set
-returns-clause-set c =
+returns-clause-set c io =
     let stands = subst (StandsIn c.args.name.now c.in-Some.at) (sym (ap {A = WorldView} (λ h. h.variables) c.self.view_is)) c.in-Some.ensures.entry in
-    let found = c.in-Some-get_index_mut in (
-      c.in-Some-pop-2.value,
-      c.in-Some-pop-2.ensures.items,
-      λ io.
-          put_in_slot c.self.inside.variables c.self.inside.heap c.self.inside.functions c.self.inside.keywords c.self.inside.level c.args.self.now c.args.name.now c.in-Some.at found.variable.now c.replace.new.self c.in-Some-pop-2.value c.self.view_is c.get_index_mut.ensures.unique stands found.ensures.value c.replace.ensures.set io,
-    )
+    let found = c.in-Some-get_index_mut in
+    put_in_slot c.self.inside.variables c.self.inside.heap c.self.inside.functions c.self.inside.keywords c.self.inside.level c.args.self.now c.args.name.now c.in-Some.at found.variable.now c.replace.new.self c.args.value c.self.view_is c.get_index_mut.ensures.unique stands found.ensures.value c.replace.ensures.set io
 
 pub returns-clause-had : goal.returns-clause-had
 returns-clause-had c =
