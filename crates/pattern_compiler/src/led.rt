@@ -47,6 +47,14 @@ impl Led {
         Led { rest, whole: None }
     }
 
+    /// Its code.
+    #[inline(always)]
+    pub fn rest(&self) -> &PatCode
+        ensures { result.now ≡ self.now }
+    {
+        &self.rest
+    }
+
     /// The code of a part, and then its own. A part of one instruction takes no memory where nothing else holds what was
     /// made last.
     #[inline(never)]

@@ -56,6 +56,7 @@ mod state;
 mod status;
 mod straight;
 mod sums;
+mod taking;
 mod terms;
 mod texts;
 mod trees;

@@ -122,3 +122,11 @@ same_eight xs ys i le len h front =
 -- less of what is the same
 pub same_less : (a b : ℕ) (xs ys : List ℕ) → a ≤ b → take b xs ≡ take b ys → take a xs ≡ take a ys
 same_less a b xs ys le same = sym (take-take a b xs le) ∙ ap (take a) same ∙ take-take a b ys le
+
+-- the front of a list without one item
+pub front_without : (xs us : List ℕ) (p last : ℕ) → p < length us → last ≡ length us - 1 → take (length us) xs ≡ us → take p xs ++ slice_range xs (p + 1) (last + 1) ≡ take p us ++ drop (p + 1) us
+front_without xs us p last within is front =
+    let long : length us ≡ (p + 1) + (last + 1 - (p + 1)) = omega (arith, within, is) in
+    let le : p ≤ length us = omega (arith, within) in
+    ap (λ zs. zs ++ slice_range xs (p + 1) (last + 1)) (sym (take-take p (length us) xs le) ∙ ap (take p) front)
+    ∙ ap (λ zs. take p us ++ zs) (sym (drop-take (p + 1) (last + 1 - (p + 1)) xs) ∙ ap (λ n. drop (p + 1) (take n xs)) (sym long) ∙ ap (drop (p + 1)) front)

@@ -1,6 +1,6 @@
 //! A text: a few bytes of its own, or many that are shared by its clones and by the parts cut from it.
 
-ghost use Rattle.std.specs.Prelude.{◌≡◌, ◌+◌, ◌*◌, ◌^◌, ◌<◌, ◌≤◌, ℕ, [], ◌++◌, length, take, drop, map, IfOk, IfErr};
+ghost use Rattle.std.specs.Prelude.{◌≡◌, ◌+◌, ◌*◌, ◌^◌, ◌<◌, ◌≤◌, ℕ, [], ◌∷◌, ◌++◌, length, take, drop, map, IfOk, IfErr};
 ghost use Rattle.std.specs.Prelude.{true, false, IsTrue, Err, ◌↔◌, slice_range, slice_index, nat_eq, MatchResult};
 ghost use Rattle.std.specs.Cmp.Lexicographic.{pointwise};
 ghost use Rattle.std.specs.Fmt.{signed_decimal};
@@ -131,6 +131,18 @@ impl Text {
                 len: 0,
                 array: [0; FEW],
             },
+        }
+    }
+
+    /// The text of a byte. Takes no memory.
+    #[inline(always)]
+    pub fn byte(byte: u8) -> Text
+        ensures { result ≡ byte ∷ [] }
+    {
+        let mut array = [0; FEW];
+        array[0] = byte;
+        Text {
+            bytes: Bytes::Own { len: 1, array },
         }
     }
 
@@ -324,6 +336,32 @@ impl Text {
             }
         }
         *self = Text::few(&self.as_slice()[count..]);
+    }
+
+    /// Takes a byte out of few. Takes no memory.
+    #[tactic(auto, using(crate::proofs::Lists::front_without))]
+    #[inline(always)]
+    pub fn take_byte(&mut self, place: usize)
+        requires few { length self.old ≤ 22 }
+        requires within { place < length self.old }
+        ensures { self.new ≡ take place self.old ++ drop (place + 1) self.old }
+    {
+        let last = self.len() - 1;
+        if let Bytes::Own { array, .. } = &mut self.bytes {
+            close_up(array, place, last);
+            if let Bytes::Own { len, .. } = &mut self.bytes {
+                *len = last as u8;
+            }
+            return;
+        }
+        let mut array = self.few_bytes();
+        close_up(&mut array, place, last);
+        *self = Text {
+            bytes: Bytes::Own {
+                len: last as u8,
+                array,
+            },
+        };
     }
 
     /// The text, `n` times.
@@ -533,6 +571,20 @@ impl Clone for Text {
                 })
             }
         }
+    }
+}
+
+// Takes one of so many bytes and one more out, in front of an array.
+#[inline(always)]
+fn close_up(array: &mut [u8; FEW], place: usize, last: usize)
+    requires len { length array.old ≡ 22 }
+    requires within { place ≤ last }
+    requires few { last < 22 }
+    ensures len { length array.new ≡ 22 }
+    ensures bytes { take last array.new ≡ take place array.old ++ slice_range array.old (place + 1) (last + 1) }
+{
+    for k in place..last {
+        array[k] = array[k + 1];
     }
 }
 

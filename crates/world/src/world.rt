@@ -1,6 +1,6 @@
 //! The world of a run.
 
-ghost use Rattle.std.specs.Prelude.{◌≡◌, ◌<◌, ◌≤◌, ◌+◌, ◌^◌, ◌∷◌, ◌++◌, ℕ, [], drop, length, pos, Some, None, is_some, option_copied};
+ghost use Rattle.std.specs.Prelude.{◌≡◌, ◌<◌, ◌≤◌, ◌+◌, ◌^◌, ◌∷◌, ◌++◌, ℕ, [], take, drop, length, pos, Some, None, is_some, option_copied};
 ghost use Rattle.std.specs.Prelude.{IfOk, IfSome, true, false, OnOk, OnErr, if◌then◌else◌};
 ghost use Rattle.model.specs.Deck.Target as target;
 ghost use Rattle.model.specs.Deck.Trees.{Bytes};
@@ -107,6 +107,20 @@ impl Variable {
         if let Value::String(text) = &mut self.value {
             if count <= text.len() {
                 text.cut_front(count);
+            }
+        }
+    }
+
+    // Takes a byte out of the string that it holds, if that is one of few.
+    #[inline(always)]
+    pub(crate) fn take_byte(&mut self, place: usize)
+        ensures { (u : Bytes) → self.old.value ≡ String u → place < length u → length u ≤ 22
+            → self.new ≡ record self.old { value = String (take place u ++ drop (place + 1) u) } }
+    {
+        if let Value::String(text) = &mut self.value {
+            let len = text.len();
+            if place < len && len <= 22 {
+                text.take_byte(place);
             }
         }
     }
@@ -534,6 +548,20 @@ impl World {
             return;
         };
         found.cut_front(count);
+    }
+
+    /// Takes a byte out of the string in a slot, if that is one of few.
+    #[inline(always)]
+    pub fn take_byte(&mut self, slot: u32, place: usize)
+        ensures set { (u : Bytes) (name : target.Name) → Holds slot (String u) self.old → place < length u
+            → length u ≤ 22 → IsPlain name slot self.old → (io : Io)
+            → assign_op name (Str (take place u ++ drop (place + 1) u)) (world_of self.old io)
+            ≡ Gives (record {}) (world_of self.new io) }
+    {
+        let Some(found) = self.variables.get_index_mut(slot as usize) else {
+            return;
+        };
+        found.take_byte(place);
     }
 
     /// The unit that a variable reads from, unless `&INPUT` is 0.

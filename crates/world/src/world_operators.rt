@@ -1,6 +1,6 @@
 //! Operators that ask the world, but no unit.
 
-ghost use Rattle.std.specs.Prelude.{◌≡◌, ◌++◌, ◌+◌, ◌<◌, ◌≤◌, length, IfOk, IfErr, IfSome, Err, ◌↔◌, take, drop};
+ghost use Rattle.std.specs.Prelude.{◌≡◌, ◌++◌, ◌+◌, ◌<◌, ◌≤◌, length, IfOk, IfErr, IfSome, Err, ◌↔◌, take, drop, true};
 ghost use Rattle.model.specs.Language.Io.{Io};
 ghost use Rattle.model.specs.Machine.Steps.{codes_of, PCode};
 ghost use Rattle.model.specs.Deck.Trees.{Bytes};
@@ -12,6 +12,7 @@ ghost use Rattle.model.specs.declared.run.Stop.TheVariants.{NoMemory};
 ghost use Rattle.world.specs.Values.{value_of, begun_of};
 ghost use Rattle.world.specs.Held.{IsLeftOf, world_of};
 ghost use Rattle.world.specs.Answers.{answer_map, done, op_of, AnswersAs, IfStopped, LeadsTo};
+ghost use Rattle.world.specs.declared.value.Value.TheVariants.{String};
 
 use crate::fault::Fault;
 use crate::value::Value;
@@ -149,6 +150,19 @@ impl World {
             return None;
         }
         Some(Value::String(rest))
+    }
+
+    /// Whether a subject is one of few bytes, and what is left of it without the byte at a place is no longer than
+    /// `&MAXLNGTH` allows.
+    #[inline(always)]
+    pub fn may_take(&self, subject: &Text, place: usize) -> bool
+        ensures left { result ≡ true → IsLeftOf subject.now place (place + 1)
+            (String (take place subject.now ++ drop (place + 1) subject.now)) self.now }
+        ensures within { result ≡ true → place < length subject.now }
+        ensures few { result ≡ true → length subject.now ≤ 22 }
+    {
+        let len = subject.len();
+        place < len && len <= SHORT && len - 1 <= self.keywords.longest()
     }
 
     /// Two values one after the other. The null string gives the other, unconverted. Bytes of the left one that nothing
