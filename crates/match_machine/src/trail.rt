@@ -258,6 +258,15 @@ impl Trail {
         is_left_at(self.log.as_slice(), self.head)
     }
 
+    /// The code and the place that the newest note leads to, if it is that of an entered pattern.
+    #[inline(always)]
+    pub fn outer(&self) -> Option<(&PatCode, usize)>
+        ensures { IfSome result (λ (code, place).
+            (ns : List s.Note) × (self.now.notes ≡ s.Left code.now place ∷ ns)) }
+    {
+        outer_at(self.log.as_slice(), self.head)
+    }
+
     /// Out of an entered pattern; the place where it goes on.
     pub fn leave(&mut self) -> Result<usize, AllocError>
         requires { inside self.old.notes ≡ true }
@@ -664,6 +673,19 @@ fn is_left_at(log: &[Entry], head: usize) -> bool
             Note::Left(_, _) => true,
         },
         None => false,
+    }
+}
+
+/// The code and the place that the newest note leads to, if it is that of an entered pattern.
+#[inline(always)]
+fn outer_at(log: &[Entry], head: usize) -> Option<(&PatCode, usize)>
+    ensures { IfSome result (λ (code, place).
+        (ns : List s.Note) × (chain (reverse log.now) head ≡ s.Left code.now place ∷ ns)) }
+{
+    let entry = newest(log, head)?;
+    match &entry.note {
+        Note::Opened(_) | Note::Fenced(_) => None,
+        Note::Left(code, place) => Some((code, *place)),
     }
 }
 

@@ -63,12 +63,13 @@ impl Set {
     }
 
     /// Whether a byte is in the set.
+    #[inline(always)]
     pub fn has(&self, byte: u8) -> bool
         ensures { result ≡ is_in_set self.now byte }
     {
         match &self.table {
             Some(table) => table.as_ref().has(byte),
-            None => self.text.as_slice().contains(&byte),
+            None => holds(&self.text, byte),
         }
     }
 
@@ -98,6 +99,14 @@ impl Set {
             },
         }
     }
+}
+
+// Whether a byte is one of a text, apart from sets with a table.
+#[inline(never)]
+fn holds(text: &Text, byte: u8) -> bool
+    ensures { result ≡ is_in_set text.now byte }
+{
+    text.as_slice().contains(&byte)
 }
 
 // How many bytes of the table come first.

@@ -71,6 +71,7 @@ impl ByteSet {
     }
 
     /// Whether a byte is in the set.
+    #[inline(always)]
     pub fn has(&self, byte: u8) -> bool
         ensures { result ≡ has self.now byte }
     {
@@ -83,6 +84,9 @@ const LANES: usize = 8;
 
 // How many it compares with the ends of a range in one turn.
 const WIDE: usize = 16;
+
+// And how many at first.
+const WIDEST: usize = 64;
 
 // Whether the eight bytes from `at` on are all in the set.
 #[inline(always)]
@@ -127,6 +131,17 @@ fn spans_wide(bytes: &[u8], at: usize, set: &ByteSet) -> bool
     none_below(bytes, at, set.low) & none_above(bytes, at, set.high)
 }
 
+// Whether the sixty-four bytes from `at` on are all in the range of the set.
+#[inline(always)]
+fn spans_widest(bytes: &[u8], at: usize, set: &ByteSet) -> bool
+    requires { at + 64 ≤ length bytes.now }
+    ensures { result ≡ true → span_to bytes.now (at + 64) set.now ≡ span_to bytes.now at set.now }
+{
+    let first = spans_wide(bytes, at, set) & spans_wide(bytes, at + 16, set);
+    let second = spans_wide(bytes, at + 32, set) & spans_wide(bytes, at + 48, set);
+    first & second
+}
+
 // Whether one of the eight bytes from `at` on is in the set.
 #[inline(always)]
 fn breaks_eight(bytes: &[u8], at: usize, set: &ByteSet) -> bool
@@ -150,6 +165,9 @@ fn wide_end(bytes: &[u8], at: usize, set: &ByteSet) -> usize
     ensures same { span_to bytes.now result set.now ≡ span_to bytes.now at set.now }
 {
     let mut end = at;
+    while bytes.len() - end >= WIDEST && spans_widest(bytes, end, set) {
+        end += WIDEST;
+    }
     while bytes.len() - end >= WIDE && spans_wide(bytes, end, set) {
         end += WIDE;
     }

@@ -1,43 +1,47 @@
 //! The bytes that were read and aren't told yet.
 
-ghost use Rattle.std.specs.Prelude.{◌≡◌, ◌+◌, ◌≤◌, [], ◌++◌, length, take, drop, vec_len, vec_capacity};
+ghost use Rattle.std.specs.Prelude.{◌≡◌, ◌+◌, ◌-◌, ◌≤◌, [], length, take, drop};
 ghost use Rattle.std.specs.Prelude.{Ok, false, IfOk, IfErr, IfSome, ◌<◌, ◌^◌};
-ghost use Rattle.std.specs.Io.KnownBytes.{Keeps, IsAtEnd};
+ghost use Rattle.std.specs.Io.KnownBytes.{Keeps, IsAtEnd, ReadConsumes};
 ghost use Rattle.memchr.specs.Find.{IsFirstByte, is_byte};
 ghost use Rattle.unit_io.specs.Streams.{Took, IsOfReader};
 
 use crate::given::fault_of;
 use memchr::memchr;
 use model::UnitFault;
-use std::alloc::Global;
-use std::io::{ErrorKind, Read};
+use std::alloc::{AllocError, Global};
+use std::io::{self, ErrorKind, Read};
 use std::marker::Model;
 use strings::Text;
 
-/// As many bytes are read at once, at most.
+/// As many bytes are read at once, at least.
 const PIECE: usize = 16384;
 
-/// The bytes that were read and aren't told yet stand in `bytes` from `start` on; none of them before `searched` is a
-/// line feed. What a read gives comes to `piece` first, which has a length from the first read on.
+/// As many are read at once where a read gave all that was asked for.
+const LARGE: usize = 65536;
+
+/// The bytes that were read and aren't told yet stand in `bytes` from `start` to `end`; none of them before `searched` is
+/// a line feed. Behind `end` is room for the next read. `filled` tells that the last read took all of it.
 #[derive(Drop)]
 pub(crate) struct Ahead {
     bytes: Vec<u8>,
     start: usize,
     searched: usize,
-    piece: Vec<u8>,
+    end: usize,
+    filled: bool,
 }
 
 impl Model for Ahead {
-    ghost use Rattle.std.specs.Prelude.{List, ℕ, length, drop, ◌≤◌};
+    ghost use Rattle.std.specs.Prelude.{List, ℕ, length, drop, take, ◌≤◌};
     ghost use Rattle.memchr.specs.Find.{Nowhere, Passes, is_byte};
 
     ghost Value = { List ℕ };
 
-    ghost view = { λ a. drop a.start a.bytes.items };
+    ghost view = { λ a. drop a.start (take a.end a.bytes.items) };
 
     ghost invariant = { λ a.
-        (a.start ≤ a.searched) × (a.searched ≤ length a.bytes.items)
-        × Nowhere (Passes (is_byte 10) a.bytes.items) a.start a.searched };
+        (a.start ≤ a.searched) × (a.searched ≤ a.end) × (a.end ≤ length a.bytes.items)
+        × Nowhere (Passes (is_byte 10) (take a.end a.bytes.items)) a.start a.searched };
 }
 
 impl Ahead {
@@ -49,7 +53,8 @@ impl Ahead {
             bytes: Vec::new(alloc),
             start: 0,
             searched: 0,
-            piece: Vec::new(alloc),
+            end: 0,
+            filled: false,
         }
     }
 
@@ -57,7 +62,7 @@ impl Ahead {
     pub(crate) fn len(&self) -> usize
         ensures { result ≡ length self.now }
     {
-        self.bytes.len() - self.start
+        self.end - self.start
     }
 
     /// Where the first line feed stands. No byte is looked at twice.
@@ -67,13 +72,14 @@ impl Ahead {
         ensures fits { IfSome result (λ k. k + 1 < 2 ^ 64) }
     {
         let from = self.searched;
-        match memchr(b'\n', &self.bytes[from..]) {
+        let known = &self.bytes[..self.end];
+        match memchr(b'\n', &known[from..]) {
             Some(k) => {
                 self.searched = from + k;
                 Some(from + k - self.start)
             }
             None => {
-                self.searched = self.bytes.len();
+                self.searched = self.end;
                 None
             }
         }
@@ -101,11 +107,24 @@ impl Ahead {
         ensures { self.new ≡ self.old }
     {
         let start = self.start;
-        if start >= self.bytes.len() - start {
-            remove_front(&mut self.bytes, start);
+        if start >= self.end - start {
+            shift(&mut self.bytes, start, self.end);
             self.searched -= start;
+            self.end -= start;
             self.start = 0;
         }
+    }
+
+    // Room for a piece behind the bytes, a larger one where the last read filled its own.
+    fn make_room(&mut self) -> Result<(), AllocError>
+        ensures { self.new ≡ self.old }
+    {
+        self.move_to_front();
+        let piece = if self.filled { LARGE } else { PIECE };
+        if self.bytes.len() - self.end < piece / 2 {
+            self.bytes.resize(self.end + piece, 0)?;
+        }
+        Ok(())
     }
 
     /// Reads once. It's false at the end; a read that was interrupted gives no byte.
@@ -117,13 +136,16 @@ impl Ahead {
             IsOfReader fault × Keeps (R.remaining source.old) (R.remaining source.new)
             × (self.new ≡ self.old)) }
     {
-        self.move_to_front();
-        self.bytes.reserve(PIECE)?;
-        self.piece.resize(PIECE, 0)?;
-        match source.read(self.piece.as_mut_slice()) {
+        self.make_room()?;
+        let end = self.end;
+        if end >= self.bytes.len() {
+            return Err(UnitFault::Memory);
+        }
+        match read_behind(&mut self.bytes, end, source) {
             Ok(0) => Ok(false),
             Ok(n) => {
-                append(&mut self.bytes, &self.piece[..n]);
+                self.end = end + n;
+                self.filled = self.end == self.bytes.len();
                 Ok(true)
             }
             Err(error) => {
@@ -136,20 +158,24 @@ impl Ahead {
     }
 }
 
-fn remove_front(bytes: &mut Vec<u8>, n: usize)
-    requires { n ≤ length bytes.old.items }
-    ensures { bytes.new.items ≡ drop n bytes.old.items }
+// Moves some bytes to the front.
+fn shift(bytes: &mut Vec<u8>, start: usize, end: usize)
+    requires start { start ≤ end }
+    requires end { end ≤ length bytes.old.items }
+    ensures moved { take (end - start) bytes.new.items ≡ drop start (take end bytes.old.items) }
+    ensures len { length bytes.new.items ≡ length bytes.old.items }
 {
-    let len = bytes.len();
-    bytes.as_mut_slice().copy_within(n..len, 0);
-    bytes.truncate(len - n);
+    bytes.as_mut_slice().copy_within(start..end, 0);
 }
 
-fn append(bytes: &mut Vec<u8>, more: &[u8])
-    requires { vec_len bytes.old + length more.now ≤ vec_capacity bytes.old }
-    ensures { bytes.new.items ≡ bytes.old.items ++ more.now }
+// Reads once, to the room behind so many bytes.
+fn read_behind<R: Read>(bytes: &mut Vec<u8>, end: usize, source: &mut R) -> io::Result<usize>
+    requires { end ≤ length bytes.old.items }
+    ensures kept { take end bytes.new.items ≡ take end bytes.old.items }
+    ensures read { ReadConsumes (R.remaining source.old) (R.remaining source.new) result
+        (drop end bytes.new.items) }
+    ensures within { IfOk result (λ n. end + n ≤ length bytes.new.items) }
+    ensures len { length bytes.new.items ≡ length bytes.old.items }
 {
-    let Ok(()) = bytes.extend_from_slice(more) else {
-        unreachable!()
-    };
+    source.read(&mut bytes.as_mut_slice()[end..])
 }
