@@ -1,4 +1,5 @@
 pub mod Bounds
+pub mod Elements
 pub mod Keys
 pub mod Objects
 pub mod Made

@@ -1,6 +1,6 @@
 //! An array: its dimensions, and its elements side by side.
 
-ghost use Rattle.std.specs.Prelude.{◌≡◌, ◌<◌, ◌≤◌, ◌^◌, ◌∷◌, [], IfOk, Some, replicate, slice_get, length, false};
+ghost use Rattle.std.specs.Prelude.{◌≡◌, ◌<◌, ◌≤◌, ◌^◌, ◌∷◌, [], IfOk, OnErr, Some, replicate, slice_get, length, true, false};
 ghost use Rattle.std.specs.Option.{option_copied};
 ghost use Rattle.model.specs.Language.Aggregates.{place_from};
 ghost use Rattle.model.specs.Language.Prototypes.{elements_in};
@@ -9,7 +9,8 @@ ghost use Rattle.aggregates.specs.Objects.{if_stored};
 
 use crate::bounds::{Bounds, place_of, place_of_one};
 use crate::element::Element;
-use crate::items::{copied, put, repeated};
+use crate::elements::Elements;
+use crate::items::copied;
 use std::alloc::{AllocError, Global};
 use std::marker::Model;
 
@@ -17,21 +18,22 @@ use std::marker::Model;
 #[derive(Drop)]
 pub(crate) struct Array<V> {
     bounds: Vec<Bounds>,
-    elements: Vec<V>,
+    elements: Elements<V>,
 }
 
 impl<V> Model for Array<V> {
-    ghost use Rattle.std.specs.Prelude.{◌≡◌, ◌<◌, ◌≤◌, List, length};
+    ghost use Rattle.std.specs.Prelude.{◌≡◌, ◌<◌, ◌≤◌, ◌^◌, List, length};
     ghost use Rattle.model.specs.Language.Values as values;
     ghost use Rattle.model.specs.Language.Prototypes.{elements_in};
+    ghost use Rattle.aggregates.specs.Elements.{all_of};
 
     ghost Value = { List values.Bounds × List V };
 
-    ghost view = { λ a. (a.bounds.items, a.elements.items) };
+    ghost view = { λ a. (a.bounds.items, all_of a.elements) };
 
     ghost invariant = { λ a.
-        (length a.elements.items ≡ elements_in a.bounds.items) × (0 < elements_in a.bounds.items)
-        × (length a.bounds.items ≤ 8) };
+        (length (all_of a.elements) ≡ elements_in a.bounds.items) × (0 < elements_in a.bounds.items)
+        × (elements_in a.bounds.items < 2 ^ 63) × (length a.bounds.items ≤ 8) };
 }
 
 impl<V: Element> Array<V> {
@@ -42,7 +44,10 @@ impl<V: Element> Array<V> {
         requires few { length bounds.items ≤ 8 }
         ensures { result ≡ (bounds.items, elements.items) }
     {
-        Array { bounds, elements }
+        Array {
+            bounds,
+            elements: Elements::of(elements),
+        }
     }
 
     /// The array with this value everywhere.
@@ -57,7 +62,7 @@ impl<V: Element> Array<V> {
             array ≡ (bounds.items, replicate (elements_in bounds.items) value.now)) }
     {
         let count = crate::bounds::elements_in(&bounds);
-        let elements = repeated(alloc, value, count)?;
+        let elements = Elements::filled(alloc, value, count)?;
         Ok(Array { bounds, elements })
     }
 
@@ -66,7 +71,7 @@ impl<V: Element> Array<V> {
         ensures { IfOk result (λ array. array ≡ self.now) }
     {
         let bounds = copied(alloc, &self.bounds)?;
-        let elements = copied(alloc, &self.elements)?;
+        let elements = self.elements.copy(alloc)?;
         Ok(Array { bounds, elements })
     }
 
@@ -101,13 +106,23 @@ impl<V: Element> Array<V> {
         place_of_one(&self.bounds, subscript)
     }
 
-    /// Another element at a place, if there is one.
+    /// Another element at a place, if one is written there.
     #[inline(always)]
-    pub(crate) fn set(&mut self, place: usize, value: V) -> bool
-        ensures bounds { self.new.0 ≡ self.old.0 }
-        ensures stored { if_stored result self.new.1 ≡ with_item place value self.old.1 }
+    pub(crate) fn put(&mut self, place: usize, value: V) -> bool
+        ensures stored { result ≡ true
+            → (self.new.0 ≡ self.old.0) × (with_item place value self.old.1 ≡ Some self.new.1) }
         ensures nowhere { result ≡ false → self.new ≡ self.old }
     {
-        put(&mut self.elements, place, value)
+        self.elements.put(place, value)
+    }
+
+    /// Another element at a place, if there is one.
+    pub(crate) fn set(&mut self, place: usize, value: V) -> Result<bool, AllocError>
+        ensures bounds { self.new.0 ≡ self.old.0 }
+        ensures stored { IfOk result (λ stored. if_stored stored self.new.1 ≡ with_item place value self.old.1) }
+        ensures nowhere { IfOk result (λ stored. stored ≡ false → self.new ≡ self.old) }
+        ensures refused { OnErr result (self.new ≡ self.old) }
+    {
+        self.elements.set(place, value)
     }
 }

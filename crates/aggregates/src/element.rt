@@ -1,6 +1,6 @@
 //! What arrays, tables and records hold.
 
-ghost use Rattle.std.specs.Prelude.{◌≡◌, IfOk};
+ghost use Rattle.std.specs.Prelude.{◌≡◌, ◌++◌, IfOk, OnOk, OnErr, replicate};
 ghost use Rattle.aggregates.specs.Keys.{key_of};
 
 use crate::place::Key;
@@ -20,6 +20,15 @@ pub trait Element: Clone + Drop {
     /// Whether it is null.
     fn is_null(&self) -> bool
         ensures { result ≡ null_test self.now };
+
+    /// Takes the place of the value that is here.
+    fn put(&mut self, value: Self)
+        ensures { self.new ≡ value };
+
+    /// Puts so many copies behind some values.
+    fn append(&self, items: &mut Vec<Self>, count: usize) -> Result<(), AllocError>
+        ensures appended { OnOk result (items.new.items ≡ items.old.items ++ replicate count self.now) }
+        ensures refused { OnErr result (items.new.items ≡ items.old.items) };
 
     /// The value that a key is.
     fn from_key(key: &Key) -> Result<Self, AllocError>

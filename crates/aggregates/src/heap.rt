@@ -1,9 +1,9 @@
 //! The objects of a run.
 
-ghost use Rattle.std.specs.Prelude.{◌≡◌, ◌≤◌, ◌++◌, ◌∷◌, [], length, slice_get, Some, false, IfOk};
+ghost use Rattle.std.specs.Prelude.{◌≡◌, ◌≤◌, ◌++◌, ◌∷◌, [], length, slice_get, Some, true, false, IfOk};
 ghost use Rattle.std.specs.Prelude.{OnOk, OnErr, option_map, if◌then◌else◌, None};
 ghost use Rattle.std.specs.Option.{option_copied};
-ghost use Rattle.model.specs.Language.Operators.{with_value_for};
+ghost use Rattle.model.specs.Language.Operators.{with_element, with_value_for};
 ghost use Rattle.model.specs.Language.Values as values;
 ghost use Rattle.model.specs.Language.Values.{ArrayOf, TableOf, RecordOf};
 ghost use Rattle.model.specs.Language.Prototypes.{elements_in};
@@ -141,6 +141,20 @@ impl<V: Element> Heap<V> {
         stored
     }
 
+    /// Stores a value in an element of an array that is written, if one is there. Takes no memory.
+    #[inline(always)]
+    pub fn put_written(&mut self, object: usize, index: usize, value: V) -> bool
+        ensures stored { result ≡ true
+            → put_at object (with_element index value (slice_get self.old object)) self.old ≡ Some self.new }
+        ensures nowhere { result ≡ false → self.new ≡ self.old }
+    {
+        if object >= self.objects.len() {
+            return false;
+        }
+        let stored = self.objects[object].put_written(index, value);
+        stored
+    }
+
     /// The place of a record's field, by its name. Takes no memory.
     pub fn field(&self, object: usize, name: &Text) -> Option<usize>
         ensures { result ≡ field_in name.now (slice_get self.now object) }
@@ -161,7 +175,8 @@ impl<V: Element> Heap<V> {
         }
     }
 
-    /// Stores a value at a place of an object, if it has that place. Only a table takes memory.
+    /// Stores a value at a place of an object, if it has that place. A table may take memory, and so may an
+    /// array that was copied.
     #[inline(always)]
     pub fn set(&mut self, object: usize, place: Place, value: V) -> Result<bool, AllocError>
         ensures stored { IfOk result (λ stored.

@@ -15,6 +15,7 @@
 mod array;
 mod bounds;
 mod element;
+mod elements;
 mod heap;
 mod items;
 mod names;

@@ -1,9 +1,9 @@
 //! An object: an array, a table or a record.
 
-ghost use Rattle.std.specs.Prelude.{◌≡◌, Some, IfOk, OnErr, false};
+ghost use Rattle.std.specs.Prelude.{◌≡◌, Some, IfOk, OnErr, true, false};
 ghost use Rattle.std.specs.Option.{option_copied};
 ghost use Rattle.model.specs.Language.Aggregates.{index_of};
-ghost use Rattle.model.specs.Language.Operators.{with_value_for};
+ghost use Rattle.model.specs.Language.Operators.{with_element, with_value_for};
 ghost use Rattle.model.specs.Language.Values as values;
 ghost use Rattle.aggregates.specs.Keys.{key_of};
 ghost use Rattle.aggregates.specs.Objects.{held_at, stored_at, if_stored, index_in, value_in};
@@ -103,6 +103,19 @@ impl<V: Element> Object<V> {
         }
     }
 
+    /// Another element at a place of an array, if one is written there.
+    #[inline(always)]
+    pub(crate) fn put_written(&mut self, index: usize, value: V) -> bool
+        ensures stored { result ≡ true
+            → with_element index value (Some (object_of self.old)) ≡ Some (object_of self.new) }
+        ensures nowhere { result ≡ false → object_of self.new ≡ object_of self.old }
+    {
+        match self {
+            Object::Array(array) => array.put(index, value),
+            Object::Table(_) | Object::Record(_) => false,
+        }
+    }
+
     /// Another value at a place, if the object has that place.
     #[inline(always)]
     pub(crate) fn set(&mut self, place: Place, value: V) -> Result<bool, AllocError>
@@ -114,7 +127,7 @@ impl<V: Element> Object<V> {
         ensures refused { OnErr result (object_of self.new ≡ object_of self.old) }
     {
         match (self, place) {
-            (Object::Array(array), Place::Element(index)) => Ok(array.set(index, value)),
+            (Object::Array(array), Place::Element(index)) => array.set(index, value),
             (Object::Table(table), Place::Key(key)) => {
                 table.set(key, value)?;
                 Ok(true)

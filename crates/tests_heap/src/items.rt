@@ -1,5 +1,7 @@
 //! What the objects of these tests hold, and where.
 
+ghost use Rattle.std.specs.Prelude.{◌≡◌, ◌++◌, ◌+◌, ◌≤◌, OnErr, OnOk, replicate, vec_capacity, vec_len};
+
 use aggregates::{Element, Key, Place};
 use std::alloc::{AllocError, Global};
 use strings::{StrFault, Text};
@@ -38,6 +40,15 @@ impl Element for Item {
         }
     }
 
+    fn put(&mut self, value: Item) {
+        *self = value;
+    }
+
+    fn append(&self, items: &mut Vec<Item>, count: usize) -> Result<(), AllocError> {
+        items.reserve(count)?;
+        append_clones(self, items, count)
+    }
+
     fn from_key(key: &Key) -> Result<Item, AllocError> {
         match key {
             Key::Integer(n) => Ok(Item::Integer(*n)),
@@ -46,6 +57,23 @@ impl Element for Item {
     }
 
     ghost clones = { λ value copy h. h };
+}
+
+// Puts so many clones of an item behind some items.
+fn append_clones(item: &Item, items: &mut Vec<Item>, count: usize) -> Result<(), AllocError>
+    requires room { vec_len items.old + count ≤ vec_capacity items.old }
+    ensures appended { OnOk result (items.new.items ≡ items.old.items ++ replicate count item.now) }
+    ensures refused { OnErr result (items.new.items ≡ items.old.items) }
+{
+    let len = items.len();
+    for _turn in 0..count {
+        let Ok(copy) = item.clone() else {
+            items.truncate(len);
+            return Err(AllocError);
+        };
+        items.push_reserved(copy);
+    }
+    Ok(())
 }
 
 /// An item of a row.

@@ -247,6 +247,19 @@ impl World {
         stored
     }
 
+    /// An integer in an element of an array that is written; else nothing changed.
+    #[inline(always)]
+    pub fn put_written(&mut self, object: usize, index: usize, n: i64) -> bool
+        ensures set { result ≡ true → (io : Io)
+            → assign_op (Element object index) (Int n) (world_of self.old io)
+            ≡ Gives (record {}) (world_of self.new io) }
+        ensures silent { StaySilent self.old self.new }
+        ensures keys { self.new.keys ≡ self.old.keys }
+        ensures kept { result ≡ false → self.new ≡ self.old }
+    {
+        self.heap.put_written(object, index, Value::Integer(n))
+    }
+
     // A copy of a value at a place of an object, if that was stored.
     #[inline(never)]
     fn put_at(&mut self, object: usize, place: Place, value: &Value) -> bool

@@ -1,6 +1,6 @@
 //! Values.
 
-ghost use Rattle.std.specs.Prelude.{◌≡◌, [], IfOk};
+ghost use Rattle.std.specs.Prelude.{◌≡◌, ◌++◌, ◌+◌, ◌≤◌, [], IfOk, OnErr, OnOk, replicate, vec_capacity, vec_len};
 ghost use Rattle.model.specs.Language.Values.{Str};
 ghost use Rattle.model.specs.Language.Conversions.{is_null, to_pattern, to_text};
 ghost use Rattle.model.specs.Machine.Steps.{codes_of};
@@ -89,6 +89,30 @@ impl Element for Value {
         }
     }
 
+    #[inline(always)]
+    fn put(&mut self, value: Value) {
+        if let (Value::Integer(old), Value::Integer(n)) = (&mut *self, &value) {
+            *old = *n;
+            return;
+        }
+        *self = value;
+    }
+
+    fn append(&self, items: &mut Vec<Value>, count: usize) -> Result<(), AllocError> {
+        items.reserve(count)?;
+        match self {
+            Value::Integer(n) => {
+                append_integers(*n, items, count);
+                Ok(())
+            }
+            Value::String(text) if text.is_empty() => {
+                append_nulls(items, count);
+                Ok(())
+            }
+            _ => append_clones(self, items, count),
+        }
+    }
+
     fn from_key(key: &Key) -> Result<Value, AllocError> {
         match key {
             Key::Integer(n) => Ok(Value::Integer(*n)),
@@ -97,6 +121,44 @@ impl Element for Value {
     }
 
     ghost clones = { λ value copy h. h };
+}
+
+// Puts an integer behind some values, so many times.
+fn append_integers(n: i64, items: &mut Vec<Value>, count: usize)
+    requires room { vec_len items.old + count ≤ vec_capacity items.old }
+    ensures { items.new.items ≡ items.old.items ++ replicate count (Value.Integer n) }
+{
+    for _turn in 0..count {
+        items.push_reserved(Value::Integer(n));
+    }
+}
+
+// Puts the null string behind some values, so many times.
+fn append_nulls(items: &mut Vec<Value>, count: usize)
+    requires room { vec_len items.old + count ≤ vec_capacity items.old }
+    ensures { items.new.items ≡ items.old.items ++ replicate count (Value.String []) }
+{
+    for _turn in 0..count {
+        items.push_reserved(Value::String(Text::null()));
+    }
+}
+
+// Puts so many clones of a value behind some values.
+#[inline(never)]
+fn append_clones(value: &Value, items: &mut Vec<Value>, count: usize) -> Result<(), AllocError>
+    requires room { vec_len items.old + count ≤ vec_capacity items.old }
+    ensures appended { OnOk result (items.new.items ≡ items.old.items ++ replicate count value.now) }
+    ensures refused { OnErr result (items.new.items ≡ items.old.items) }
+{
+    let len = items.len();
+    for _turn in 0..count {
+        let Ok(copy) = value.clone() else {
+            items.truncate(len);
+            return Err(AllocError);
+        };
+        items.push_reserved(copy);
+    }
+    Ok(())
 }
 
 impl Value {
