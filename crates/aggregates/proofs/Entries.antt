@@ -15,6 +15,9 @@ use Rattle.aggregates.specs.declared.place.Key as held
 use Rattle.aggregates.specs.declared.place.Key.TheVariants as k
 use Rattle.aggregates.specs.contracts.place.KeyPartialEq.TheImpl.{ghosts}
 use Rattle.aggregates.specs.Keys.{key_of, entries_of, value_at}
+use Rattle.aggregates.specs.Wanted.{is_wanted, wanted_key}
+use Rattle.aggregates.specs.declared.place.Wanted.{Wanted}
+use Rattle.aggregates.specs.declared.place.Wanted.TheVariants as w
 
 -- ---- keys
 
@@ -67,6 +70,13 @@ keys_told (k.Integer i) (k.Integer j) = same_ints i j
 keys_told (k.Integer i) (k.String t) = refl
 keys_told (k.String s) (k.Integer j) = refl
 keys_told (k.String s) (k.String t) = same_texts s t
+
+-- and so is a text that is looked up
+pub wanted_told : (q : Wanted) (b : held.Key) → is_wanted q b ≡ same_key (key_of b) (wanted_key q)
+wanted_told (w.Integer i) (k.Integer j) = same_ints i j
+wanted_told (w.Integer i) (k.String t) = refl
+wanted_told (w.String s) (k.Integer j) = refl
+wanted_told (w.String s) (k.String t) = same_texts s.now t
 
 -- ---- rows
 

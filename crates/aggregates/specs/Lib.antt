@@ -3,3 +3,4 @@ pub mod Elements
 pub mod Keys
 pub mod Objects
 pub mod Made
+pub mod Wanted

@@ -117,6 +117,15 @@ impl<V: Element> Heap<V> {
         self.object(object)?.index_of(key)
     }
 
+    /// Where the entry of a table's string stands, if that key was ever assigned; what isn't a table has none. Takes no
+    /// memory.
+    #[inline(always)]
+    pub fn index_of_text(&self, object: usize, text: &Text) -> Option<usize>
+        ensures { result ≡ index_in (values.StringAt text.now) (slice_get self.now object) }
+    {
+        self.object(object)?.index_of_text(text)
+    }
+
     /// The value of the entry of a table that stands at an index. Takes no memory.
     #[inline(always)]
     pub fn entry(&self, object: usize, index: usize) -> Option<&V>

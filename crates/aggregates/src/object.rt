@@ -78,6 +78,17 @@ impl<V: Element> Object<V> {
         }
     }
 
+    /// Where the entry of a table's string stands, if that key was ever assigned.
+    #[inline(always)]
+    pub(crate) fn index_of_text(&self, text: &Text) -> Option<usize>
+        ensures { result ≡ index_in (values.StringAt text.now) (Some (object_of self.now)) }
+    {
+        match self {
+            Object::Table(table) => table.index_of_text(text),
+            Object::Array(_) | Object::Record(_) => None,
+        }
+    }
+
     /// The value of the entry of a table that stands at an index.
     #[inline(always)]
     pub(crate) fn entry(&self, index: usize) -> Option<&V>

@@ -11,10 +11,11 @@ ghost use Rattle.aggregates.specs.Objects.{if_stored};
 use crate::array::Array;
 use crate::bounds::Bounds;
 use crate::element::Element;
-use crate::place::Key;
+use crate::place::{Key, Wanted};
 use indexmap::IndexMap;
 use std::alloc::{AllocError, Global};
 use std::marker::Model;
+use strings::Text;
 
 /// A table. Contracts see its entries in their order.
 #[derive(Drop)]
@@ -56,6 +57,14 @@ impl<V: Element> Table<V> {
         ensures { result ≡ index_at (key_of key.now) self.now }
     {
         self.values.get_index_of(key)
+    }
+
+    /// Where a string's entry stands, if that key was ever assigned. Takes no memory.
+    #[inline(always)]
+    pub(crate) fn index_of_text(&self, text: &Text) -> Option<usize>
+        ensures { result ≡ index_at (values.StringAt text.now) self.now }
+    {
+        self.values.get_index_of(Wanted::String(text))
     }
 
     /// The value of the entry that stands at an index.

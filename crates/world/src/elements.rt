@@ -76,6 +76,17 @@ impl World {
         Some(index)
     }
 
+    // The same for a string.
+    #[inline(always)]
+    fn index_by_text(&self, object: usize, text: &Text) -> Option<usize>
+        ensures { IfSome result (λ index. IndexesEntry object (Str text.now) index self.now) }
+    {
+        let Some(index) = self.heap.index_of_text(object, text) else {
+            return None;
+        };
+        Some(index)
+    }
+
     /// Where the entry stands that a table has for a string or an integer; what isn't so has none here.
     #[inline(never)]
     pub fn index_for(&self, object: usize, subscript: &Value) -> Option<usize>
@@ -84,12 +95,7 @@ impl World {
     {
         match subscript {
             Value::Integer(n) => self.index_by(object, &Key::Integer(*n)),
-            Value::String(text) => {
-                let Ok(text) = text.clone() else {
-                    return None;
-                };
-                self.index_by(object, &Key::String(text))
-            }
+            Value::String(text) => self.index_by_text(object, text),
             _ => None,
         }
     }

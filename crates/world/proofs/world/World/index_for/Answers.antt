@@ -1,5 +1,5 @@
 use Rattle.std.proofs.Common.{IfSome, ap, rules, subst, sym, ◌∙◌}
-use Rattle.model.specs.Language.Values.{Int, Str}
+use Rattle.model.specs.Language.Values.{Int}
 use Rattle.world.specs.Elements.{IndexesEntry}
 use Rattle.world.specs.Values.{value_of}
 use Rattle.world.proofs.world.World.index_for.Goals as goal
@@ -8,6 +8,6 @@ pub returns-in-Integer : goal.returns-in-Integer
 returns-in-Integer c =
     subst (λ v. IfSome c.index_by.result (λ index. IndexesEntry c.args.object v index c.args.self.now)) (sym (ap value_of c.in-Integer.is ∙ ap Int (search rules))) c.index_by.ensures
 
-pub returns-in-Ok : goal.returns-in-Ok
-returns-in-Ok c =
-    subst (λ v. IfSome c.index_by-in-String.result (λ index. IndexesEntry c.args.object v index c.args.self.now)) (ap Str c.in-Ok.ensures.cases ∙ sym (ap value_of c.in-String.is)) c.index_by-in-String.ensures
+pub returns-in-String : goal.returns-in-String
+returns-in-String c =
+    subst (λ v. IfSome c.index_by_text.result (λ index. IndexesEntry c.args.object v index c.args.self.now)) (sym (ap value_of c.in-String.is)) c.index_by_text.ensures
