@@ -27,6 +27,7 @@ mod starts;
 mod state;
 mod step;
 mod straight;
+mod tell;
 mod trail;
 mod turn;
 

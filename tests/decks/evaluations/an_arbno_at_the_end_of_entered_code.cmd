@@ -1,0 +1,3 @@
+compile deck.sno a.module
+run a.module --steps 70
+run a.module --steps 69
