@@ -38,5 +38,6 @@ pub mod Preparing
 pub mod Fixing
 pub mod Limited
 pub mod AtOnce
+pub mod BaseCases
 pub mod Testing
 pub mod Upon

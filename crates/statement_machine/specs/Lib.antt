@@ -11,6 +11,7 @@ pub mod Fixed
 pub mod Quick
 pub mod Forms
 pub mod Joined
+pub mod BaseCases
 pub mod KnownCalls
 pub mod KnownTests
 pub mod Sums

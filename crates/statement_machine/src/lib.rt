@@ -12,6 +12,7 @@
 #![tactic(auto)]
 
 mod alone;
+mod base_cases;
 mod callers;
 mod calls;
 mod calls_at_once;
