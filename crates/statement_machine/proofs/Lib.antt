@@ -11,6 +11,7 @@ pub mod Flowing
 pub mod Wholes
 pub mod Sought
 pub mod Straights
+pub mod TakenOut
 pub mod Rows
 pub mod Lengthening
 pub mod Going

@@ -22,4 +22,5 @@ pub mod Trees
 pub mod Openings
 pub mod Prepared
 pub mod Straight
+pub mod Taking
 pub mod Upon
