@@ -1,4 +1,5 @@
 pub mod Variables
+pub mod Holding
 pub mod FirstWorld
 pub mod Integers
 pub mod Powers
