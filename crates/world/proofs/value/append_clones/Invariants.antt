@@ -1,4 +1,4 @@
-use Rattle.std.proofs.Common.{◌≡◌, ◌++◌, [], replicate, vec_capacity}
+use Rattle.std.proofs.Common.{◌≡◌, ◌++◌, replicate, vec_capacity}
 use Rattle.world.proofs.value.append_clones.Given as goal
 
 abbrev pub invariant-loop-turn : goal.invariant-loop-turn

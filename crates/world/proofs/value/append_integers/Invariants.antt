@@ -1,4 +1,4 @@
-use Rattle.std.proofs.Common.{◌≡◌, ◌++◌, [], replicate, vec_capacity}
+use Rattle.std.proofs.Common.{◌≡◌, ◌++◌, replicate, vec_capacity}
 use Rattle.world.specs.declared.value.Value.TheVariants as value
 use Rattle.world.proofs.value.append_integers.Given as goal
 

@@ -1,4 +1,4 @@
-use Rattle.std.proofs.Common.{◌≡◌, ◌++◌, Some, ap, subst, true}
+use Rattle.std.proofs.Common.{◌≡◌, ◌++◌, ap, subst}
 use Rattle.aggregates.specs.Elements.{rest_of}
 use Rattle.aggregates.specs.Objects.{if_stored}
 use Rattle.model.specs.Language.Operators.{with_item}
