@@ -1,4 +1,4 @@
-use Rattle.std.proofs.Common.{◌≡◌, ◌+◌, ◌++◌, ap, drop, take, subst, sym}
+use Rattle.std.proofs.Common.{◌+◌, ◌++◌, ap, drop, take, subst, sym}
 use Rattle.model.specs.Language.Values.{Str}
 use Rattle.world.specs.Held.{StandsIn, WorldView}
 use Rattle.world.specs.declared.value.Value.TheVariants.{String}
