@@ -24,7 +24,7 @@ PARTS = $(foreach crate,$(shell tools/below $(1) 2>/dev/null),$(foreach part,src
 SOURCES := $(shell find crates.txt $(wildcard $(call PARTS,sno)) 2>/dev/null)
 LISTER_SOURCES := $(shell find crates.txt $(wildcard $(call PARTS,sno_list)) 2>/dev/null)
 
-.PHONY: help run try sno list install uninstall test decks pages bound ways refuse failing damage deep wrong time check bench compare fmt clean toolchain program deck input
+.PHONY: help run try sno list install uninstall test decks pages bound ways refuse failing damage deep wrong time check bench compare fmt clean page toolchain program deck input
 .DEFAULT_GOAL := help
 
 help: ## list the targets
@@ -75,6 +75,9 @@ build/sno_list: $(LISTER_SOURCES) | program
 	@echo "list: proving and building the program sno_list (all lines go to build/log)" >&2
 	@(cd $(LISTER) && echo END | ../../tools/progress "$(RT) run") >&2 || { echo "list: not proved, or not built" >&2; exit 1; }
 	@cp $(LISTER)/out/sno_list build/sno_list.new && mv build/sno_list.new build/sno_list
+
+page: toolchain ## leave the compiler and the machine, for a browser, at build/page.html
+	@tools/page build/page.html
 
 install: $(SNO) $(LIST) ## [PREFIX=folder]: put the proved programs, manual pages and completion there (/usr/local if none is told)
 	@tools/install "$(DESTDIR)$(PREFIX)" $(SNO) $(LIST) && echo "install: in $(DESTDIR)$(PREFIX)"

@@ -1,5 +1,6 @@
 pub mod Lists
 pub mod Objects
+pub mod Marks
 pub mod Counts
 pub mod Entries
 pub mod Indexes

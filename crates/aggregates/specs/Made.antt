@@ -1,5 +1,5 @@
 -- Objects as they are held, and as the definitions see them; and those that calls make.
-use Rattle.std.specs.Prelude.{ℕ, List, [], ◌∷◌, ◌++◌, length, map, replicate, Option, Some, None, Bool, if◌then◌else◌}
+use Rattle.std.specs.Prelude.{ℕ, zero, suc, true, slice_index_or, List, [], ◌∷◌, ◌++◌, length, map, replicate, Option, Some, None, Bool, if◌then◌else◌}
 use Rattle.model.specs.Language.Values.{Key, Bounds, Object, ArrayOf, TableOf, RecordOf}
 use Rattle.model.specs.Language.Prototypes.{elements_in, are_bounds}
 use Rattle.model.specs.Language.Aggregates.{row_count}
@@ -54,3 +54,15 @@ module _ {V : Type 0} where
   abbrev pub with_object : Option (Object V) → List (Object V) → List (Object V)
   with_object None os = os
   with_object (Some o) os = os ++ o ∷ []
+
+-- ---- marks of objects
+
+-- numbers past the marks have one
+abbrev pub marked_by : List Bool → ℕ → Bool
+marked_by marks k = slice_index_or marks k true
+
+-- the marks of the numbers below this one; the others have one
+abbrev pub marked_below : ℕ → (ℕ → Bool) → ℕ → Bool
+marked_below zero marks k = true
+marked_below (suc n) marks zero = marks zero
+marked_below (suc n) marks (suc k) = marked_below n (λ j. marks (suc j)) k

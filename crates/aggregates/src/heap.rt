@@ -11,7 +11,8 @@ ghost use Rattle.aggregates.specs.Keys.{key_of};
 ghost use Rattle.aggregates.specs.Objects.{held_at, stored_at, put_at, if_stored, place_in};
 ghost use Rattle.aggregates.specs.Objects.{index_in, value_in};
 ghost use Rattle.aggregates.specs.Objects.{dimensions_in, field_in, record_type};
-ghost use Rattle.aggregates.specs.Made.{kind_of, filled, copied, rows_in, rows_array, number, with_object, object_of};
+ghost use Rattle.aggregates.specs.Made.{kind_of, filled, copied, rows_in, rows_array, number, with_object, object_of, marked_by};
+ghost use Rattle.model.specs.Machine.Living.{cleared};
 
 use crate::array::Array;
 use crate::bounds::{Bounds, are_bounds};
@@ -286,6 +287,18 @@ impl<V: Element> Heap<V> {
             return Ok(None);
         };
         Ok(Some(self.add(Object::Array(array))?))
+    }
+
+    /// Gives back each object without a mark: an empty table stands in its place. Numbers past the marks have one. Takes
+    /// no memory.
+    pub fn clear(&mut self, alloc: Global, marks: &[bool])
+        ensures { self.new ≡ cleared (marked_by marks.now) self.old }
+    {
+        for i in 0..self.objects.len() {
+            if i < marks.len() && !marks[i] {
+                self.objects[i].clear(alloc);
+            }
+        }
     }
 
     // The object of this number.

@@ -1,6 +1,6 @@
 //! An object: an array, a table or a record.
 
-ghost use Rattle.std.specs.Prelude.{◌≡◌, Some, IfOk, OnErr, true, false};
+ghost use Rattle.std.specs.Prelude.{◌≡◌, [], Some, IfOk, OnErr, true, false};
 ghost use Rattle.std.specs.Option.{option_copied};
 ghost use Rattle.model.specs.Language.Aggregates.{index_of};
 ghost use Rattle.model.specs.Language.Operators.{with_element, with_value_for};
@@ -15,7 +15,7 @@ use crate::items::put;
 use crate::names::Names;
 use crate::place::{Key, Place};
 use crate::table::Table;
-use std::alloc::AllocError;
+use std::alloc::{AllocError, Global};
 use strings::Text;
 
 /// Which kind of object it is.
@@ -43,6 +43,14 @@ pub(crate) enum Object<V> {
 }
 
 impl<V: Element> Object<V> {
+    /// Lets go what it holds: an empty table stands in its place. Takes no memory.
+    #[inline(never)]
+    pub(crate) fn clear(&mut self, alloc: Global)
+        ensures { object_of self.new ≡ values.TableOf [] }
+    {
+        *self = Object::Table(Table::new(alloc));
+    }
+
     /// Which kind it is.
     pub(crate) fn kind(&self) -> Kind
         ensures { result ≡ kind_of (object_of self.now) }

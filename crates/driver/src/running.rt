@@ -7,6 +7,7 @@ ghost use Rattle.model.specs.Module.Images.{card_of};
 ghost use Rattle.model.specs.Module.Reading.{read_image};
 ghost use Rattle.loader.specs.Answers.{IsAnswer};
 ghost use Rattle.loader.specs.Loaded.{IsLoaded};
+ghost use Rattle.statement_machine.specs.Asking.{StopsWhereAsked};
 ghost use Rattle.statement_machine.specs.Stopped.{IfRan, IfStop, ending_of, stop_of_run};
 ghost use Rattle.statement_machine.specs.Runs.{IsRun, IsStoppedRun};
 ghost use Rattle.unit_io.specs.Service.{Served};
@@ -75,6 +76,9 @@ pub fn run_with_card<U: Units>(
     // A run that stopped has printed a beginning of what the machine prints.
     ensures printed { IfOk result (λ ran. (m : Image) → read_image bytes.now ≡ Ok m →
         IfStop ran.status (IfTold (U.told units.old) (U.told units.new) (IsStoppedRun m bound))) }
+    // A run that a unit stopped did so where the machine may ask one.
+    ensures asked { IfOk result (λ ran. (m : Image) → read_image bytes.now ≡ Ok m →
+        StopsWhereAsked m bound (stop_of_run ran.status) (U.told units.old) (U.told units.new)) }
     // Of a module that compile_deck wrote, in the words of its deck alone: it ended as the deck's meaning does at some
     // depth, with exactly that printed, or runs on or was stopped, and what it printed is a beginning of what the meaning
     // prints.
@@ -113,6 +117,9 @@ pub fn run_module<U: Units>(
     // A run that stopped has printed a beginning of what the machine prints.
     ensures printed { IfOk result (λ status. (m : Image) → read_image bytes.now ≡ Ok m →
         IfStop status (IfTold (U.told units.old) (U.told units.new) (IsStoppedRun m bound))) }
+    // A run that a unit stopped did so where the machine may ask one.
+    ensures asked { IfOk result (λ status. (m : Image) → read_image bytes.now ≡ Ok m →
+        StopsWhereAsked m bound (stop_of_run status) (U.told units.old) (U.told units.new)) }
     // Of a module that compile_deck wrote, in the words of its deck alone: it ended as the deck's meaning does at some
     // depth, with exactly that printed, or runs on or was stopped, and what it printed is a beginning of what the meaning
     // prints.

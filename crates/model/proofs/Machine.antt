@@ -22,3 +22,8 @@ pub mod StepsIn
 pub mod ImagesIn
 pub mod Complete
 pub mod Standing
+pub mod SearchLiving
+pub mod OperationsLiving
+pub mod PrimitivesLiving
+pub mod StepsLiving
+pub mod Collecting

@@ -7,6 +7,7 @@ pub mod Matches
 pub mod Patterns
 pub mod MatchStates
 pub mod Machine
+pub mod Living
 pub mod SameRuns
 pub mod Decks
 pub mod Trees

@@ -3,7 +3,7 @@
 
 ghost use Rattle.model.specs.Laws.Agreement.{AgreesWherePlaced, EndingStays, PrintedGrows};
 ghost use Rattle.model.specs.Laws.PrintedBefore.{RunsAfter};
-ghost use Rattle.model.specs.Laws.StepBound.{RunStepsBounded};
+ghost use Rattle.model.specs.Laws.StepBound.{RunPrintsBounded, RunStepsBounded};
 ghost use Rattle.model.specs.Laws.Meaning.{AnswersStay, MatchesStay, CountsStay, RulesStay};
 ghost use Rattle.model.specs.Laws.Matches.{MatchRuns, MatchComes};
 
@@ -21,6 +21,12 @@ pub fn runs_add_to_what_was_printed()
 /// + 1) steps or more.
 pub fn run_steps_are_bounded()
     ensures { RunStepsBounded }
+{}
+
+/// What a deck's meaning has printed at some depth, having used r rules to that depth, a module that does what the deck
+/// does has printed after any 7 * (r + 1) steps or more: also where the run never ends.
+pub fn run_prints_are_bounded()
+    ensures { RunPrintsBounded }
 {}
 
 /// While it runs, a match of the machine is the steps of its code.

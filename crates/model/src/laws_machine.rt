@@ -7,6 +7,10 @@ ghost use Rattle.model.specs.Laws.Machine.{NoneAsked, ImagesAreIn, WellFormedAre
 ghost use Rattle.model.specs.Laws.Machine.{RunsAskForWhatIsThere, WellFormedAreComplete, BegunStand};
 ghost use Rattle.model.specs.Laws.Machine.{StepsStand, ActsStand, InstructionsAreThere, NeedsAreThere};
 ghost use Rattle.model.specs.Laws.Machine.{StandingAreNotStuck, NeverStuck};
+ghost use Rattle.model.specs.Laws.Living.{SearchesLive, SuppliedLive, StepKeepsAlike, StepsKeepAlike};
+ghost use Rattle.model.specs.Laws.Living.{AlikeShowTheSame, ImagesLive, ClearedAreAlike, ValuesLiveOn};
+ghost use Rattle.model.specs.Laws.Living.{OperandsLiveOn, SearchesLiveOn, FramesLiveOn};
+ghost use Rattle.model.specs.Laws.Living.{FitByNumber, GoOnCollected, StepsKeepCollected, CollectedAgain, CollectionsAreUnseen};
 
 /// A search whose code, choices and answers ask only for expressions below a number asks only for such.
 pub fn searches_stay_in_range()
@@ -43,4 +47,25 @@ pub fn never_stuck()
     ensures needs { NeedsAreThere }
     ensures standing { StandingAreNotStuck }
     ensures runs { NeverStuck }
+{}
+
+/// No step can tell what stands where nothing reaches: states that are the same but for such objects go on alike and
+/// show the same. So a run may give these objects back between steps.
+pub fn unreached_objects_are_unseen()
+    ensures searches { SearchesLive }
+    ensures supplied { SuppliedLive }
+    ensures step { StepKeepsAlike }
+    ensures steps { StepsKeepAlike }
+    ensures seen { AlikeShowTheSame }
+    ensures images { ImagesLive }
+    ensures cleared { ClearedAreAlike }
+    ensures fit { FitByNumber }
+    ensures values { ValuesLiveOn }
+    ensures operands { OperandsLiveOn }
+    ensures matches { SearchesLiveOn }
+    ensures frames { FramesLiveOn }
+    ensures on { StepsKeepCollected }
+    ensures go_on { GoOnCollected }
+    ensures again { CollectedAgain }
+    ensures runs { CollectionsAreUnseen }
 {}

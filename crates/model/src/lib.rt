@@ -43,13 +43,15 @@ pub use image::{Image, Label, Level, PatInstr};
 pub use instr::{ArithOp, Instr, ReturnKind, SignOp};
 pub use keys::KeyId;
 pub use laws_agreement::{
-    agreement, counts_stay, matches_step, meaning_stays, queries_stay, run_steps_are_bounded,
+    agreement, counts_stay, matches_step, meaning_stays, queries_stay, run_prints_are_bounded,
+    run_steps_are_bounded,
 };
 pub use laws_bytes::{read_is_spelt, spelling_rows, spelt_is_read};
 pub use laws_cards::worked_decks;
 pub use laws_decks::{accepted_decks_fit, decks_fit, end_is_last, first_cards_fit, trees_fit};
 pub use laws_machine::{
     asked_expressions_are_there, expressions_stay_in_range, never_stuck, searches_stay_in_range,
+    unreached_objects_are_unseen,
 };
 pub use laws_modules::{
     cards_change_no_run, faultless_is_well_formed, least_fault_is_told, worked_images,

@@ -36,6 +36,7 @@ pub fn call_prim(
         (prim_op codes_of id (map value_of arguments.now) (world_of world.old io)) }
     ensures stop { IfStopped result (λ stop. stop ≡ NoMemory) }
     ensures unchanged { OnErr result (world.new ≡ world.old) }
+    ensures names { world.new.names ≡ world.old.names }
 {
     match id {
         PrimId::Apply => call_applied(alloc, arguments, world),
@@ -50,6 +51,7 @@ fn call_applied(alloc: Global, arguments: &[Value], world: &mut World) -> Result
         (prim_op codes_of PrimId.Apply (map value_of arguments.now) (world_of world.old io)) }
     ensures stop { IfStopped result (λ stop. stop ≡ NoMemory) }
     ensures unchanged { OnErr result (world.new ≡ world.old) }
+    ensures names { world.new.names ≡ world.old.names }
 {
     let (applied, others) = apply(alloc, world.module_level(), arguments)?;
     match applied {
@@ -71,6 +73,7 @@ fn call_other(
         (prim_op codes_of id (map value_of arguments.now) (world_of world.old io)) }
     ensures stop { IfStopped result (λ stop. stop ≡ NoMemory) }
     ensures unchanged { OnErr result (world.new ≡ world.old) }
+    ensures names { world.new.names ≡ world.old.names }
 {
     match id {
         PrimId::Item => item(arguments, world),
@@ -91,6 +94,7 @@ fn call_by_number(
         (prim_op codes_of id (map value_of arguments.now) (world_of world.old io)) }
     ensures stop { IfStopped result (λ stop. stop ≡ NoMemory) }
     ensures unchanged { OnErr result (world.new ≡ world.old) }
+    ensures names { world.new.names ≡ world.old.names }
 {
     let null = Value::null();
     let first = argument(arguments, 0, &null);
@@ -115,6 +119,7 @@ fn call_with(
         (world_of world.old io)) }
     ensures stop { IfStopped result (λ stop. stop ≡ NoMemory) }
     ensures unchanged { OnErr result (world.new ≡ world.old) }
+    ensures names { world.new.names ≡ world.old.names }
 {
     match id {
         PrimId::Len => kind(alloc, Kind::Len, first),

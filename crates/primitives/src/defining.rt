@@ -36,6 +36,7 @@ pub(crate) fn define(
     ensures answer { Changes result (define_row (value_of prototype.now) (value_of label.now)) world.old world.new }
     ensures stop { IfStopped result (λ stop. stop ≡ NoMemory) }
     ensures unchanged { OnErr result (world.new ≡ world.old) }
+    ensures names { world.new.names ≡ world.old.names }
 {
     let text = prototype.to_text(alloc)?;
     let entry = entry_label(alloc, label)?;

@@ -33,6 +33,7 @@ pub(crate) fn array(
         array_op (array_prototype s) (value_of value.now) w)) world.old world.new }
     ensures stop { IfStopped result (λ stop. stop ≡ NoMemory) }
     ensures unchanged { OnErr result (world.new ≡ world.old) }
+    ensures names { world.new.names ≡ world.old.names }
 {
     let text = prototype.to_text(alloc)?;
     let Some(bounds) = dimensions(alloc, text.as_slice())? else {
@@ -46,6 +47,7 @@ pub(crate) fn table(alloc: Global, world: &mut World) -> Result<Outcome, Fault>
     ensures answer { Changes result (new_object (TableOf [])) world.old world.new }
     ensures stop { IfStopped result (λ stop. stop ≡ NoMemory) }
     ensures unchanged { OnErr result (world.new ≡ world.old) }
+    ensures names { world.new.names ≡ world.old.names }
 {
     Ok(Outcome::Value(world.table(alloc)?))
 }
@@ -55,6 +57,7 @@ pub(crate) fn copy(alloc: Global, value: &Value, world: &mut World) -> Result<Ou
     ensures answer { Changes result (copy_op (value_of value.now)) world.old world.new }
     ensures stop { IfStopped result (λ stop. stop ≡ NoMemory) }
     ensures unchanged { OnErr result (world.new ≡ world.old) }
+    ensures names { world.new.names ≡ world.old.names }
 {
     Ok(Outcome::Value(world.copy(alloc, value)?))
 }
@@ -81,6 +84,7 @@ pub(crate) fn data(alloc: Global, prototype: &Value, world: &mut World) -> Resul
         data_op (type_prototype world.old.level s) w)) world.old world.new }
     ensures stop { IfStopped result (λ stop. stop ≡ NoMemory) }
     ensures unchanged { OnErr result (world.new ≡ world.old) }
+    ensures names { world.new.names ≡ world.old.names }
 {
     let text = prototype.to_text(alloc)?;
     let Some(prototype) = type_prototype(alloc, world.module_level(), text.as_slice())? else {
@@ -101,6 +105,7 @@ pub(crate) fn convert(
         converted codes_of (value_of value.now) t w)) world.old world.new }
     ensures stop { IfStopped result (λ stop. stop ≡ NoMemory) }
     ensures unchanged { OnErr result (world.new ≡ world.old) }
+    ensures names { world.new.names ≡ world.old.names }
 {
     let wanted = type_name.to_text(alloc)?;
     converted(alloc, value, wanted.as_slice(), world)
@@ -116,6 +121,7 @@ fn converted(
     ensures answer { Changes result (converted codes_of (value_of value.now) wanted.now) world.old world.new }
     ensures stop { IfStopped result (λ stop. stop ≡ NoMemory) }
     ensures unchanged { OnErr result (world.new ≡ world.old) }
+    ensures names { world.new.names ≡ world.old.names }
 {
     if wanted == type_name(value, world) {
         Ok(Outcome::Value(value.clone()?))
@@ -175,6 +181,7 @@ fn as_array(alloc: Global, value: &Value, world: &mut World) -> Result<Outcome, 
     ensures answer { Changes result (as_array (value_of value.now)) world.old world.new }
     ensures stop { IfStopped result (λ stop. stop ≡ NoMemory) }
     ensures unchanged { OnErr result (world.new ≡ world.old) }
+    ensures names { world.new.names ≡ world.old.names }
 {
     match world.rows(alloc, value)? {
         Some(array) => Ok(Outcome::Value(array)),

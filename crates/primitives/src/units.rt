@@ -23,6 +23,7 @@ pub(crate) fn input(
     ensures answer { Changes result (input_op (value_of variable.now) (value_of unit.now)) world.old world.new }
     ensures stop { IfStopped result (λ stop. stop ≡ NoMemory) }
     ensures unchanged { OnErr result (world.new ≡ world.old) }
+    ensures names { world.new.names ≡ world.old.names }
 {
     let name = variable.to_variable(alloc)?;
     let unit = unit_of(5, unit)?;
@@ -40,6 +41,7 @@ pub(crate) fn output(
     ensures answer { Changes result (output_op (value_of variable.now) (value_of unit.now)) world.old world.new }
     ensures stop { IfStopped result (λ stop. stop ≡ NoMemory) }
     ensures unchanged { OnErr result (world.new ≡ world.old) }
+    ensures names { world.new.names ≡ world.old.names }
 {
     let name = variable.to_variable(alloc)?;
     let unit = unit_of(6, unit)?;
@@ -52,6 +54,7 @@ pub(crate) fn detach(alloc: Global, variable: &Value, world: &mut World) -> Resu
     ensures answer { Changes result (detach_op (value_of variable.now)) world.old world.new }
     ensures stop { IfStopped result (λ stop. stop ≡ NoMemory) }
     ensures unchanged { OnErr result (world.new ≡ world.old) }
+    ensures names { world.new.names ≡ world.old.names }
 {
     let name = variable.to_variable(alloc)?;
     world.detach(&name)?;

@@ -1,4 +1,5 @@
 pub mod Seeking
+pub mod Asked
 pub mod Second
 pub mod Singly
 pub mod Beginning

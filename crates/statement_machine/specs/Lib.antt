@@ -1,4 +1,5 @@
 pub mod Evaluating
+pub mod Asking
 pub mod Runnable
 pub mod Held
 pub mod Runs

@@ -8,6 +8,7 @@ ghost use Rattle.model.specs.Laws.PrintedBefore.{after_s};
 ghost use Rattle.model.specs.Machine.Steps as m;
 ghost use Rattle.model.specs.Machine.Steps.{begun, steps};
 ghost use Rattle.model.specs.Module.Images.{module_of};
+ghost use Rattle.statement_machine.specs.Asking.{StopsWhereAsked, StopsWithin};
 ghost use Rattle.statement_machine.specs.Runs.{Holds, IsRun, IsStoppedRun, PrintsWithin};
 ghost use Rattle.statement_machine.specs.Stopped.{IfRan, IfStop, ending_of, status_at, stop_of_run, stopped_now};
 ghost use Rattle.unit_io.specs.Service.{Served};
@@ -77,6 +78,9 @@ impl<'m, 'a> Machine<'m, 'a> {
         ensures printed { (st : Io → m.State) → ((io : Io) → Holds self.old io (st io)) →
             PrintsWithin (stopped_now self.old.halt result) (U.told units.old) (U.told units.new) (λ io.
             steps (module_of self.old.image) bound (st io)) }
+        // A run that a unit stopped did so where the machine may ask one.
+        ensures stops { (st : Io → m.State) → ((io : Io) → Holds self.old io (st io)) →
+            StopsWithin self.old.image bound (stopped_now self.old.halt result) (U.told units.old) (U.told units.new) st }
         ensures again { (halt : RustHalt) → self.old.halt ≡ Some halt → (self.new ≡ self.old)
             × (units.new ≡ units.old) }
     {
@@ -107,6 +111,8 @@ pub fn run_from_entry<U: Units>(
     // A run that stopped has printed a beginning of what the machine prints.
     ensures printed { IfStop result
         (IfTold (U.told units.old) (U.told units.new) (IsStoppedRun program.now bound)) }
+    // A run that a unit stopped did so where the machine may ask one.
+    ensures asked { StopsWhereAsked program.now bound (stop_of_run result) (U.told units.old) (U.told units.new) }
 {
     match Machine::new(alloc, program) {
         Ok(mut machine) => machine.run(units, bound),

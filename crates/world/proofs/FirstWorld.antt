@@ -68,8 +68,8 @@ first_writes x =
 first_io : (io : Io) → io ≡ record { left = io.left; printed = io.printed ++ [] }
 first_io io = ap (λ ps. record { left = io.left; printed = ps }) (sym (append-nil io.printed))
 
-pub first_holds : (h : WorldView) (lv : Level) (io : Io) → h ≡ record { variables = first_variables; objects = []; functions = []; keys = first_keys; level = lv } → world_of h io ≡ after_w io.printed (first_m lv io.left)
-first_holds h lv io is =
+pub first_holds : (h : WorldView) (lv : Level) (ns : List Bytes) (io : Io) → h ≡ record { variables = first_variables; objects = []; functions = []; keys = first_keys; level = lv; names = ns } → world_of h io ≡ after_w io.printed (first_m lv io.left)
+first_holds h lv ns io is =
     ap (λ z. world_of z io) is
     ∙ (λ i. record {
       vars = λ y. first_vars y i;

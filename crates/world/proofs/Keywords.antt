@@ -56,9 +56,9 @@ by_test b id z w = if b then Gives (record {}) (set_keys (put_key id z (keys_of 
 tested : (id : KeyId) (z : ℤ) (v : MVal) (w : MW) (b : Bool) → Got z ≡ to_integer v → allows id z ≡ b → by_test b id z w ≡ keyset_op id v w
 tested id z v w b is e = ap (λ x. by_test x id z w) (sym e) ∙ ap (λ c. conv c w (λ n. by_test (allows id n) id n w)) is
 
-pub key_is_set : (id : KeyId) (z z' : ℤ) (v : MVal) (vs : List (Bytes × Variable)) (os : List (Object Value)) (fs : Functions) (ks new : Keys) (lv : Level) (held : WorldView) (r : Result (Unit {0}) KeyFault) → record { variables = vs; objects = os; functions = fs; keys = ks; level = lv } ≡ held → z' ≡ z → Got z ≡ to_integer v → r ≡ set_answer id z' → r ≡ Ok tt → new ≡ put_key id z' ks
-    → (io : Io) → Gives (record {}) (world_of (record { variables = vs; objects = os; functions = fs; keys = new; level = lv }) io) ≡ keyset_op id v (world_of held io)
-key_is_set id z z' v vs os fs ks new lv held r same near is answer ok put io =
-    ap (λ x. Gives (record {}) (world_of (record { variables = vs; objects = os; functions = fs; keys = x; level = lv }) io)) (put ∙ ap (λ x. put_key id x ks) near)
-    ∙ tested id z v (world_of (record { variables = vs; objects = os; functions = fs; keys = ks; level = lv }) io) true is (ok_by (is_protected id) (allows id z) (sym (answer ∙ ap (set_answer id) near) ∙ ok))
+pub key_is_set : (id : KeyId) (z z' : ℤ) (v : MVal) (vs : List (Bytes × Variable)) (os : List (Object Value)) (fs : Functions) (ks new : Keys) (lv : Level) (ns : List Bytes) (held : WorldView) (r : Result (Unit {0}) KeyFault) → record { variables = vs; objects = os; functions = fs; keys = ks; level = lv; names = ns } ≡ held → z' ≡ z → Got z ≡ to_integer v → r ≡ set_answer id z' → r ≡ Ok tt → new ≡ put_key id z' ks
+    → (io : Io) → Gives (record {}) (world_of (record { variables = vs; objects = os; functions = fs; keys = new; level = lv; names = ns }) io) ≡ keyset_op id v (world_of held io)
+key_is_set id z z' v vs os fs ks new lv ns held r same near is answer ok put io =
+    ap (λ x. Gives (record {}) (world_of (record { variables = vs; objects = os; functions = fs; keys = x; level = lv; names = ns }) io)) (put ∙ ap (λ x. put_key id x ks) near)
+    ∙ tested id z v (world_of (record { variables = vs; objects = os; functions = fs; keys = ks; level = lv; names = ns }) io) true is (ok_by (is_protected id) (allows id z) (sym (answer ∙ ap (set_answer id) near) ∙ ok))
     ∙ ap (λ h. keyset_op id v (world_of h io)) same

@@ -22,34 +22,34 @@ use Rattle.world.specs.Held.{WorldView, world_of}
 use Rattle.world.specs.declared.value.Value.{Value}
 use Rattle.world.specs.declared.world.Variable.{Variable}
 
-pub made : (vs : List (Bytes × Variable)) (os new : List (Object Value)) (fs : Functions) (ks : Keys) (lv : Level) (h : WorldView) (io : Io) (o : Object Value) (n : ℕ)
-    → record { variables = vs; objects = os; functions = fs; keys = ks; level = lv } ≡ h → n ≡ length os → new ≡ os ++ o ∷ []
-    → new_object (object_map value_of o) (world_of h io) ≡ Gives (Obj n) (world_of (record { variables = vs; objects = new; functions = fs; keys = ks; level = lv }) io)
-made vs os new fs ks lv h io o n is number more =
+pub made : (vs : List (Bytes × Variable)) (os new : List (Object Value)) (fs : Functions) (ks : Keys) (lv : Level) (ns : List Bytes) (h : WorldView) (io : Io) (o : Object Value) (n : ℕ)
+    → record { variables = vs; objects = os; functions = fs; keys = ks; level = lv; names = ns } ≡ h → n ≡ length os → new ≡ os ++ o ∷ []
+    → new_object (object_map value_of o) (world_of h io) ≡ Gives (Obj n) (world_of (record { variables = vs; objects = new; functions = fs; keys = ks; level = lv; names = ns }) io)
+made vs os new fs ks lv ns h io o n is number more =
     ap (λ z. new_object (object_map value_of o) (world_of z io)) (sym is)
-    ∙ ap (λ k. Gives (Obj k) (set_objects (map (object_map value_of) os ++ object_map value_of o ∷ []) (world_of (record { variables = vs; objects = os; functions = fs; keys = ks; level = lv }) io))) (length-map os (object_map value_of) ∙ sym number)
-    ∙ ap (λ xs. Gives (Obj n) (set_objects xs (world_of (record { variables = vs; objects = os; functions = fs; keys = ks; level = lv }) io))) (sym (map-append (object_map value_of) os (o ∷ [])))
-    ∙ ap (λ xs. Gives (Obj n) (world_of (record { variables = vs; objects = xs; functions = fs; keys = ks; level = lv }) io)) (sym more)
+    ∙ ap (λ k. Gives (Obj k) (set_objects (map (object_map value_of) os ++ object_map value_of o ∷ []) (world_of (record { variables = vs; objects = os; functions = fs; keys = ks; level = lv; names = ns }) io))) (length-map os (object_map value_of) ∙ sym number)
+    ∙ ap (λ xs. Gives (Obj n) (set_objects xs (world_of (record { variables = vs; objects = os; functions = fs; keys = ks; level = lv; names = ns }) io))) (sym (map-append (object_map value_of) os (o ∷ [])))
+    ∙ ap (λ xs. Gives (Obj n) (world_of (record { variables = vs; objects = xs; functions = fs; keys = ks; level = lv; names = ns }) io)) (sym more)
 
 -- what the making of an object comes to, or this where none is made
 abbrev pub made_or : (MW → Op MW MVal) → Option (Object MVal) → MW → Op MW MVal
 made_or other None w = other w
 made_or other (Some o) w = new_object o w
 
-module _ (vs : List (Bytes × Variable)) (os new : List (Object Value)) (fs : Functions) (ks : Keys) (lv : Level) (h : WorldView) (io : Io) (n : Option ℕ) (r : Option (Object Value)) (other : MW → Op MW MVal)
-    (is : record { variables = vs; objects = os; functions = fs; keys = ks; level = lv } ≡ h) (at : n ≡ number r os) (more : new ≡ with_object r os) where
-  was_made : (j : ℕ) → n ≡ Some j → made_or other (option_map (object_map value_of) r) (world_of h io) ≡ Gives (Obj j) (world_of (record { variables = vs; objects = new; functions = fs; keys = ks; level = lv }) io)
+module _ (vs : List (Bytes × Variable)) (os new : List (Object Value)) (fs : Functions) (ks : Keys) (lv : Level) (ns : List Bytes) (h : WorldView) (io : Io) (n : Option ℕ) (r : Option (Object Value)) (other : MW → Op MW MVal)
+    (is : record { variables = vs; objects = os; functions = fs; keys = ks; level = lv; names = ns } ≡ h) (at : n ≡ number r os) (more : new ≡ with_object r os) where
+  was_made : (j : ℕ) → n ≡ Some j → made_or other (option_map (object_map value_of) r) (world_of h io) ≡ Gives (Obj j) (world_of (record { variables = vs; objects = new; functions = fs; keys = ks; level = lv; names = ns }) io)
   was_made j some = by r (sym at ∙ some) more
     where
-      by : (r : Option (Object Value)) → number r os ≡ Some j → new ≡ with_object r os → made_or other (option_map (object_map value_of) r) (world_of h io) ≡ Gives (Obj j) (world_of (record { variables = vs; objects = new; functions = fs; keys = ks; level = lv }) io)
+      by : (r : Option (Object Value)) → number r os ≡ Some j → new ≡ with_object r os → made_or other (option_map (object_map value_of) r) (world_of h io) ≡ Gives (Obj j) (world_of (record { variables = vs; objects = new; functions = fs; keys = ks; level = lv; names = ns }) io)
       by None e m = absurd (cc)
-      by (Some o) e m = made vs os new fs ks lv h io o j is (cc) m
+      by (Some o) e m = made vs os new fs ks lv ns h io o j is (cc) m
 
-  not_made : n ≡ None → made_or other (option_map (object_map value_of) r) (world_of h io) ≡ other (world_of (record { variables = vs; objects = new; functions = fs; keys = ks; level = lv }) io)
+  not_made : n ≡ None → made_or other (option_map (object_map value_of) r) (world_of h io) ≡ other (world_of (record { variables = vs; objects = new; functions = fs; keys = ks; level = lv; names = ns }) io)
   not_made none = by r (sym at ∙ none) more
     where
-      by : (r : Option (Object Value)) → number r os ≡ None → new ≡ with_object r os → made_or other (option_map (object_map value_of) r) (world_of h io) ≡ other (world_of (record { variables = vs; objects = new; functions = fs; keys = ks; level = lv }) io)
-      by None e m = ap (λ z. other (world_of z io)) (sym is) ∙ ap (λ xs. other (world_of (record { variables = vs; objects = xs; functions = fs; keys = ks; level = lv }) io)) (sym m)
+      by : (r : Option (Object Value)) → number r os ≡ None → new ≡ with_object r os → made_or other (option_map (object_map value_of) r) (world_of h io) ≡ other (world_of (record { variables = vs; objects = new; functions = fs; keys = ks; level = lv; names = ns }) io)
+      by None e m = ap (λ z. other (world_of z io)) (sym is) ∙ ap (λ xs. other (world_of (record { variables = vs; objects = xs; functions = fs; keys = ks; level = lv; names = ns }) io)) (sym m)
       by (Some o) e m = absurd (cc)
 
 -- ---- arrays
@@ -65,10 +65,10 @@ array_is bs v w = by (are_bounds bs)
     by true = ap (λ xs. new_object (ArrayOf bs xs) w) (sym (same_everywhere (elements_in bs) v))
     by false = refl
 
-module _ (vs : List (Bytes × Variable)) (os new : List (Object Value)) (fs : Functions) (ks : Keys) (lv : Level) (h : WorldView) (io : Io) (n : Option ℕ) (bs : List Bounds) (v : Value)
-    (is : record { variables = vs; objects = os; functions = fs; keys = ks; level = lv } ≡ h) (at : n ≡ number (filled bs v) os) (more : new ≡ with_object (filled bs v) os) where
-  pub was_filled : (j : ℕ) → n ≡ Some j → array_op (passing are_bounds (Some bs)) (value_of v) (world_of h io) ≡ Gives (Obj j) (world_of (record { variables = vs; objects = new; functions = fs; keys = ks; level = lv }) io)
-  was_filled j some = array_is bs v (world_of h io) ∙ was_made vs os new fs ks lv h io n (filled bs v) (Faults error.BadArray) is at more j some
+module _ (vs : List (Bytes × Variable)) (os new : List (Object Value)) (fs : Functions) (ks : Keys) (lv : Level) (ns : List Bytes) (h : WorldView) (io : Io) (n : Option ℕ) (bs : List Bounds) (v : Value)
+    (is : record { variables = vs; objects = os; functions = fs; keys = ks; level = lv; names = ns } ≡ h) (at : n ≡ number (filled bs v) os) (more : new ≡ with_object (filled bs v) os) where
+  pub was_filled : (j : ℕ) → n ≡ Some j → array_op (passing are_bounds (Some bs)) (value_of v) (world_of h io) ≡ Gives (Obj j) (world_of (record { variables = vs; objects = new; functions = fs; keys = ks; level = lv; names = ns }) io)
+  was_filled j some = array_is bs v (world_of h io) ∙ was_made vs os new fs ks lv ns h io n (filled bs v) (Faults error.BadArray) is at more j some
 
 -- ---- copies
 
@@ -79,16 +79,16 @@ copy_is (Some (TableOf es)) w = refl
 copy_is (Some (RecordOf t fs vs)) w = refl
 
 -- an object of the world, seen as the definitions see it
-looked : (vs : List (Bytes × Variable)) (os : List (Object Value)) (fs : Functions) (ks : Keys) (lv : Level) (h : WorldView) (io : Io) (k : ℕ) → record { variables = vs; objects = os; functions = fs; keys = ks; level = lv } ≡ h → slice_get (world_of h io).objects k ≡ option_map (object_map value_of) (slice_get os k)
-looked vs os fs ks lv h io k is = slice_get-map (object_map value_of) h.objects k ∙ ap (λ z. option_map (object_map value_of) (slice_get z.objects k)) (sym is)
+looked : (vs : List (Bytes × Variable)) (os : List (Object Value)) (fs : Functions) (ks : Keys) (lv : Level) (ns : List Bytes) (h : WorldView) (io : Io) (k : ℕ) → record { variables = vs; objects = os; functions = fs; keys = ks; level = lv; names = ns } ≡ h → slice_get (world_of h io).objects k ≡ option_map (object_map value_of) (slice_get os k)
+looked vs os fs ks lv ns h io k is = slice_get-map (object_map value_of) h.objects k ∙ ap (λ z. option_map (object_map value_of) (slice_get z.objects k)) (sym is)
 
-module _ (vs : List (Bytes × Variable)) (os new : List (Object Value)) (fs : Functions) (ks : Keys) (lv : Level) (h : WorldView) (io : Io) (k : ℕ) (n : Option ℕ)
-    (is : record { variables = vs; objects = os; functions = fs; keys = ks; level = lv } ≡ h) (at : n ≡ number (copied (slice_get os k)) os) (more : new ≡ with_object (copied (slice_get os k)) os) where
+module _ (vs : List (Bytes × Variable)) (os new : List (Object Value)) (fs : Functions) (ks : Keys) (lv : Level) (ns : List Bytes) (h : WorldView) (io : Io) (k : ℕ) (n : Option ℕ)
+    (is : record { variables = vs; objects = os; functions = fs; keys = ks; level = lv; names = ns } ≡ h) (at : n ≡ number (copied (slice_get os k)) os) (more : new ≡ with_object (copied (slice_get os k)) os) where
   copying : copy_op (Obj k) (world_of h io) ≡ made_or (Faults error.WrongType) (option_map (object_map value_of) (copied (slice_get os k))) (world_of h io)
-  copying = ap (λ o. copy_of o (world_of h io)) (looked vs os fs ks lv h io k is) ∙ copy_is (slice_get os k) (world_of h io)
+  copying = ap (λ o. copy_of o (world_of h io)) (looked vs os fs ks lv ns h io k is) ∙ copy_is (slice_get os k) (world_of h io)
 
-  pub was_copied : (j : ℕ) → n ≡ Some j → copy_op (Obj k) (world_of h io) ≡ Gives (Obj j) (world_of (record { variables = vs; objects = new; functions = fs; keys = ks; level = lv }) io)
-  was_copied j some = copying ∙ was_made vs os new fs ks lv h io n (copied (slice_get os k)) (Faults error.WrongType) is at more j some
+  pub was_copied : (j : ℕ) → n ≡ Some j → copy_op (Obj k) (world_of h io) ≡ Gives (Obj j) (world_of (record { variables = vs; objects = new; functions = fs; keys = ks; level = lv; names = ns }) io)
+  was_copied j some = copying ∙ was_made vs os new fs ks lv ns h io n (copied (slice_get os k)) (Faults error.WrongType) is at more j some
 
 -- ---- rows of a table
 
@@ -169,19 +169,19 @@ many_rows (Some (TableOf es)) w lt =
     ∙ ap (λ b. rows_by (nat_eq (row_count null_here es) 0) b (object_map value_of (rows_object es)) w) (more_than 524288 (row_count null_here es) lt)
     ∙ ap (λ b. rows_by b true (object_map value_of (rows_object es)) w) (some_of (row_count null_here es) lt)
 
-pub too_many_rows : (vs : List (Bytes × Variable)) (os : List (Object Value)) (fs : Functions) (ks : Keys) (lv : Level) (h : WorldView) (io : Io) (k c : ℕ) → record { variables = vs; objects = os; functions = fs; keys = ks; level = lv } ≡ h
+pub too_many_rows : (vs : List (Bytes × Variable)) (os : List (Object Value)) (fs : Functions) (ks : Keys) (lv : Level) (ns : List Bytes) (h : WorldView) (io : Io) (k c : ℕ) → record { variables = vs; objects = os; functions = fs; keys = ks; level = lv; names = ns } ≡ h
     → c ≡ rows_in null_here (slice_get os k) → 524288 < c → as_array (Obj k) (world_of h io) ≡ Faults error.BadArray (world_of h io)
-too_many_rows vs os fs ks lv h io k c is count lt =
-    ap (λ o. table_array o (world_of h io)) (looked vs os fs ks lv h io k is) ∙ many_rows (slice_get os k) (world_of h io) (subst (λ n. 524288 < n) count lt)
+too_many_rows vs os fs ks lv ns h io k c is count lt =
+    ap (λ o. table_array o (world_of h io)) (looked vs os fs ks lv ns h io k is) ∙ many_rows (slice_get os k) (world_of h io) (subst (λ n. 524288 < n) count lt)
 
-module _ (vs : List (Bytes × Variable)) (os new : List (Object Value)) (fs : Functions) (ks : Keys) (lv : Level) (h : WorldView) (io : Io) (k c : ℕ) (n : Option ℕ)
-    (is : record { variables = vs; objects = os; functions = fs; keys = ks; level = lv } ≡ h) (count : c ≡ rows_in null_here (slice_get os k)) (few : c ≤ 524288)
+module _ (vs : List (Bytes × Variable)) (os new : List (Object Value)) (fs : Functions) (ks : Keys) (lv : Level) (ns : List Bytes) (h : WorldView) (io : Io) (k c : ℕ) (n : Option ℕ)
+    (is : record { variables = vs; objects = os; functions = fs; keys = ks; level = lv; names = ns } ≡ h) (count : c ≡ rows_in null_here (slice_get os k)) (few : c ≤ 524288)
     (at : n ≡ number (heap.rows_array null_here held_key (slice_get os k)) os) (more : new ≡ with_object (heap.rows_array null_here held_key (slice_get os k)) os) where
   listing : as_array (Obj k) (world_of h io) ≡ made_or Refuses (option_map (object_map value_of) (heap.rows_array null_here held_key (slice_get os k))) (world_of h io)
-  listing = ap (λ o. table_array o (world_of h io)) (looked vs os fs ks lv h io k is) ∙ few_rows (slice_get os k) (world_of h io) (subst (λ m. m ≤ 524288) count few)
+  listing = ap (λ o. table_array o (world_of h io)) (looked vs os fs ks lv ns h io k is) ∙ few_rows (slice_get os k) (world_of h io) (subst (λ m. m ≤ 524288) count few)
 
-  pub was_listed : (j : ℕ) → n ≡ Some j → as_array (Obj k) (world_of h io) ≡ Gives (Obj j) (world_of (record { variables = vs; objects = new; functions = fs; keys = ks; level = lv }) io)
-  was_listed j some = listing ∙ was_made vs os new fs ks lv h io n (heap.rows_array null_here held_key (slice_get os k)) Refuses is at more j some
+  pub was_listed : (j : ℕ) → n ≡ Some j → as_array (Obj k) (world_of h io) ≡ Gives (Obj j) (world_of (record { variables = vs; objects = new; functions = fs; keys = ks; level = lv; names = ns }) io)
+  was_listed j some = listing ∙ was_made vs os new fs ks lv ns h io n (heap.rows_array null_here held_key (slice_get os k)) Refuses is at more j some
 
-  pub not_listed : n ≡ None → as_array (Obj k) (world_of h io) ≡ Refuses (world_of (record { variables = vs; objects = new; functions = fs; keys = ks; level = lv }) io)
-  not_listed none = listing ∙ not_made vs os new fs ks lv h io n (heap.rows_array null_here held_key (slice_get os k)) Refuses is at more none
+  pub not_listed : n ≡ None → as_array (Obj k) (world_of h io) ≡ Refuses (world_of (record { variables = vs; objects = new; functions = fs; keys = ks; level = lv; names = ns }) io)
+  not_listed none = listing ∙ not_made vs os new fs ks lv ns h io n (heap.rows_array null_here held_key (slice_get os k)) Refuses is at more none

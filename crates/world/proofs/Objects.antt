@@ -131,22 +131,22 @@ entry_got h os io k key kd got v same by table is e =
     ∙ ap (λ x. there (entry_by (Str []) (Some kind.Table) (option_map value_of x)) w) (sym is)
     ∙ ap (λ x. Gives x w) (sym e)
 
-module _ (vs : List (Bytes × Variable)) (os new : List (Object Value)) (fs : Functions) (ks : Keys) (lv : Level) (h : WorldView) (io : Io) (k : ℕ) (p : Place) (v : Value) (b : Bool)
-    (is : record { variables = vs; objects = os; functions = fs; keys = ks; level = lv } ≡ h) (at : if_stored b new ≡ put_at k (stored_at p v (slice_get os k)) os) where
-  storing : put_object k (stored_at p (value_of v) (slice_get (world_of h io).objects k)) (world_of h io) ≡ put_objects (option_map (map (object_map value_of)) (if_stored b new)) (world_of (record { variables = vs; objects = os; functions = fs; keys = ks; level = lv }) io)
+module _ (vs : List (Bytes × Variable)) (os new : List (Object Value)) (fs : Functions) (ks : Keys) (lv : Level) (ns : List Bytes) (h : WorldView) (io : Io) (k : ℕ) (p : Place) (v : Value) (b : Bool)
+    (is : record { variables = vs; objects = os; functions = fs; keys = ks; level = lv; names = ns } ≡ h) (at : if_stored b new ≡ put_at k (stored_at p v (slice_get os k)) os) where
+  storing : put_object k (stored_at p (value_of v) (slice_get (world_of h io).objects k)) (world_of h io) ≡ put_objects (option_map (map (object_map value_of)) (if_stored b new)) (world_of (record { variables = vs; objects = os; functions = fs; keys = ks; level = lv; names = ns }) io)
   storing =
       ap (λ z. put_object k (stored_at p (value_of v) (slice_get (world_of z io).objects k)) (world_of z io)) (sym is)
-      ∙ store_is (record { variables = vs; objects = os; functions = fs; keys = ks; level = lv }) io k p v
-      ∙ ap (λ o. put_objects (option_map (map (object_map value_of)) o) (world_of (record { variables = vs; objects = os; functions = fs; keys = ks; level = lv }) io)) (sym at)
+      ∙ store_is (record { variables = vs; objects = os; functions = fs; keys = ks; level = lv; names = ns }) io k p v
+      ∙ ap (λ o. put_objects (option_map (map (object_map value_of)) o) (world_of (record { variables = vs; objects = os; functions = fs; keys = ks; level = lv; names = ns }) io)) (sym at)
 
-  pub was_stored : b ≡ true → put_object k (stored_at p (value_of v) (slice_get (world_of h io).objects k)) (world_of h io) ≡ Gives (record {}) (world_of (record { variables = vs; objects = new; functions = fs; keys = ks; level = lv }) io)
-  was_stored q = storing ∙ ap (λ x. put_objects (option_map (map (object_map value_of)) (if_stored x new)) (world_of (record { variables = vs; objects = os; functions = fs; keys = ks; level = lv }) io)) q
+  pub was_stored : b ≡ true → put_object k (stored_at p (value_of v) (slice_get (world_of h io).objects k)) (world_of h io) ≡ Gives (record {}) (world_of (record { variables = vs; objects = new; functions = fs; keys = ks; level = lv; names = ns }) io)
+  was_stored q = storing ∙ ap (λ x. put_objects (option_map (map (object_map value_of)) (if_stored x new)) (world_of (record { variables = vs; objects = os; functions = fs; keys = ks; level = lv; names = ns }) io)) q
 
-  pub not_stored : b ≡ false → new ≡ os → put_object k (stored_at p (value_of v) (slice_get (world_of h io).objects k)) (world_of h io) ≡ Faults error.WrongType (world_of (record { variables = vs; objects = new; functions = fs; keys = ks; level = lv }) io)
+  pub not_stored : b ≡ false → new ≡ os → put_object k (stored_at p (value_of v) (slice_get (world_of h io).objects k)) (world_of h io) ≡ Faults error.WrongType (world_of (record { variables = vs; objects = new; functions = fs; keys = ks; level = lv; names = ns }) io)
   not_stored q same =
       storing
-      ∙ ap (λ x. put_objects (option_map (map (object_map value_of)) (if_stored x new)) (world_of (record { variables = vs; objects = os; functions = fs; keys = ks; level = lv }) io)) q
-      ∙ ap (λ xs. Faults error.WrongType (world_of (record { variables = vs; objects = xs; functions = fs; keys = ks; level = lv }) io)) (sym same)
+      ∙ ap (λ x. put_objects (option_map (map (object_map value_of)) (if_stored x new)) (world_of (record { variables = vs; objects = os; functions = fs; keys = ks; level = lv; names = ns }) io)) q
+      ∙ ap (λ xs. Faults error.WrongType (world_of (record { variables = vs; objects = xs; functions = fs; keys = ks; level = lv; names = ns }) io)) (sym same)
 
 -- ---- types
 

@@ -125,14 +125,14 @@ module _ (h : WorldView) (os : List (Object Value)) (same : os ≡ h.objects) (k
       ap (λ t. fetch_op t (world_of h io)) is ∙ fetched_by k key (world_of h io) ∙ key_fetched key v here io
 
 -- another value of it
-module _ (vs : List (Bytes × Variable)) (os new : List (Object Value)) (fs : Functions) (ks : Keys) (lv : Level) (h : WorldView) (k : ℕ) (v : Value) (b : Bool) (is : record { variables = vs; objects = os; functions = fs; keys = ks; level = lv } ≡ h) where
+module _ (vs : List (Bytes × Variable)) (os new : List (Object Value)) (fs : Functions) (ks : Keys) (lv : Level) (ns : List Bytes) (h : WorldView) (k : ℕ) (v : Value) (b : Bool) (is : record { variables = vs; objects = os; functions = fs; keys = ks; level = lv; names = ns } ≡ h) where
   pub entry_assigned : (i : ℕ) (n : target.Name) → IsEntry n k i h → ((key : Key) → index_in key (slice_get os k) ≡ Some i → if_stored b new ≡ put_at k (with_value_for key v (slice_get os k)) os) → b ≡ true
-      → (io : Io) → assign_op n (value_of v) (world_of h io) ≡ Gives (record {}) (world_of (record { variables = vs; objects = new; functions = fs; keys = ks; level = lv }) io)
+      → (io : Io) → assign_op n (value_of v) (world_of h io) ≡ Gives (record {}) (world_of (record { variables = vs; objects = new; functions = fs; keys = ks; level = lv; names = ns }) io)
   entry_assigned i n (key, name, at) put q io =
       ap (λ t. assign_op t (value_of v) (world_of h io)) name
       ∙ by key (put key (ap {A = WorldView} (λ x. index_in key (slice_get x.objects k)) is ∙ at))
     where
       by : (key : Key) → if_stored b new ≡ put_at k (with_value_for key v (slice_get os k)) os
-          → assign_op (entry_name k key) (value_of v) (world_of h io) ≡ Gives (record {}) (world_of (record { variables = vs; objects = new; functions = fs; keys = ks; level = lv }) io)
-      by (IntegerAt z) stored = was_stored vs os new fs ks lv h io k (place.Key (held.Integer z)) v b is stored q
-      by (StringAt s) stored = was_stored vs os new fs ks lv h io k (place.Key (held.String s)) v b is stored q
+          → assign_op (entry_name k key) (value_of v) (world_of h io) ≡ Gives (record {}) (world_of (record { variables = vs; objects = new; functions = fs; keys = ks; level = lv; names = ns }) io)
+      by (IntegerAt z) stored = was_stored vs os new fs ks lv ns h io k (place.Key (held.Integer z)) v b is stored q
+      by (StringAt s) stored = was_stored vs os new fs ks lv ns h io k (place.Key (held.String s)) v b is stored q

@@ -62,13 +62,13 @@ values_turn fs k vs us new v within before is more =
 
 -- ---- records
 
-module _ (vs : List (Bytes × Variable)) (os new : List (Object Value)) (fs : Functions) (ks : Keys) (lv : Level) (h : WorldView) (io : Io) where
-  pub constructed : (t name : Bytes) (gs fields : List Bytes) (us : List Value) (args : List MVal) (n : ℕ) → record { variables = vs; objects = os; functions = fs; keys = ks; level = lv } ≡ h
+module _ (vs : List (Bytes × Variable)) (os new : List (Object Value)) (fs : Functions) (ks : Keys) (lv : Level) (ns : List Bytes) (h : WorldView) (io : Io) where
+  pub constructed : (t name : Bytes) (gs fields : List Bytes) (us : List Value) (args : List MVal) (n : ℕ) → record { variables = vs; objects = os; functions = fs; keys = ks; level = lv; names = ns } ≡ h
       → n ≡ length os → new ≡ os ++ RecordOf name fields us ∷ [] → name ≡ t → fields ≡ gs → map value_of us ≡ field_values gs args
-      → construct_op t gs args (world_of h io) ≡ Gives (AValue (Obj n)) (world_of (record { variables = vs; objects = new; functions = fs; keys = ks; level = lv }) io)
+      → construct_op t gs args (world_of h io) ≡ Gives (AValue (Obj n)) (world_of (record { variables = vs; objects = new; functions = fs; keys = ks; level = lv; names = ns }) io)
   constructed t name gs fields us args n is number more named same values =
       ap (λ o. then_op (new_object o (world_of h io)) (λ v w1. Gives (AValue v) w1)) (λ i. RecordOf (sym named i) (sym same i) (sym values i))
-      ∙ ap (λ o. then_op o (λ v w1. Gives (AValue v) w1)) (made vs os new fs ks lv h io (RecordOf name fields us) n is number more)
+      ∙ ap (λ o. then_op o (λ v w1. Gives (AValue v) w1)) (made vs os new fs ks lv ns h io (RecordOf name fields us) n is number more)
 
 -- ---- names of fields
 

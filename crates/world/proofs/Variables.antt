@@ -1,8 +1,9 @@
 -- A world whose variables were changed at one name.
-use Rattle.std.proofs.Common.{◌≡◌, ℕ, zero, suc, List, [], ◌∷◌, ◌++◌, length, map, Bool, true, false, cond, Option, Some, None, option_map, position, Result, Ok, Err, refl, sym, ap, subst, ◌∙◌, is_some, bytes_eq, slice_get, get_or}
+use Rattle.std.proofs.Common.{◌≡◌, ℕ, zero, suc, List, [], ◌∷◌, ◌++◌, ◌+◌, ◌<◌, arith, length, take, map, Bool, true, false, cond, Option, Some, None, option_map, position, Result, Ok, Err, refl, sym, ap, subst, ◌∙◌, is_some, bytes_eq, slice_get, get_or}
 use Rattle.std.specs.Prelude.{IfSome, OnOk, if◌then◌else◌}
 use Rattle.std.specs.List.{IsDistinct}
 use Rattle.std.proofs.lemmas.Slice.Eq.{bytes_eq-Decides}
+use Rattle.std.proofs.lemmas.List.{length-map, take_more}
 use Rattle.std.proofs.lemmas.List.Quantifiers.{position-Some}
 use Rattle.std.proofs.lemmas.Map.Entries.{lookup_from_place}
 use Rattle.std.proofs.lemmas.Option.{slice_get-map, slice_get-get_or}
@@ -26,7 +27,7 @@ use Rattle.world.specs.Functions.{Functions, functions_in}
 use Rattle.world.specs.Objects.{object_map}
 use Rattle.world.specs.declared.value.Value.{Value}
 use Rattle.world.specs.declared.value.Value.TheVariants.{String}
-use Rattle.world.specs.Held.{WorldView, Holds, IsPlain, IsSilent, StandsIn, StaySilent, variable_at, name_at, value_in, input_in, output_in, world_of}
+use Rattle.world.specs.Held.{AreNamed, WorldView, Holds, IsPlain, IsSilent, StandsAs, StandsIn, StaySilent, variable_at, name_at, value_in, input_in, output_in, world_of}
 use Rattle.world.specs.declared.world.Variable.{Variable}
 
 -- the variable of one name is this, and all others stay
@@ -45,9 +46,9 @@ stays {A} f old new x v h same y = ap f (h y) ∙ go (bytes_eq x y) refl
     go true q = same ∙ ap (λ z. f (variable_at z old)) ((bytes_eq-Decides x y).0 q)
     go false q = refl
 
-pub puts_var : (old new : List (Bytes × Variable)) (os : List (Object Value)) (fs : Functions) (ks : Keys) (lv : Level) (x : Bytes) (v : Variable) → Puts old new x v → v.input ≡ input_in (variable_at x old) → v.output ≡ output_in (variable_at x old)
-    → (io : Io) → world_of (record { variables = new; objects = os; functions = fs; keys = ks; level = lv }) io ≡ set_var x (value_of v.value) (world_of (record { variables = old; objects = os; functions = fs; keys = ks; level = lv }) io)
-puts_var old new os fs ks lv x v h reads writes io = λ i. record {
+pub puts_var : (old new : List (Bytes × Variable)) (os : List (Object Value)) (fs : Functions) (ks : Keys) (lv : Level) (ns : List Bytes) (x : Bytes) (v : Variable) → Puts old new x v → v.input ≡ input_in (variable_at x old) → v.output ≡ output_in (variable_at x old)
+    → (io : Io) → world_of (record { variables = new; objects = os; functions = fs; keys = ks; level = lv; names = ns }) io ≡ set_var x (value_of v.value) (world_of (record { variables = old; objects = os; functions = fs; keys = ks; level = lv; names = ns }) io)
+puts_var old new os fs ks lv ns x v h reads writes io = λ i. record {
   vars = λ y. (ap value_in (h y) ∙ value_by (bytes_eq x y) v (variable_at y old)) i;
   objects = map (object_map value_of) os;
   plain = record {
@@ -61,18 +62,18 @@ puts_var old new os fs ks lv x v h reads writes io = λ i. record {
 }
 
 -- a variable that is there takes another value
-pub put_there : (vs new : List (Bytes × Variable)) (os : List (Object Value)) (fs : Functions) (ks : Keys) (lv : Level) (held : WorldView) (x : Bytes) (old v : Variable) (value : Value) → record { variables = vs; objects = os; functions = fs; keys = ks; level = lv } ≡ held → v ≡ record old { value = value } → variable_at x vs ≡ Some old → Puts vs new x v
-    → (io : Io) → world_of (record { variables = new; objects = os; functions = fs; keys = ks; level = lv }) io ≡ set_var x (value_of value) (world_of held io)
-put_there vs new os fs ks lv held x old v value is e at h io =
-    puts_var vs new os fs ks lv x v h (ap (λ z. z.input) e ∙ sym (ap input_in at)) (ap (λ z. z.output) e ∙ sym (ap output_in at)) io
-    ∙ ap (λ z. set_var x (value_of z.value) (world_of (record { variables = vs; objects = os; functions = fs; keys = ks; level = lv }) io)) e
+pub put_there : (vs new : List (Bytes × Variable)) (os : List (Object Value)) (fs : Functions) (ks : Keys) (lv : Level) (ns : List Bytes) (held : WorldView) (x : Bytes) (old v : Variable) (value : Value) → record { variables = vs; objects = os; functions = fs; keys = ks; level = lv; names = ns } ≡ held → v ≡ record old { value = value } → variable_at x vs ≡ Some old → Puts vs new x v
+    → (io : Io) → world_of (record { variables = new; objects = os; functions = fs; keys = ks; level = lv; names = ns }) io ≡ set_var x (value_of value) (world_of held io)
+put_there vs new os fs ks lv ns held x old v value is e at h io =
+    puts_var vs new os fs ks lv ns x v h (ap (λ z. z.input) e ∙ sym (ap input_in at)) (ap (λ z. z.output) e ∙ sym (ap output_in at)) io
+    ∙ ap (λ z. set_var x (value_of z.value) (world_of (record { variables = vs; objects = os; functions = fs; keys = ks; level = lv; names = ns }) io)) e
     ∙ ap (λ z. set_var x (value_of value) (world_of z io)) is
 
 -- a variable that isn't there is put there
-pub put_new : (vs new : List (Bytes × Variable)) (os : List (Object Value)) (fs : Functions) (ks : Keys) (lv : Level) (held : WorldView) (x : Bytes) (value : Value) → record { variables = vs; objects = os; functions = fs; keys = ks; level = lv } ≡ held → variable_at x vs ≡ None → Puts vs new x (record { value = value; input = None; output = None })
-    → (io : Io) → world_of (record { variables = new; objects = os; functions = fs; keys = ks; level = lv }) io ≡ set_var x (value_of value) (world_of held io)
-put_new vs new os fs ks lv held x value is at h io =
-    puts_var vs new os fs ks lv x (record { value = value; input = None; output = None }) h (sym (ap input_in at)) (sym (ap output_in at)) io
+pub put_new : (vs new : List (Bytes × Variable)) (os : List (Object Value)) (fs : Functions) (ks : Keys) (lv : Level) (ns : List Bytes) (held : WorldView) (x : Bytes) (value : Value) → record { variables = vs; objects = os; functions = fs; keys = ks; level = lv; names = ns } ≡ held → variable_at x vs ≡ None → Puts vs new x (record { value = value; input = None; output = None })
+    → (io : Io) → world_of (record { variables = new; objects = os; functions = fs; keys = ks; level = lv; names = ns }) io ≡ set_var x (value_of value) (world_of held io)
+put_new vs new os fs ks lv ns held x value is at h io =
+    puts_var vs new os fs ks lv ns x (record { value = value; input = None; output = None }) h (sym (ap input_in at)) (sym (ap output_in at)) io
     ∙ ap (λ z. set_var x (value_of value) (world_of z io)) is
 
 -- ---- units
@@ -85,9 +86,9 @@ writes_by : (b : Bool) (v : Variable) (o : Option Variable) → output_in (cond 
 writes_by true v o = refl
 writes_by false v o = refl
 
-pub puts_units : (old new : List (Bytes × Variable)) (os : List (Object Value)) (fs : Functions) (ks : Keys) (lv : Level) (x : Bytes) (v : Variable) → Puts old new x v → value_of v.value ≡ value_in (variable_at x old)
-    → (io : Io) → world_of (record { variables = new; objects = os; functions = fs; keys = ks; level = lv }) io ≡ set_writes x v.output (set_reads x v.input (world_of (record { variables = old; objects = os; functions = fs; keys = ks; level = lv }) io))
-puts_units old new os fs ks lv x v h same io = λ i. record {
+pub puts_units : (old new : List (Bytes × Variable)) (os : List (Object Value)) (fs : Functions) (ks : Keys) (lv : Level) (ns : List Bytes) (x : Bytes) (v : Variable) → Puts old new x v → value_of v.value ≡ value_in (variable_at x old)
+    → (io : Io) → world_of (record { variables = new; objects = os; functions = fs; keys = ks; level = lv; names = ns }) io ≡ set_writes x v.output (set_reads x v.input (world_of (record { variables = old; objects = os; functions = fs; keys = ks; level = lv; names = ns }) io))
+puts_units old new os fs ks lv ns x v h same io = λ i. record {
   vars = λ y. stays value_in old new x v h same y i;
   objects = map (object_map value_of) os;
   plain = record {
@@ -101,21 +102,21 @@ puts_units old new os fs ks lv x v h same io = λ i. record {
 }
 
 -- a variable that is there takes other units
-pub units_there : (vs new : List (Bytes × Variable)) (os : List (Object Value)) (fs : Functions) (ks : Keys) (lv : Level) (held : WorldView) (x : Bytes) (old v : Variable) (input output : Option ℕ) → record { variables = vs; objects = os; functions = fs; keys = ks; level = lv } ≡ held
+pub units_there : (vs new : List (Bytes × Variable)) (os : List (Object Value)) (fs : Functions) (ks : Keys) (lv : Level) (ns : List Bytes) (held : WorldView) (x : Bytes) (old v : Variable) (input output : Option ℕ) → record { variables = vs; objects = os; functions = fs; keys = ks; level = lv; names = ns } ≡ held
     → v ≡ record old { input = input; output = output } → variable_at x vs ≡ Some old → Puts vs new x v
-    → (io : Io) → world_of (record { variables = new; objects = os; functions = fs; keys = ks; level = lv }) io ≡ set_writes x output (set_reads x input (world_of held io))
-units_there vs new os fs ks lv held x old v input output is e at h io =
-    puts_units vs new os fs ks lv x v h (ap (λ z. value_of z.value) e ∙ sym (ap value_in at)) io
-    ∙ ap (λ z. set_writes x z.output (set_reads x z.input (world_of (record { variables = vs; objects = os; functions = fs; keys = ks; level = lv }) io))) e
+    → (io : Io) → world_of (record { variables = new; objects = os; functions = fs; keys = ks; level = lv; names = ns }) io ≡ set_writes x output (set_reads x input (world_of held io))
+units_there vs new os fs ks lv ns held x old v input output is e at h io =
+    puts_units vs new os fs ks lv ns x v h (ap (λ z. value_of z.value) e ∙ sym (ap value_in at)) io
+    ∙ ap (λ z. set_writes x z.output (set_reads x z.input (world_of (record { variables = vs; objects = os; functions = fs; keys = ks; level = lv; names = ns }) io))) e
     ∙ ap (λ z. set_writes x output (set_reads x input (world_of z io))) is
 
 -- a variable that isn't there is put there, with units
-pub units_new : (vs new : List (Bytes × Variable)) (os : List (Object Value)) (fs : Functions) (ks : Keys) (lv : Level) (held : WorldView) (x : Bytes) (v : Variable) (input output : Option ℕ) → record { variables = vs; objects = os; functions = fs; keys = ks; level = lv } ≡ held
+pub units_new : (vs new : List (Bytes × Variable)) (os : List (Object Value)) (fs : Functions) (ks : Keys) (lv : Level) (ns : List Bytes) (held : WorldView) (x : Bytes) (v : Variable) (input output : Option ℕ) → record { variables = vs; objects = os; functions = fs; keys = ks; level = lv; names = ns } ≡ held
     → v ≡ record { value = String []; input = input; output = output } → variable_at x vs ≡ None → Puts vs new x v
-    → (io : Io) → world_of (record { variables = new; objects = os; functions = fs; keys = ks; level = lv }) io ≡ set_writes x output (set_reads x input (world_of held io))
-units_new vs new os fs ks lv held x v input output is e at h io =
-    puts_units vs new os fs ks lv x v h (ap (λ z. value_of z.value) e ∙ sym (ap value_in at)) io
-    ∙ ap (λ z. set_writes x z.output (set_reads x z.input (world_of (record { variables = vs; objects = os; functions = fs; keys = ks; level = lv }) io))) e
+    → (io : Io) → world_of (record { variables = new; objects = os; functions = fs; keys = ks; level = lv; names = ns }) io ≡ set_writes x output (set_reads x input (world_of held io))
+units_new vs new os fs ks lv ns held x v input output is e at h io =
+    puts_units vs new os fs ks lv ns x v h (ap (λ z. value_of z.value) e ∙ sym (ap value_in at)) io
+    ∙ ap (λ z. set_writes x z.output (set_reads x z.input (world_of (record { variables = vs; objects = os; functions = fs; keys = ks; level = lv; names = ns }) io))) e
     ∙ ap (λ z. set_writes x output (set_reads x input (world_of z io))) is
 
 -- the same at one name is the same everywhere
@@ -144,11 +145,11 @@ writes_set h new x u input (Ok a) is f = λ io. f io ∙ ap (λ z. set_writes x 
 writes_set h new x u input (Err e) is f = tt
 
 -- a variable that isn't there is put there with a null value
-pub put_unseen : (vs new : List (Bytes × Variable)) (os : List (Object Value)) (fs : Functions) (ks : Keys) (lv : Level) (held : WorldView) (x : Bytes) (value : Value) → record { variables = vs; objects = os; functions = fs; keys = ks; level = lv } ≡ held → variable_at x vs ≡ None → value_of value ≡ Str [] → Puts vs new x (record { value = value; input = None; output = None })
-    → (io : Io) → world_of (record { variables = new; objects = os; functions = fs; keys = ks; level = lv }) io ≡ world_of held io
-put_unseen vs new os fs ks lv held x value is at null h io =
+pub put_unseen : (vs new : List (Bytes × Variable)) (os : List (Object Value)) (fs : Functions) (ks : Keys) (lv : Level) (ns : List Bytes) (held : WorldView) (x : Bytes) (value : Value) → record { variables = vs; objects = os; functions = fs; keys = ks; level = lv; names = ns } ≡ held → variable_at x vs ≡ None → value_of value ≡ Str [] → Puts vs new x (record { value = value; input = None; output = None })
+    → (io : Io) → world_of (record { variables = new; objects = os; functions = fs; keys = ks; level = lv; names = ns }) io ≡ world_of held io
+put_unseen vs new os fs ks lv ns held x value is at null h io =
     let v : Variable = record { value = value; input = None; output = None } in
-    let same : world_of (record { variables = new; objects = os; functions = fs; keys = ks; level = lv }) io ≡ world_of (record { variables = vs; objects = os; functions = fs; keys = ks; level = lv }) io = λ i. record {
+    let same : world_of (record { variables = new; objects = os; functions = fs; keys = ks; level = lv; names = ns }) io ≡ world_of (record { variables = vs; objects = os; functions = fs; keys = ks; level = lv; names = ns }) io = λ i. record {
       vars = λ y. stays value_in vs new x v h (null ∙ ap value_in (sym at)) y i;
       objects = map (object_map value_of) os;
       plain = record {
@@ -206,10 +207,10 @@ pub held_there : (vs : List (Bytes × Variable)) (x : Bytes) (k : ℕ) (v : Vari
 held_there vs x k v (w, is, found) there = found ∙ sym (slice_get-map (λ e. e.1) vs k ∙ ap (λ o. option_map (λ e. e.1) o) is) ∙ sym there
 
 -- the variable in a slot takes another value
-pub put_in_slot : {S : Type 0} (m : IndexMap Bytes Variable S) (os : List (Object Value)) (fs : Functions) (ks : Keys) (lv : Level) (held : WorldView) (x : Bytes) (k : ℕ) (old v : Variable) (value : Value) → record { variables = m.entries; objects = os; functions = fs; keys = ks; level = lv } ≡ held → IsUnique bytes_eq m → StandsIn x k m.entries → Some old ≡ slice_get (values_of m.entries) k → v ≡ record old { value = value }
-    → (io : Io) → world_of (record { variables = (with_value_at m k v).entries; objects = os; functions = fs; keys = ks; level = lv }) io ≡ set_var x (value_of value) (world_of held io)
-put_in_slot m os fs ks lv held x k old v value is unique stands there e io =
-    put_there m.entries (with_value_at m k v).entries os fs ks lv held x old v value is e (held_there m.entries x k old stands there)
+pub put_in_slot : {S : Type 0} (m : IndexMap Bytes Variable S) (os : List (Object Value)) (fs : Functions) (ks : Keys) (lv : Level) (ns : List Bytes) (held : WorldView) (x : Bytes) (k : ℕ) (old v : Variable) (value : Value) → record { variables = m.entries; objects = os; functions = fs; keys = ks; level = lv; names = ns } ≡ held → IsUnique bytes_eq m → StandsIn x k m.entries → Some old ≡ slice_get (values_of m.entries) k → v ≡ record old { value = value }
+    → (io : Io) → world_of (record { variables = (with_value_at m k v).entries; objects = os; functions = fs; keys = ks; level = lv; names = ns }) io ≡ set_var x (value_of value) (world_of held io)
+put_in_slot m os fs ks lv ns held x k old v value is unique stands there e io =
+    put_there m.entries (with_value_at m k v).entries os fs ks lv ns held x old v value is e (held_there m.entries x k old stands there)
     ((updates-with_value_at m k v nat_list_eq_equiv unique x stands.0 stands.1).0) io
 
 -- and then every variable stands where it stood, and writes where it wrote
@@ -298,3 +299,61 @@ assigned_plain h new _ k v plain set io = absurd plain
 pub fetched_silent : (h : WorldView) (x : Bytes) (k : ℕ) (v : Variable) → IsSilent x k h → slice_get (values_of h.variables) k ≡ Some v → (io : Io) → fetch_op (target.Variable x) (world_of h io) ≡ Gives (value_of v.value) (world_of h io)
 fetched_silent h x k v silent there io =
     ap (λ u. fetch_var x u (world_of h io)) silent.1 ∙ ap (λ o. Gives (value_in o) (world_of h io)) (held_there h.variables x k v silent.0 (sym there))
+
+-- ---- names that stay in their slots
+
+-- another value leaves them
+pub named_still : {S : Type 0} (m : IndexMap Bytes Variable S) (ns : List Bytes) (k : ℕ) (v : Variable) → AreNamed ns m.entries → AreNamed ns (with_value_at m k v).entries
+named_still m ns k v named slot x at = ap (λ l. slice_get l slot) (keys-with_value_at m k v) ∙ named slot x at
+
+-- where the keys stay, names do
+pub named_same : (vs new : List (Bytes × Variable)) (ns : List Bytes) → keys_of new ≡ keys_of vs → AreNamed ns vs → AreNamed ns new
+named_same vs new ns same named slot x at = ap (λ l. slice_get l slot) same ∙ named slot x at
+
+name_inserted : (vs : List (Bytes × Variable)) (key : Bytes) (v : Variable) (slot : ℕ) (x : Bytes) → name_at slot vs ≡ Some x → name_at slot (insert_entry bytes_eq vs key v) ≡ Some x
+name_inserted [] key v slot x at = absurd (cc)
+name_inserted (e ∷ es) key v slot x at = go (bytes_eq key e.0) slot (λ k h. name_inserted es key v k x h) at
+  where
+    go : (b : Bool) (k : ℕ) → ((j : ℕ) → name_at j es ≡ Some x → name_at j (insert_entry bytes_eq es key v) ≡ Some x) → name_at k (e ∷ es) ≡ Some x → name_at k (if b then (e.0, v) ∷ es else e ∷ insert_entry bytes_eq es key v) ≡ Some x
+    go true zero more h = h
+    go true (suc k) more h = h
+    go false zero more h = h
+    go false (suc k) more h = more k h
+
+-- and so does a variable that is put in
+pub named_inserted : (vs new : List (Bytes × Variable)) (ns : List Bytes) (key : Bytes) (v : Variable) → new ≡ insert_entry bytes_eq vs key v → AreNamed ns vs → AreNamed ns new
+named_inserted vs new ns key v put named slot x at = ap (name_at slot) put ∙ name_inserted vs key v slot x (named slot x at)
+
+-- the variable in a slot that it keeps
+name_within : (vs : List (Bytes × Variable)) (k : ℕ) (x : Bytes) → name_at k vs ≡ Some x → k < length vs
+name_within [] k x at = absurd (cc)
+name_within (e ∷ vs) zero x at = omega arith
+name_within (e ∷ vs) (suc k) x at = omega (arith, name_within vs k x at)
+
+pub named_within : (vs : List (Bytes × Variable)) (ns : List Bytes) (k : ℕ) → AreNamed ns vs → k < length ns → k < length vs
+named_within vs ns k named within = name_within vs k (get_or ns k []) (named k (get_or ns k []) (slice_get-get_or ns k [] within))
+
+pub named_stands : (vs : List (Bytes × Variable)) (k : ℕ) (x : Bytes) (v : Variable) → IsDistinct bytes_eq (keys_of vs) → name_at k vs ≡ Some x → Some v ≡ slice_get (values_of vs) k → StandsAs x k v vs
+named_stands vs k x v unique named there = go (slice_get vs k) refl (sym (slice_get-map (λ e. e.0) vs k) ∙ named) (sym (slice_get-map (λ e. e.1) vs k) ∙ sym there)
+  where
+    go : (o : Option (Bytes × Variable)) → slice_get vs k ≡ o → option_map (λ e. e.0) o ≡ Some x → option_map (λ e. e.1) o ≡ Some v → StandsAs x k v vs
+    go None is e f = absurd (cc)
+    go (Some p) is e f =
+        let name : p.0 ≡ x = cc in
+        let value : p.1 ≡ v = cc in
+        let at : slice_get vs k ≡ Some (x, v) = is ∙ (λ i. Some (name i, value i)) in
+        (at, lookup_from_place nat_list_eq_equiv vs k x v unique at)
+
+-- it is the one that is fetched
+pub stands_fetched : (h : WorldView) (x : Bytes) (k : ℕ) (v : Variable) → StandsAs x k v h.variables → v.input ≡ None → (io : Io) → fetch_op (target.Variable x) (world_of h io) ≡ Gives (value_of v.value) (world_of h io)
+stands_fetched h x k v stands none io =
+    ap (λ u. fetch_var x u (world_of h io)) (ap input_in stands.1 ∙ none) ∙ ap (λ o. Gives (value_in o) (world_of h io)) stands.1
+
+-- a turn of the loop that lists them
+pub names_turn : (es : List (Bytes × Variable)) (k : ℕ) (x : Bytes) (v : Variable) (ns new : List Bytes) → ns ≡ take k (keys_of es) → Some (x, v) ≡ slice_get es k → new ≡ ns ++ x ∷ [] → new ≡ take (k + 1) (keys_of es)
+names_turn es k x v ns new is there more =
+    let name : name_at k es ≡ Some x = slice_get-map (λ e. e.0) es k ∙ ap (option_map (λ e. e.0)) (sym there) in
+    let within : k < length (keys_of es) = omega (arith, name_within es k x name, length-map es (λ e. e.0)) in
+    let both : Some (get_or (keys_of es) k []) ≡ Some x = sym (slice_get-get_or (keys_of es) k [] within) ∙ name in
+    let same : get_or (keys_of es) k [] ≡ x = cc in
+    more ∙ ap (λ l. l ++ x ∷ []) is ∙ ap (λ y. take k (keys_of es) ++ y ∷ []) (sym same) ∙ sym (take_more (keys_of es) k [] within)

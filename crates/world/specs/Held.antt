@@ -30,6 +30,8 @@ pub record WorldView : Type 0 where
   pub keys : Keys
   -- of the module that runs
   pub level : Level
+  -- of the variables in the first slots, which never leave them
+  pub names : List Bytes
 
 abbrev pub variable_at : Bytes → List (Bytes × Variable) → Option Variable
 variable_at x vs = lookup (bytes_eq x) vs
@@ -38,9 +40,17 @@ variable_at x vs = lookup (bytes_eq x) vs
 abbrev pub name_at : ℕ → List (Bytes × Variable) → Option Bytes
 name_at slot vs = slice_get (keys_of vs) slot
 
+-- each of these names is that of the variable in its slot
+abbrev pub AreNamed : List Bytes → List (Bytes × Variable) → Type 0
+AreNamed ns vs = (slot : ℕ) (x : Bytes) → slice_get ns slot ≡ Some x → name_at slot vs ≡ Some x
+
 -- a variable of this name stands in this slot
 abbrev pub StandsIn : Bytes → (slot : ℕ) → List (Bytes × Variable) → Type 0
 StandsIn x slot vs = (v : Variable) × (slice_get vs slot ≡ Some (x, v)) × (variable_at x vs ≡ Some v)
+
+-- the variable of this name stands in this slot, as it is
+abbrev pub StandsAs : Bytes → (slot : ℕ) → Variable → List (Bytes × Variable) → Type 0
+StandsAs x slot v vs = (slice_get vs slot ≡ Some (x, v)) × (variable_at x vs ≡ Some v)
 
 -- what isn't there has the null string, and no unit
 abbrev pub value_in : Option Variable → MVal

@@ -16,6 +16,7 @@ impl World {
             ((io : Io) → world_of self.new io
             ≡ set_reads name.now (Some unit) (world_of self.old io)) }
         ensures err { OnErr result (self.new ≡ self.old) }
+        ensures names { self.new.names ≡ self.old.names }
     {
         let (_input, output) = self.units(name);
         self.set_units(name, Some(unit), output)
@@ -27,6 +28,7 @@ impl World {
             ((io : Io) → world_of self.new io
             ≡ set_writes name.now (Some unit) (world_of self.old io)) }
         ensures err { OnErr result (self.new ≡ self.old) }
+        ensures names { self.new.names ≡ self.old.names }
     {
         let (input, _output) = self.units(name);
         self.set_units(name, input, Some(unit))
@@ -38,6 +40,7 @@ impl World {
             ((io : Io) → world_of self.new io
             ≡ set_writes name.now None (set_reads name.now None (world_of self.old io))) }
         ensures err { OnErr result (self.new ≡ self.old) }
+        ensures names { self.new.names ≡ self.old.names }
     {
         self.set_units(name, None, None)
     }

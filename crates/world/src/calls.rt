@@ -143,6 +143,7 @@ impl World {
             ≡ bind_arguments names.now (map value_of (drop base values.old.items)) (world_of self.old io)) }
         ensures had { OnOk result
             (AreSaved names.now (take base values.old.items) values.new.items self.old) }
+        ensures names { self.new.names ≡ self.old.names }
     {
         for (number, name) in names.iter().enumerate() {
             self.exchange(name, slot_at(slots, number), &mut values[base + number])?;
@@ -169,6 +170,7 @@ impl World {
             (world_of self.old io)) }
         ensures had { IfOk result (λ had.
             value_of had ≡ value_in (variable_at (get_or names.now 0 []) self.old.variables)) }
+        ensures names { self.new.names ≡ self.old.names }
     {
         let mut left = names.len() - 1;
         while left > 0 {
@@ -195,6 +197,7 @@ impl World {
             ≡ enter_call prototype.name prototype.arguments prototype.locals
             (map value_of arguments.old.items) (world_of self.old io)) }
         ensures kept { IfOk result (λ kept. IsKept kept prototype saved.old.items saved.new.items self.old) }
+        ensures names { self.new.names ≡ self.old.names }
     {
         let statement = self.statement();
         let level = self.level();
@@ -223,6 +226,7 @@ impl World {
             ≡ enter_call prototype.name prototype.arguments prototype.locals
             (value_of argument ∷ []) (world_of self.old io)) }
         ensures kept { IfOk result (λ kept. IsKept kept prototype saved.old.items saved.new.items self.old) }
+        ensures names { self.new.names ≡ self.old.names }
     {
         let statement = self.statement();
         let level = self.level();
@@ -256,6 +260,7 @@ impl World {
             ≡ enter_call prototype.name prototype.arguments prototype.locals
             (value_of first ∷ value_of second ∷ []) (world_of self.old io)) }
         ensures kept { IfOk result (λ kept. IsKept kept prototype saved.old.items saved.new.items self.old) }
+        ensures names { self.new.names ≡ self.old.names }
     {
         let statement = self.statement();
         let level = self.level();
@@ -304,6 +309,7 @@ impl World {
             → world_of self.new io ≡ back_to_caller kind (kept_with kept.now saved.old.items) (world_of self.old io)) }
         ensures had { IfOk result (λ had.
             value_of had ≡ value_in (variable_at kept.now.prototype.name self.old.variables)) }
+        ensures names { self.new.names ≡ self.old.names }
     {
         let names = kept.prototype.names();
         let slots = kept.prototype.slots();
@@ -331,6 +337,7 @@ impl World {
         ensures left { (io : Io) → AnswersOrFails (answer_map (option_map given_of) result) (world_of self.new io)
             (leave_op ReturnKind.NReturn (kept_with kept.now saved.old.items) (world_of self.old io)) }
         ensures stop { IfStopped result (λ stop. stop ≡ NoMemory) }
+        ensures names { self.new.names ≡ self.old.names }
     {
         let slot = slot_at(kept.prototype.slots(), 0);
         let name = self.name_given(alloc, kept.prototype.name(), slot)?;
@@ -352,6 +359,7 @@ impl World {
         ensures left { (io : Io) → AnswersOrFails (answer_map (option_map given_of) result) (world_of self.new io)
             (leave_op kind (kept_with kept.now saved.old.items) (world_of self.old io)) }
         ensures stop { IfStopped result (λ stop. stop ≡ NoMemory) }
+        ensures names { self.new.names ≡ self.old.names }
     {
         if let ReturnKind::NReturn = kind {
             return self.leave_by_name(alloc, kept, saved);
@@ -376,6 +384,7 @@ impl World {
         ensures left { IfOk result (λ value. (io : Io)
             → leave_op ReturnKind.Return (kept_with kept.now saved.old.items) (world_of self.old io)
             ≡ Gives (AValue (value_of value)) (world_of self.new io)) }
+        ensures names { self.new.names ≡ self.old.names }
     {
         let value = self.back(ReturnKind::Return, kept, saved)?;
         Ok(value)
@@ -392,6 +401,7 @@ impl World {
             (as_value (given_of given) (world_of self.old io))) }
         ensures quiet { PrintsNothing (U.told units.old) (U.told units.new) }
         ensures err { OnErr result (self.new ≡ self.old) }
+        ensures names { self.new.names ≡ self.old.names }
     {
         match given {
             Given::Value(value) => Ok(Some(value)),

@@ -52,6 +52,7 @@ impl World {
     pub fn enter_statement(&mut self, number: u32)
         ensures entered { (io : Io) → world_of self.new io ≡ enter_stmt number (world_of self.old io) }
         ensures silent { StaySilent self.old self.new }
+        ensures names { self.new.names ≡ self.old.names }
     {
         let count = counted(integer(&self.keywords, KeyId::StCount));
         let last = integer(&self.keywords, KeyId::StNo);
@@ -69,7 +70,8 @@ impl World {
 
     /// One more of them.
     pub(crate) fn deepen(&mut self)
-        ensures { (io : Io) → world_of self.new io ≡ deeper (world_of self.old io) }
+        ensures set { (io : Io) → world_of self.new io ≡ deeper (world_of self.old io) }
+        ensures names { self.new.names ≡ self.old.names }
     {
         let level = counted(integer(&self.keywords, KeyId::FncLevel));
         self.keywords.put(KeyId::FncLevel, level);
@@ -77,7 +79,8 @@ impl World {
 
     /// The keywords of the caller, as a call ends in this way.
     pub(crate) fn put_back(&mut self, kind: ReturnKind, statement: i64, level: i64)
-        ensures { (io : Io) → world_of self.new io ≡ with_caller kind statement level (world_of self.old io) }
+        ensures set { (io : Io) → world_of self.new io ≡ with_caller kind statement level (world_of self.old io) }
+        ensures names { self.new.names ≡ self.old.names }
     {
         self.keywords.put(KeyId::StNo, statement);
         self.keywords.put(KeyId::FncLevel, level);
@@ -87,7 +90,8 @@ impl World {
     /// A call passes by RETURN that a statement of its function gave its value.
     #[inline(always)]
     pub fn pass_call(&mut self, number: u32)
-        ensures { (io : Io) → world_of self.new io ≡ passed number (world_of self.old io) }
+        ensures passed { (io : Io) → world_of self.new io ≡ passed number (world_of self.old io) }
+        ensures names { self.new.names ≡ self.old.names }
     {
         let statement = self.statement();
         let level = self.level();
@@ -99,6 +103,7 @@ impl World {
     pub fn count_failure(&mut self)
         ensures counted { (io : Io) → world_of self.new io ≡ values.count_failure (world_of self.old io) }
         ensures silent { StaySilent self.old self.new }
+        ensures names { self.new.names ≡ self.old.names }
     {
         let count = counted(integer(&self.keywords, KeyId::StFCount));
         self.keywords.put(KeyId::StFCount, count);

@@ -121,6 +121,7 @@ impl World {
             ≡ Gives (record {}) (world_of self.new io) }
         ensures silent { StaySilent self.old self.new }
         ensures kept { result ≡ false → self.new ≡ self.old }
+        ensures names { self.new.names ≡ self.old.names }
     {
         let stored = self.heap.put_entry(object, index, Value::Integer(n));
         stored
@@ -216,6 +217,7 @@ impl World {
             → assign_op (name_of name.now) (value_of value.now) (world_of self.old io)
             ≡ Gives (record {}) (world_of self.new io) }
         ensures kept { result ≡ false → self.new ≡ self.old }
+        ensures names { self.new.names ≡ self.old.names }
     {
         match name {
             Name::Variable(_) => false,
@@ -243,6 +245,7 @@ impl World {
             ≡ Gives (record {}) (world_of self.new io) }
         ensures silent { StaySilent self.old self.new }
         ensures kept { result ≡ false → self.new ≡ self.old }
+        ensures names { self.new.names ≡ self.old.names }
     {
         let Ok(stored) = self
             .heap
@@ -262,6 +265,7 @@ impl World {
         ensures silent { StaySilent self.old self.new }
         ensures keys { self.new.keys ≡ self.old.keys }
         ensures kept { result ≡ false → self.new ≡ self.old }
+        ensures names { self.new.names ≡ self.old.names }
     {
         self.heap.put_written(object, index, Value::Integer(n))
     }
@@ -274,6 +278,7 @@ impl World {
             (slice_get (world_of self.old io).objects object)) (world_of self.old io)
             ≡ Gives (record {}) (world_of self.new io) }
         ensures kept { result ≡ false → self.new ≡ self.old }
+        ensures names { self.new.names ≡ self.old.names }
     {
         let Ok(value) = value.clone() else {
             return false;
@@ -323,6 +328,7 @@ impl World {
             (slice_get (world_of self.old io).objects object)) (world_of self.old io)) }
         ensures err { OnErr result (self.new ≡ self.old) }
         ensures stop { IfStopped result (λ stop. stop ≡ NoMemory) }
+        ensures names { self.new.names ≡ self.old.names }
     {
         if self.heap.set(object, place, value)? {
             return Ok(());

@@ -195,6 +195,7 @@ impl World {
         ensures ok { OnOk result ((io : Io)
             → world_of self.new io ≡ set_function name (function_of function) (world_of self.old io)) }
         ensures err { OnErr result (self.new ≡ self.old) }
+        ensures names { self.new.names ≡ self.old.names }
     {
         self.functions.put(name, function)
     }
@@ -224,6 +225,7 @@ impl World {
         ensures ok { OnOk result ((io : Io)
             → define_op entry (Some prototype) (world_of self.old io) ≡ Gives (Str []) (world_of self.new io)) }
         ensures err { OnErr result (self.new ≡ self.old) }
+        ensures names { self.new.names ≡ self.old.names }
     {
         let name = prototype.name().clone()?;
         let label = label_or(entry, &name)?;
@@ -239,6 +241,7 @@ impl World {
         ensures ok { OnOk result ((io : Io)
             → define_op entry (Some prototype) (world_of self.old io) ≡ Gives (Str []) (world_of self.new io)) }
         ensures err { OnErr result (self.new ≡ self.old) }
+        ensures names { self.new.names ≡ self.old.names }
     {
         let slots = self.slots_of(prototype.names())?;
         self.note_function(prototype.name(), slot_at(slots.as_slice(), 0))?;

@@ -25,6 +25,7 @@ impl World {
             (new_object (TableOf []) (world_of self.old io)) }
         ensures stop { IfStopped result (λ stop. stop ≡ NoMemory) }
         ensures err { OnErr result (self.new ≡ self.old) }
+        ensures names { self.new.names ≡ self.old.names }
     {
         let table = self.heap.new_table(alloc)?;
         Ok(Value::Object(table))
@@ -37,6 +38,7 @@ impl World {
             (copy_op (value_of value.now) (world_of self.old io)) }
         ensures stop { IfStopped result (λ stop. stop ≡ NoMemory) }
         ensures err { OnErr result (self.new ≡ self.old) }
+        ensures names { self.new.names ≡ self.old.names }
     {
         let Value::Object(object) = value else {
             return Err(Fault::Error(ErrorCode::WrongType));
@@ -73,6 +75,7 @@ impl World {
             (world_of self.old io)) }
         ensures stop { IfStopped result (λ stop. stop ≡ NoMemory) }
         ensures err { OnErr result (self.new ≡ self.old) }
+        ensures names { self.new.names ≡ self.old.names }
     {
         let Some(array) = self.heap.new_array(alloc, bounds, value)? else {
             return Err(Fault::Error(ErrorCode::BadArray));
@@ -88,6 +91,7 @@ impl World {
             (as_array (value_of value.now) (world_of self.old io)) }
         ensures stop { IfStopped result (λ stop. stop ≡ NoMemory) }
         ensures err { OnErr result (self.new ≡ self.old) }
+        ensures names { self.new.names ≡ self.old.names }
     {
         let Value::Object(object) = value else {
             return Ok(None);

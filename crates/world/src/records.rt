@@ -54,6 +54,7 @@ impl World {
             (world_of self.old io)) }
         ensures stop { IfStopped result (λ stop. stop ≡ NoMemory) }
         ensures err { OnErr result (self.new ≡ self.old) }
+        ensures names { self.new.names ≡ self.old.names }
     {
         let values = field_values(alloc, fields.as_slice(), arguments)?;
         let number = self

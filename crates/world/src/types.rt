@@ -43,6 +43,7 @@ impl World {
         ensures ok { OnOk result ((io : Io)
             → data_op (Some prototype.now) (world_of self.old io) ≡ Gives (Str []) (world_of self.new io)) }
         ensures err { OnErr result (self.new ≡ self.old) }
+        ensures names { self.new.names ≡ self.old.names }
     {
         let made = functions_of(alloc, prototype)?;
         self.functions.append(made)

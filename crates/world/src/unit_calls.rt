@@ -1,6 +1,6 @@
 //! Names that are fetched and assigned to. A variable may read its value from a unit, or write it to one.
 
-ghost use Rattle.std.specs.Prelude.{◌≡◌, ◌≢◌, ◌⊎◌, Some, None, Ok, length, option_map, IfOk, IfErr, OnOk, OnErr};
+ghost use Rattle.std.specs.Prelude.{◌≡◌, ◌≢◌, ◌⊎◌, Some, None, Ok, length, slice_get, option_map, IfOk, IfErr, OnOk, OnErr};
 ghost use Rattle.model.specs.Language.Io.{Io};
 ghost use Rattle.model.specs.Deck.Target.{Variable};
 ghost use Rattle.model.specs.Language.Operators.{fetch_op, take_record, as_read, assign_op};
@@ -35,6 +35,7 @@ impl World {
         ensures quiet { PrintsNothing (U.told units.old) (U.told units.new) }
         ensures err { OnErr result (self.new ≡ self.old) }
         ensures end { result ≡ Ok None → self.new ≡ self.old }
+        ensures names { self.new.names ≡ self.old.names }
     {
         self.fetch_at(units, name, NO_SLOT)
     }
@@ -53,6 +54,7 @@ impl World {
         ensures quiet { PrintsNothing (U.told units.old) (U.told units.new) }
         ensures err { OnErr result (self.new ≡ self.old) }
         ensures end { result ≡ Ok None → self.new ≡ self.old }
+        ensures names { self.new.names ≡ self.old.names }
     {
         match name {
             Name::Variable(name) => self.fetch_variable(units, name, slot),
@@ -62,6 +64,30 @@ impl World {
                 self.entry(*object as usize, Key::String(key.clone()?))
             }
         }
+    }
+
+    /// `fetch` of the variable of this name in a slot that it keeps. Names aren't compared.
+    #[inline(always)]
+    pub fn fetch_in<U: Units>(
+        &mut self,
+        units: &mut U,
+        name: &Text,
+        slot: u32,
+    ) -> Result<Option<Value>, Fault>
+        requires { slice_get self.old.names slot ≡ Some name.now }
+        ensures served { Served U.Units (stopped_by result) units.old units.new (λ io io'.
+            AnswersOrFails (answer_map (option_map value_of) result) (world_of self.new io')
+            (fetch_op (Variable name.now) (world_of self.old io))) }
+        ensures quiet { PrintsNothing (U.told units.old) (U.told units.new) }
+        ensures err { OnErr result (self.new ≡ self.old) }
+        ensures end { result ≡ Ok None → self.new ≡ self.old }
+        ensures names { self.new.names ≡ self.old.names }
+    {
+        let variable = self.variable_named(name, slot);
+        let Some(unit) = self.reads(variable) else {
+            return Ok(Some(variable.value.clone()?));
+        };
+        self.read(units, name, slot, unit)
     }
 
     // The value of a variable, or the next record of the unit that it reads from.
@@ -77,6 +103,7 @@ impl World {
         ensures quiet { PrintsNothing (U.told units.old) (U.told units.new) }
         ensures err { OnErr result (self.new ≡ self.old) }
         ensures end { result ≡ Ok None → self.new ≡ self.old }
+        ensures names { self.new.names ≡ self.old.names }
     {
         let unit = match self.variable(name, slot) {
             None => return Ok(Some(Value::null())),
@@ -103,6 +130,7 @@ impl World {
         ensures quiet { PrintsNothing (U.told units.old) (U.told units.new) }
         ensures err { OnErr result (self.new ≡ self.old) }
         ensures end { result ≡ Ok None → self.new ≡ self.old }
+        ensures names { self.new.names ≡ self.old.names }
     {
         match units.read_record(unit) {
             Ok(Some(line)) => self.take(name, slot, line),
@@ -119,6 +147,7 @@ impl World {
         ensures stop { IfStopped result (λ stop. stop ≡ NoMemory) }
         ensures err { OnErr result (self.new ≡ self.old) }
         ensures some { IfOk result (λ got. got ≢ None) }
+        ensures names { self.new.names ≡ self.old.names }
     {
         let text = self.as_read(line)?;
         if text.len() > self.keywords.longest() {
@@ -157,6 +186,7 @@ impl World {
         ensures ok { OnOk result (IsSet (name_of name.now) (value_of value) self.old self.new) }
         ensures err { OnErr result
             (IsSetOrKept (name_of name.now) (value_of value) self.old self.new) }
+        ensures names { self.new.names ≡ self.old.names }
     {
         self.assign_at(alloc, units, name, NO_SLOT, value)
     }
@@ -178,6 +208,7 @@ impl World {
         ensures ok { OnOk result (IsSet (name_of name.now) (value_of value) self.old self.new) }
         ensures err { OnErr result
             (IsSetOrKept (name_of name.now) (value_of value) self.old self.new) }
+        ensures names { self.new.names ≡ self.old.names }
     {
         match name {
             Name::Variable(name) => self.assign_variable(alloc, units, name, slot, value),
@@ -208,8 +239,35 @@ impl World {
         ensures ok { OnOk result (IsSet (Variable name.now) (value_of value) self.old self.new) }
         ensures err { OnErr result
             (IsSetOrKept (Variable name.now) (value_of value) self.old self.new) }
+        ensures names { self.new.names ≡ self.old.names }
     {
         match self.set(name, slot, value)? {
+            Some(unit) => self.write(alloc, units, name, slot, unit),
+            None => Ok(()),
+        }
+    }
+
+    /// `assign` to the variable of this name in a slot that it keeps. Names aren't compared.
+    #[inline(always)]
+    pub fn assign_in<U: Units>(
+        &mut self,
+        alloc: Global,
+        units: &mut U,
+        name: &Text,
+        slot: u32,
+        value: Value,
+    ) -> Result<(), Fault>
+        requires { slice_get self.old.names slot ≡ Some name.now }
+        ensures served { Served U.Units (stopped_by result) units.old units.new (λ io io'.
+            AnswersAs (done result) (world_of self.new io')
+            (assign_op (Variable name.now) (value_of value) (world_of self.old io))) }
+        ensures quiet { IsQuiet (stopped_by result) (U.told units.old) (U.told units.new) }
+        ensures ok { OnOk result (IsSet (Variable name.now) (value_of value) self.old self.new) }
+        ensures err { OnErr result
+            (IsSetOrKept (Variable name.now) (value_of value) self.old self.new) }
+        ensures names { self.new.names ≡ self.old.names }
+    {
+        match self.set_in(name, slot, value) {
             Some(unit) => self.write(alloc, units, name, slot, unit),
             None => Ok(()),
         }
@@ -231,6 +289,7 @@ impl World {
         ensures quiet { IsQuiet (stopped_by result) (U.told units.old) (U.told units.new) }
         ensures only { (self.new ≡ self.old) ⊎
             ((v : MVal) × IsSet (name_of name.now) v self.old self.new) }
+        ensures names { self.new.names ≡ self.old.names }
     {
         self.splice_at(alloc, units, name, NO_SLOT, span, value)
     }
@@ -252,9 +311,34 @@ impl World {
         ensures quiet { IsQuiet (stopped_by result) (U.told units.old) (U.told units.new) }
         ensures only { (self.new ≡ self.old) ⊎
             ((v : MVal) × IsSet (name_of name.now) v self.old self.new) }
+        ensures names { self.new.names ≡ self.old.names }
     {
         let whole = self.replaced(alloc, span, value)?;
         self.assign_at(alloc, units, name, slot, whole)
+    }
+
+    /// `splice` of the variable of this name in a slot that it keeps. Names aren't compared.
+    pub fn splice_in<U: Units>(
+        &mut self,
+        alloc: Global,
+        units: &mut U,
+        name: &Text,
+        slot: u32,
+        span: &Span,
+        value: &Value,
+    ) -> Result<(), Fault>
+        requires { slice_get self.old.names slot ≡ Some name.now }
+        ensures served { Served U.Units (stopped_by result) units.old units.new (λ io io'.
+            AnswersAs (done result) (world_of self.new io')
+            (splice_op (Variable name.now) span.now.subject span.now.start span.now.end
+            (value_of value.now) (world_of self.old io))) }
+        ensures quiet { IsQuiet (stopped_by result) (U.told units.old) (U.told units.new) }
+        ensures only { (self.new ≡ self.old) ⊎
+            ((v : MVal) × IsSet (Variable name.now) v self.old self.new) }
+        ensures names { self.new.names ≡ self.old.names }
+    {
+        let whole = self.replaced(alloc, span, value)?;
+        self.assign_in(alloc, units, name, slot, whole)
     }
 
     // Writes a variable's value, unless `&OUTPUT` is 0.

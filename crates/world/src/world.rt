@@ -1,7 +1,8 @@
 //! The world of a run.
 
 ghost use Rattle.std.specs.Prelude.{◌≡◌, ◌<◌, ◌≤◌, ◌+◌, ◌^◌, ◌∷◌, ◌++◌, ℕ, [], take, drop, length, pos, Some, None, is_some, option_copied};
-ghost use Rattle.std.specs.Prelude.{IfOk, IfSome, true, false, OnOk, OnErr, if◌then◌else◌};
+ghost use Rattle.std.specs.Prelude.{IfOk, IfSome, true, false, OnOk, OnErr, slice_get, if◌then◌else◌};
+ghost use Rattle.std.specs.Map.{keys_of, values_of};
 ghost use Rattle.model.specs.Deck.Target as target;
 ghost use Rattle.model.specs.Deck.Trees.{Bytes};
 ghost use Rattle.model.specs.Language.Conversions.{Gives};
@@ -14,7 +15,7 @@ ghost use Rattle.model.specs.Laws.Agreement.{first_m};
 ghost use Rattle.model.specs.Laws.PrintedBefore.{after_w};
 ghost use Rattle.pattern_compiler.specs.View.{name_of};
 ghost use Rattle.world.specs.Values.{value_of};
-ghost use Rattle.world.specs.Held.{world_of, IsPlain, StandsIn, name_at, zero_in, variable_at, value_in};
+ghost use Rattle.world.specs.Held.{world_of, IsPlain, StandsAs, StandsIn, name_at, zero_in, variable_at, value_in};
 ghost use Rattle.world.specs.Held.{Holds, IsLeftOf, IsSilent, StaySilent};
 ghost use Rattle.world.specs.Held.{input_in, output_in};
 ghost use Rattle.world.specs.Calling.{AreSaved};
@@ -171,6 +172,8 @@ pub struct World {
     pub(crate) keywords: Keywords,
     // Of the module that runs.
     level: Level,
+    // Of the variables in the first slots, which never leave them.
+    names: Vec<Text>,
 }
 
 impl Drop for World {
@@ -181,12 +184,13 @@ impl Drop for World {
             functions: _,
             keywords: _,
             level: _,
+            names: _,
         } = self;
     }
 }
 
 impl Model for World {
-    ghost use Rattle.world.specs.Held.{WorldView};
+    ghost use Rattle.world.specs.Held.{AreNamed, WorldView};
 
     ghost Value = { WorldView };
 
@@ -196,7 +200,10 @@ impl Model for World {
       functions = w.functions;
       keys = w.keywords;
       level = w.level;
+      names = w.names.items;
     } };
+
+    ghost invariant = { λ w. AreNamed w.names.items w.variables.entries };
 }
 
 impl World {
@@ -214,6 +221,7 @@ impl World {
             functions: FunctionTable::new(alloc),
             keywords,
             level,
+            names: Vec::new(alloc),
         };
         world.put_patterns(alloc)?;
         world.put_units(alloc)?;
@@ -283,6 +291,7 @@ impl World {
         ensures slot { IfOk result (λ slot. name_at slot self.new.variables ≡ Some name.now) }
         ensures unseen { (io : Io) → world_of self.new io ≡ world_of self.old io }
         ensures err { OnErr result (self.new ≡ self.old) }
+        ensures names { self.new.names ≡ self.old.names }
     {
         if let Some(slot) = self.slot(name, NO_SLOT) {
             let Ok(slot) = u32::try_from(slot) else {
@@ -356,6 +365,126 @@ impl World {
             }
         }
         self.find_variable(name)
+    }
+
+    /// From now on each variable that is there keeps its slot, which `names` says. No meaning sees that.
+    pub fn keep_slots(&mut self) -> Result<(), AllocError>
+        ensures names { OnOk result (self.new.names ≡ keys_of self.old.variables) }
+        ensures variables { self.new.variables ≡ self.old.variables }
+        ensures unseen { (io : Io) → world_of self.new io ≡ world_of self.old io }
+        ensures err { OnErr result (self.new ≡ self.old) }
+    {
+        let names = names_in(self.alloc(), &self.variables)?;
+        self.names = names;
+        Ok(())
+    }
+
+    /// Whether the variable in a slot keeps it and has this name.
+    pub fn is_named(&self, slot: u32, name: &Text) -> bool
+        ensures { result ≡ true → slice_get self.now.names slot ≡ Some name.now }
+    {
+        match self.names.get(slot as usize) {
+            Some(named) => *named == *name,
+            None => false,
+        }
+    }
+
+    // The variable in a slot that it keeps.
+    #[inline(always)]
+    fn variable_in(&self, slot: u32) -> &Variable
+        requires { slot < length self.now.names }
+        ensures stands { (x : Bytes) → slice_get self.now.names slot ≡ Some x
+            → StandsAs x slot result.now self.now.variables }
+        ensures held { slice_get (values_of self.now.variables) slot ≡ Some result.now }
+    {
+        let _count = self.variables.len();
+        &self.variables[slot as usize]
+    }
+
+    // The variable of this name in a slot that it keeps. Names aren't compared.
+    #[inline(always)]
+    pub(crate) fn variable_named(&self, name: &Text, slot: u32) -> &Variable
+        requires { slice_get self.now.names slot ≡ Some name.now }
+        ensures { variable_at name.now self.now.variables ≡ Some result.now }
+    {
+        let _name = name;
+        self.variable_in(slot)
+    }
+
+    /// The value of the variable in a slot that it keeps, if it reads from no unit.
+    #[inline(always)]
+    pub fn plain_in(&self, slot: u32) -> Option<&Value>
+        requires { slot < length self.now.names }
+        ensures { IfSome result (λ value. (x : Bytes) → slice_get self.now.names slot ≡ Some x → (io : Io)
+            → fetch_op (target.Variable x) (world_of self.now io)
+            ≡ Gives (value_of value.now) (world_of self.now io)) }
+    {
+        let variable = self.variable_in(slot);
+        match variable.input {
+            None => Some(&variable.value),
+            Some(_) => None,
+        }
+    }
+
+    /// The integer that the variable in a slot that it keeps holds, if it reads from no unit.
+    #[inline(always)]
+    pub fn integer_in(&self, slot: u32) -> Option<i64>
+        requires { slot < length self.now.names }
+        ensures { IfSome result (λ n. (x : Bytes) → slice_get self.now.names slot ≡ Some x → (io : Io)
+            → fetch_op (target.Variable x) (world_of self.now io) ≡ Gives (Int n) (world_of self.now io)) }
+    {
+        let Some(Value::Integer(n)) = self.plain_in(slot) else {
+            return None;
+        };
+        Some(*n)
+    }
+
+    /// Whether the variable in a slot that it keeps writes to no unit.
+    #[inline(always)]
+    pub fn takes_in(&self, slot: u32) -> bool
+        requires { slot < length self.now.names }
+        ensures { result ≡ true → (x : Bytes) → slice_get self.now.names slot ≡ Some x
+            → IsPlain (target.Variable x) slot self.now }
+    {
+        match self.variable_in(slot).output {
+            None => true,
+            Some(_) => false,
+        }
+    }
+
+    /// Whether the variable in a slot that it keeps neither reads from a unit nor writes to one.
+    #[inline(always)]
+    pub fn is_silent_in(&self, slot: u32) -> bool
+        requires { slot < length self.now.names }
+        ensures { result ≡ true → (x : Bytes) → slice_get self.now.names slot ≡ Some x
+            → IsSilent x slot self.now }
+    {
+        let variable = self.variable_in(slot);
+        let None = variable.output else {
+            return false;
+        };
+        let None = variable.input else {
+            return false;
+        };
+        true
+    }
+
+    /// The value of the variable in a slot that it keeps, if it neither reads from a unit nor writes to one.
+    #[inline(always)]
+    pub fn silent_in(&self, slot: u32) -> Option<&Value>
+        requires { slot < length self.now.names }
+        ensures silent { IfSome result (λ _. (x : Bytes) → slice_get self.now.names slot ≡ Some x
+            → IsSilent x slot self.now) }
+        ensures held { IfSome result (λ value. Holds slot value.now self.now) }
+    {
+        let variable = self.variable_in(slot);
+        let None = variable.output else {
+            return None;
+        };
+        let None = variable.input else {
+            return None;
+        };
+        Some(&variable.value)
     }
 
     /// The value of the variable in a slot, if it has this name and reads from no unit.
@@ -479,6 +608,7 @@ impl World {
         ensures silent { StaySilent self.old self.new }
         ensures apart { (at : ℕ) (u : Value) → (at ≡ slot → ⊥) → Holds at u self.old → Holds at u self.new }
         ensures keys { self.new.keys ≡ self.old.keys }
+        ensures names { self.new.names ≡ self.old.names }
     {
         let Some(variable) = self.variables.get_index_mut(slot as usize) else {
             return;
@@ -508,8 +638,49 @@ impl World {
             × ((io : Io) → assign_op (target.Variable name.now) (Str ((u ++ one.now) ++ two.now)) (world_of self.old io)
             ≡ Gives (record {}) (world_of self.new io)) }
         ensures kept { result ≡ false → self.new ≡ self.old }
+        ensures names { self.new.names ≡ self.old.names }
     {
         let Some(Value::String(text)) = self.silent(name, slot) else {
+            return false;
+        };
+        let front = text.len();
+        let middle = one.len();
+        let back = two.len();
+        if filled && front == 0 {
+            return false;
+        }
+        if front > limit || middle > limit - front || back > limit - front - middle {
+            return false;
+        }
+        let Some(found) = self.variables.get_index_mut(slot as usize) else {
+            return false;
+        };
+        found.lengthen(alloc, one, two)
+    }
+
+    /// `lengthen` of the variable in a slot that it keeps.
+    #[inline(always)]
+    pub fn lengthen_in(
+        &mut self,
+        alloc: Global,
+        slot: u32,
+        one: &Text,
+        two: &Text,
+        filled: bool,
+        limit: usize,
+    ) -> bool
+        requires { slot < length self.old.names }
+        ensures made { result ≡ true → (x : Bytes) → slice_get self.old.names slot ≡ Some x → (u : Bytes)
+            × ((io : Io) → fetch_op (target.Variable x) (world_of self.old io)
+            ≡ Gives (Str u) (world_of self.old io))
+            × (length u + (length one.now + length two.now) ≤ limit)
+            × (filled ≡ true → 0 < length u)
+            × ((io : Io) → assign_op (target.Variable x) (Str ((u ++ one.now) ++ two.now)) (world_of self.old io)
+            ≡ Gives (record {}) (world_of self.new io)) }
+        ensures kept { result ≡ false → self.new ≡ self.old }
+        ensures names { self.new.names ≡ self.old.names }
+    {
+        let Some(Value::String(text)) = self.silent_in(slot) else {
             return false;
         };
         let front = text.len();
@@ -543,6 +714,7 @@ impl World {
         ensures set { (u : Bytes) (name : target.Name) → Holds slot (String u) self.old → count ≤ length u
             → IsPlain name slot self.old → (io : Io)
             → assign_op name (Str (drop count u)) (world_of self.old io) ≡ Gives (record {}) (world_of self.new io) }
+        ensures names { self.new.names ≡ self.old.names }
     {
         let Some(found) = self.variables.get_index_mut(slot as usize) else {
             return;
@@ -557,6 +729,7 @@ impl World {
             → length u ≤ 22 → IsPlain name slot self.old → (io : Io)
             → assign_op name (Str (take place u ++ drop (place + 1) u)) (world_of self.old io)
             ≡ Gives (record {}) (world_of self.new io) }
+        ensures names { self.new.names ≡ self.old.names }
     {
         let Some(found) = self.variables.get_index_mut(slot as usize) else {
             return;
@@ -587,6 +760,7 @@ impl World {
             ((io : Io) → world_of self.new io
             ≡ set_var name.now (value_of value) (world_of self.old io)) }
         ensures err { OnErr result (self.new ≡ self.old) }
+        ensures names { self.new.names ≡ self.old.names }
     {
         let variable = Variable::holding(value);
         let _none = self.variables.insert(name.clone()?, variable)?;
@@ -606,6 +780,7 @@ impl World {
         ensures output { IfOk result (λ unit.
             unit ≡ output_in (variable_at name.now self.old.variables)) }
         ensures err { OnErr result (self.new ≡ self.old) }
+        ensures names { self.new.names ≡ self.old.names }
     {
         let Some(at) = self.slot(name, slot) else {
             self.set_new(name, value)?;
@@ -620,6 +795,26 @@ impl World {
         }
     }
 
+    /// Gives the variable of this name in a slot that it keeps another value, and tells the unit that it writes to. Names
+    /// aren't compared.
+    #[inline(always)]
+    pub(crate) fn set_in(&mut self, name: &Text, slot: u32, value: Value) -> Option<u8>
+        requires { slice_get self.old.names slot ≡ Some name.now }
+        ensures set { (io : Io) → world_of self.new io
+            ≡ set_var name.now (value_of value) (world_of self.old io) }
+        ensures output { result ≡ output_in (variable_at name.now self.old.variables) }
+        ensures names { self.new.names ≡ self.old.names }
+    {
+        let _name = name;
+        match self.variables.get_index_mut(slot as usize) {
+            Some(variable) => {
+                variable.set(value);
+                variable.output
+            }
+            None => unreachable!(),
+        }
+    }
+
     // Puts a variable in that isn't there, with a value which becomes null.
     #[cold]
     #[inline(never)]
@@ -629,6 +824,7 @@ impl World {
             ((io : Io) → world_of self.new io
             ≡ set_var name.now (value_of value.old) (world_of self.old io)) }
         ensures had { value_of value.new ≡ value_in (variable_at name.now self.old.variables) }
+        ensures names { self.new.names ≡ self.old.names }
     {
         let new = mem::replace(value, Value::null());
         self.set_new(name, new)
@@ -647,6 +843,7 @@ impl World {
             ≡ set_var name.now (value_of value.old) (world_of self.old io)) }
         ensures had { OnOk result
             (value_of value.new ≡ value_in (variable_at name.now self.old.variables)) }
+        ensures names { self.new.names ≡ self.old.names }
     {
         let Some(at) = self.slot(name, slot) else {
             return self.exchange_new(name, value);
@@ -671,6 +868,7 @@ impl World {
             ((io : Io) → world_of self.new io
             ≡ set_var name.now (value_of value) (world_of self.old io)) }
         ensures had { OnOk result (AreSaved (name.now ∷ []) saved.old.items saved.new.items self.old) }
+        ensures names { self.new.names ≡ self.old.names }
     {
         if saved.len() >= saved.capacity() {
             saved.reserve(1)?;
@@ -699,6 +897,7 @@ impl World {
             ≡ set_var name.now (value_of value) (world_of self.old io)) }
         ensures had { IfOk result (λ had.
             value_of had ≡ value_in (variable_at name.now self.old.variables)) }
+        ensures names { self.new.names ≡ self.old.names }
     {
         let Some(at) = self.slot(name, slot) else {
             self.set_new(name, value)?;
@@ -719,9 +918,10 @@ impl World {
         saved: &mut Vec<Value>,
     ) -> Result<(), AllocError>
         requires { 0 < length saved.old.items }
-        ensures { OnOk result ((value : Value) × (saved.old.items ≡ saved.new.items ++ value ∷ [])
+        ensures set { OnOk result ((value : Value) × (saved.old.items ≡ saved.new.items ++ value ∷ [])
             × ((io : Io) → world_of self.new io
             ≡ set_var name.now (value_of value) (world_of self.old io))) }
+        ensures names { self.new.names ≡ self.old.names }
     {
         let Some(at) = self.slot(name, slot) else {
             let Some(value) = saved.pop() else {
@@ -766,6 +966,7 @@ impl World {
             ((io : Io) → world_of self.new io
             ≡ set_writes name.now output (set_reads name.now input (world_of self.old io))) }
         ensures err { OnErr result (self.new ≡ self.old) }
+        ensures names { self.new.names ≡ self.old.names }
     {
         if let Some(variable) = self.variables.get_mut(name) {
             variable.set_units(input, output);
@@ -775,6 +976,20 @@ impl World {
         let _none = self.variables.insert(name.clone()?, variable)?;
         Ok(())
     }
+}
+
+// The names of variables, in their order.
+fn names_in(alloc: Global, variables: &IndexMap<Text, Variable>) -> Result<Vec<Text>, AllocError>
+    ensures { IfOk result (λ names. names.items ≡ keys_of variables.now.entries) }
+{
+    let mut names = Vec::new(alloc);
+    for at in 0..variables.len() {
+        let Some((name, _variable)) = variables.get_index(at) else {
+            unreachable!()
+        };
+        names.push(name.clone()?)?;
+    }
+    Ok(names)
 }
 
 /// Whether a keyword holds the integer 0.

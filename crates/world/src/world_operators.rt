@@ -236,8 +236,9 @@ impl World {
 
     /// Assigns to a keyword; a refused assignment changes nothing.
     pub fn set_keyword(&mut self, id: KeyId, value: &Value) -> Result<(), ErrorCode>
-        ensures { (io : Io) → op_of (done result) (world_of self.new io)
+        ensures set { (io : Io) → op_of (done result) (world_of self.new io)
             ≡ keyset_op id (value_of value.now) (world_of self.old io) }
+        ensures names { self.new.names ≡ self.old.names }
     {
         let n = value.to_int()?;
         let Ok(()) = self.keywords.set(id, n) else {

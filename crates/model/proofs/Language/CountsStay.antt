@@ -1,14 +1,16 @@
 -- Going deeper, the rules used stay where something was found, told or answered.
-use Rattle.std.proofs.Common.{◌≡◌, ℕ, zero, suc, ◌+◌, ◌-◌, ◌≤◌, List, [], ◌∷◌, Option, Some, None, refl, sym, ap, ◌∙◌, subst, arith}
+use Rattle.std.proofs.Common.{◌≡◌, ℕ, zero, suc, ◌+◌, ◌-◌, ◌≤◌, List, [], ◌∷◌, ◌++◌, Option, Some, None, refl, sym, ap, ◌∙◌, subst, arith}
 use Rattle.model.specs.Deck.Trees.{Nil, More, Absent, Given, Expr}
 use Rattle.model.specs.Language.Programs.{Program, program}
-use Rattle.model.specs.Pattern.Patterns.{Basic, Pat, Plain, Succeed, Abort, Fence, Cat, Alt, Arbno, FenceOf, Cond, Imm, At, Defer, DeferBasic, Kind, Pending, Want, Answer, IsPattern, IsSaid, Ask, AskFor, SayThat, with_answer, Running, Failed, Asks, Matched}
+use Rattle.model.specs.Pattern.Patterns.{Basic, Pat, Plain, Succeed, Abort, Fence, Cat, Alt, Arbno, FenceOf, Cond, Imm, At, Defer, DeferBasic, Kind, Pending, Want, Answer, IsPattern, IsFailed, IsSaid, Ask, AskFor, SayThat, with_answer, Running, Failed, Asks, Matched}
 use Rattle.model.specs.Pattern.BasicEnds.{ends_at}
 use Rattle.model.specs.Pattern.Search.{Hit, Miss, Stop, Deep, Wait, on_miss, on_hit, try_each, Goal, Part, Closing, Saying, Found', Script, SearchOn, told_that, given_pattern, given_argument, search_rule as search_rule, search, started, scan}
 use Rattle.model.specs.Language.Operators.{assign_op, told_value}
-use Rattle.model.specs.Language.Meaning.{Val, W, Res, Done, Fails, Ends, Open, Settled, Query, QVal, QName, QArgs, QBody, QExec, QMatch, Span, Rule, Ret, Fail, Stop as Stops, Ask as Asking, Seek, SearchEvent, told_at, match_rule, sought, rule, run_rule, after, follow, meaning}
+use Rattle.model.specs.Language.Conversions.{Conv, Got, Bad, Op, Gives, Refuses, Faults, answer_of}
+use Rattle.model.specs.Language.Values.{pattern_trees}
+use Rattle.model.specs.Language.Meaning.{Val, W, Res, Done, Fails, Ends, Open, Settled, Query, QVal, QName, QArgs, QBody, QExec, QMatch, Span, Rule, Ret, Fail, Stop as Stops, Ask as Asking, Seek, SearchEvent, told_at, again, answering, doing, match_rule, sought, rule, run_rule, after, follow, meaning}
 use Rattle.model.specs.Laws.Agreement.{first_w}
-use Rattle.model.specs.Language.RulesUsed.{if_missed, if_hit, end_counts, each_count, told_count, given_count, argument_count, NextCount, rule_count, search_count, scan_count, said_count, evaluated_count, match_count, own_count, after_count, event_count, follow_count, query_count, rules_used}
+use Rattle.model.specs.Language.RulesUsed.{if_missed, if_hit, end_counts, each_count, told_count, given_count, argument_count, NextCount, rule_count, search_count, scan_count, said_count, evaluated_count, match_count, own_count, WithAnswer, onward_count, answer_count, after_count, event_count, follow_count, query_count, rules_used}
 use Rattle.model.specs.Laws.Meaning.{AnswersStay, MatchesStay, CountsStay, RulesStay}
 use Rattle.model.proofs.Pattern.SearchGrows.{Grows as Finds, NextGrows, search_grows, EventGrows, scan_grows}
 use Rattle.model.proofs.Language.MeaningGrows.{Before, Goes_on, Later, later, Grows, same, open_to, at_depth, zero_and, suc_and, grows, stays, follow_stays}
@@ -168,10 +170,6 @@ after_same v k f i j p q x y (same {r = Ends e w}) b h hk hf = ap (λ n. n + 0) 
 after_same v k f i j p q x y (same {r = Open w}) b h hk hf = tt
 after_same v k f i j p q x y (open_to l) b h hk hf = tt
 
-evaluated_same : {A : Type 0} {r r' : Res Val} (f : Val → W → Res A) (g : W → Res A) (k : Want) (i j : ℕ) → j ≡ i → Grows r r' → Same (after r f g) (evaluated_count i k r) (evaluated_count j k r')
-evaluated_same f g k i j h (same {r = r}) = same_of (after r f g) (ap (λ l. evaluated_count l k r) h)
-evaluated_same f g k i j h (open_to l) = tt
-
 sought_same : {A : Type 0} (v : W) (o o' : Option SearchEvent) (k : SearchEvent → Res A) (p q : SearchEvent → ℕ) → ((e : SearchEvent) → o ≡ Some e → o' ≡ Some e) → ((e : SearchEvent) → Same (k e) (p e) (q e)) → Same (sought o v k) (event_count o p) (event_count o' q)
 sought_same v None o' k p q st h = tt
 sought_same v (Some e) o' k p q st h = subst (λ o. Same (k e) (p e) (event_count o q)) (sym (st e refl)) (h e)
@@ -188,17 +186,63 @@ module _ (prog : Program) where
       after_same w _ _ _ _ _ _ _ _ (grows prog (on prog) n q w) (later prog (on prog) n q w) (h q w) (λ a u b. follow_same n h u (k a u) (g.1 a u b)) (λ u b. follow_same n h u (f u) (g.2 u b))
   follow_same n h v (Seek s w k) g = sought_same w (s (suc n)) (s (suc (suc n))) _ _ _ (λ e x. g.1 (suc n) e x) (λ e. follow_same n h w (k e) (g.2 e))
 
+  -- where the search with one more answer comes to nothing, the match is open
+  not_told : (n : ℕ) (s : List ℕ) (p : Pat) (left : ℕ) (t : Script) (w : W) → scan s n p left 0 t ≡ Running → meaning prog n (QMatch s p left t) w ≡ Open w
+  unfolding meaning
+  not_told zero s p left t w h = refl
+  not_told (suc n) s p left t w h = ap (λ x. sought (told_at x) w (λ e. follow (suc n) (λ r u. meaning prog n r u) (match_rule s p left t w e))) h
+
+  module _ (n : ℕ) (s : List ℕ) (p : Pat) (left : ℕ) (t : Script) (i j : ℕ) (e : j ≡ i) where
+    N : WithAnswer
+    N y = scan s n p left 0 (t ++ y ∷ [])
+
+    M : WithAnswer
+    M y = scan s (suc n) p left 0 (t ++ y ∷ [])
+
+    onward_same : {A : Type 0} (r : Res A) (x y : SearchEvent) → EventGrows x y → (x ≡ Running → Same r (onward_count i x) (onward_count j y)) → Same r (onward_count i x) (onward_count j y)
+    onward_same r Running y g h = h refl
+    onward_same r Failed y g h = same_of r (ap (onward_count j) g)
+    onward_same r (Asks v) y g h = same_of r (ap (onward_count j) g)
+    onward_same r (Matched b c a) y g h = same_of r (ap (onward_count j) g)
+
+    again_same : (y : Answer Pat) (w : W) → Same (at_depth prog n (again s p left t y w)) (onward_count i (N y)) (onward_count j (M y))
+    unfolding N M
+    again_same y w =
+        onward_same (at_depth prog n (again s p left t y w)) (N y) (M y) (scan_grows s n p left 0 (t ++ y ∷ []))
+        (λ h. subst (λ r. Same (after r (λ a u. Done a u) (λ u. Fails u)) (onward_count i (N y)) (onward_count j (M y))) (sym (not_told n s p left (t ++ y ∷ []) w h)) tt)
+
+    answer_same : (c : Conv (Answer Pat)) (w : W) → Same (at_depth prog n (answering s p left t c w)) (answer_count N i c) (answer_count M j c)
+    answer_same (Got y) w = again_same y w
+    answer_same (Bad x) w = e
+
+    said_same : (o : Op W (record {})) → Same (at_depth prog n (doing o (λ _ w1. again s p left t IsSaid w1))) (said_count N i o) (said_count M j o)
+    said_same (Gives a w) = again_same IsSaid w
+    said_same (Refuses w) = e
+    said_same (Faults x w) = e
+
+    evaluated_same : (k : Want) {r r' : Res Val} → Grows r r'
+        → Same (after r (λ v w1. at_depth prog n (answering s p left t (answer_of pattern_trees k v) w1)) (λ w1. at_depth prog n (again s p left t IsFailed w1))) (evaluated_count N i k r) (evaluated_count M j k r')
+    evaluated_same k (same {r = Done v w}) = answer_same (answer_of pattern_trees k v) w
+    evaluated_same k (same {r = Fails w}) = again_same IsFailed w
+    evaluated_same k (same {r = Ends x w}) = e
+    evaluated_same k (same {r = Open w}) = tt
+    evaluated_same k (open_to l) = tt
+
   -- a match's own: where it ends the run at a question, what is asked has ended it
   match_same : (n : ℕ) (s : List ℕ) (p : Pat) (left : ℕ) (t : Script) (w : W) (x y : SearchEvent) (i j : ℕ) → EventGrows x y → EventKept x i j
-      → Same (sought (told_at x) w (λ e. follow (suc n) (λ r u. meaning prog n r u) (match_rule s p left t w e))) (match_count (λ r u. meaning prog n r u) x i w) (match_count (λ r u. meaning prog (suc n) r u) y j w)
+      → Same (sought (told_at x) w (λ e. follow (suc n) (λ r u. meaning prog n r u) (match_rule s p left t w e)))
+      (match_count (λ r u. meaning prog n r u) (λ a. scan s n p left 0 (t ++ a ∷ [])) x i w) (match_count (λ r u. meaning prog (suc n) r u) (λ a. scan s (suc n) p left 0 (t ++ a ∷ [])) y j w)
+  unfolding N M
   match_same n s p left t w Running y i j g h = tt
-  match_same n s p left t w Failed y i j g h = subst (λ z. match_count (λ r u. meaning prog (suc n) r u) z j w ≡ i) (sym g) h
+  match_same n s p left t w Failed y i j g h = subst (λ z. match_count (λ r u. meaning prog (suc n) r u) (M n s p left t i j h) z j w ≡ i) (sym g) h
   match_same n s p left t w (Matched b e a) y i j g h =
-      same_of _ (subst (λ z. match_count (λ r u. meaning prog (suc n) r u) z j w ≡ i) (sym g) h)
+      same_of _ (subst (λ z. match_count (λ r u. meaning prog (suc n) r u) (M n s p left t i j h) z j w ≡ i) (sym g) h)
   match_same n s p left t w (Asks (SayThat x v)) y i j g h =
-      same_of _ (subst (λ z. match_count (λ r u. meaning prog (suc n) r u) z j w ≡ said_count i (assign_op x (told_value v) w)) (sym g) (ap (λ k. said_count k (assign_op x (told_value v) w)) h))
+      let o : Op W (record {}) = assign_op x (told_value v) w in
+      subst (λ z. Same (at_depth prog n (doing o (λ _ w1. again s p left t IsSaid w1))) (said_count (N n s p left t i j h) i o) (match_count (λ r u. meaning prog (suc n) r u) (M n s p left t i j h) z j w)) (sym g) (said_same n s p left t i j h o)
   match_same n s p left t w (Asks (AskFor e k)) y i j g h =
-      subst (λ z. Same {A = Span} (sought (told_at (Asks (AskFor e k))) w (λ x. follow (suc n) (λ r u. meaning prog n r u) (match_rule s p left t w x))) (evaluated_count i k (meaning prog n (QVal e) w)) (match_count (λ r u. meaning prog (suc n) r u) z j w)) (sym g) (evaluated_same _ _ k i j h (grows prog (on prog) n (QVal e) w))
+      subst (λ z. Same {A = Span} (sought (told_at (Asks (AskFor e k))) w (λ x. follow (suc n) (λ r u. meaning prog n r u) (match_rule s p left t w x))) (evaluated_count (N n s p left t i j h) i k (meaning prog n (QVal e) w)) (match_count (λ r u. meaning prog (suc n) r u) (M n s p left t i j h) z j w)) (sym g)
+      (evaluated_same n s p left t i j h k (grows prog (on prog) n (QVal e) w))
 
   own_same : (n : ℕ) (q : Query) (w : W) → Same (meaning prog (suc n) q w) (own_count prog (suc n) (λ r u. meaning prog n r u) q w) (own_count prog (suc (suc n)) (λ r u. meaning prog (suc n) r u) q w)
   unfolding meaning

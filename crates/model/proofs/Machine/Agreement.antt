@@ -125,7 +125,7 @@ module _ (prog : Program) (img : Module) (trees_at : ℕ → Option Expr) (place
       let swap : k + j ≡ j + k = omega arith in
       sym (over_on k j e m1 h) ∙ ap (λ n. state_at img n m) swap ∙ over_on j k f m2 g
 
-  still_prints : (s : State) (v : W) → Still prog img trees_at s v → printed_of (world_of_state s) ≡ printed_of v
+  pub still_prints : (s : State) (v : W) → Still prog img trees_at s v → printed_of (world_of_state s) ≡ printed_of v
   still_prints (Run p o h f m) v x = x
   still_prints (InMatch g st f m) v x = x
   still_prints (Over e m) v x = absurd x
@@ -146,7 +146,7 @@ module _ (prog : Program) (img : Module) (trees_at : ℕ → Option Expr) (place
       IsNone None = Unit {0}
       IsNone (Some e) = ⊥
 
-  seen_printed : (s : State) → (seen_at s).printed ≡ printed_of (world_of_state s)
+  pub seen_printed : (s : State) → (seen_at s).printed ≡ printed_of (world_of_state s)
   seen_printed (Run p o h f m) = refl
   seen_printed (InMatch g st f m) = refl
   seen_printed (Over e m) = refl

@@ -221,7 +221,7 @@ module _ (prog : Program) (img : Module) (trees_at : ℕ → Option Expr) where
   follow_fits n sim r b c Q F (Seek g w k) x =
       seek_fits n c Q F g w k (λ e h. let y = x.1 (suc n) e h in fits_from y.0 0 0 c Q F (at_depth prog n (k e)) zero-le (follow_fits n sim y.1 1 (steps img y.0 c) Q F (k e) y.3)) x.3
 
-  start_prints : (q : Query) (t : Task q) (w : W) (w' : MW) → printed_of w' ≡ printed_of w → Still (start q t w') w
+  pub start_prints : (q : Query) (t : Task q) (w : W) (w' : MW) → printed_of w' ≡ printed_of w → Still (start q t w') w
   start_prints (QVal e) t w w' h = h
   start_prints (QName e) t w w' h = h
   start_prints (QArgs xs) t w w' h = h

@@ -2,35 +2,43 @@
 use Rattle.std.proofs.Common.{ℕ, suc, ◌+◌, ◌*◌, ◌≤◌, Option, sym, subst, arith}
 use Rattle.model.specs.Deck.Trees.{Expr}
 use Rattle.model.specs.Language.Programs.{Program}
-use Rattle.model.specs.Language.Meaning.{W, Res, Done, Fails, Ends, Open, Query, QVal, QName, QArgs, QBody, QExec, QMatch, Rule, Ret, Fail, Stop, Ask, Seek, after, meaning}
+use Rattle.model.specs.Language.Meaning.{W, Res, Done, Fails, Ends, Open, Query, QVal, QName, QArgs, QBody, QExec, QMatch, SearchEvent, Rule, Ret, Fail, Stop, Ask, Seek, after, meaning}
 use Rattle.model.specs.Machine.Steps.{MW, Module, State, steps}
+use Rattle.model.specs.Pattern.Patterns.{Running}
+use Rattle.model.specs.Pattern.Search.{scan}
 use Rattle.model.specs.Machine.Alike.{WR}
 use Rattle.model.specs.Language.RulesUsed.{after_count, follow_count, query_count}
 use Rattle.model.proofs.Language.MeaningGrows.{at_depth}
-use Rattle.model.proofs.Machine.Following.{Task, start, done, failed, rank, extra, Stopped, Follows, steps_add}
+use Rattle.model.proofs.Machine.Following.{Task, start, done, failed, rank, extra, Stopped, Still, Follows, steps_add}
+
+-- these, where a search comes to anything
+abbrev pub if_told : SearchEvent → ℕ → ℕ
+if_told Running k = 0
+if_told x k = k
 
 module _ (prog : Program) (img : Module) (trees_at : ℕ → Option Expr) where
-  -- the pattern steps that a match has made already
-  abbrev pub spent : (q : Query) → Task prog img trees_at q → ℕ
-  spent (QVal e) t = 0
-  spent (QName e) t = 0
-  spent (QArgs xs) t = 0
-  spent (QBody b) t = 0
-  spent (QExec k) t = 0
-  spent (QMatch s p left u) t = t.so_far
+  -- at the depth n: the pattern steps that a match has made already, if its search comes to anything; if not, they are
+  -- counted with the question before
+  abbrev pub spent : ℕ → (q : Query) → Task prog img trees_at q → ℕ
+  spent n (QVal e) t = 0
+  spent n (QName e) t = 0
+  spent n (QArgs xs) t = 0
+  spent n (QBody b) t = 0
+  spent n (QExec k) t = 0
+  spent n (QMatch s p left u) t = if_told (scan s n p left 0 u) t.so_far
 
-  -- after i steps that are done, n in all are enough for a result; nothing is said while it is open
+  -- after i steps that are done, n in all are enough for a result; and while it is open, for what was printed
   abbrev pub Reaches : {A : Type 0} → (i n : ℕ) → State → (A → W → State → Type 0) → (W → State → Type 0) → Res A → Type 0
   Reaches i n c Q F (Done a w) = (j : ℕ) × (i + j ≤ n) × Q a w (steps img j c)
   Reaches i n c Q F (Fails w) = (j : ℕ) × (i + j ≤ n) × F w (steps img j c)
   Reaches i n c Q F (Ends e w) = (j : ℕ) × (i + j ≤ suc n) × Stopped prog img trees_at e w (steps img j c)
-  Reaches i n c Q F (Open w) = Unit {0}
+  Reaches i n c Q F (Open w) = (j : ℕ) × (i + j ≤ n) × Still prog img trees_at (steps img j c) w
 
   pub reaches_from : {A : Type 0} (j i i' n m : ℕ) (c : State) (Q : A → W → State → Type 0) (F : W → State → Type 0) (r : Res A) → i + j + n ≤ i' + m → Reaches i' n (steps img j c) Q F r → Reaches i m c Q F r
   reaches_from j i i' n m c Q F (Done a w) le (l, h, x) = (j + l, omega arith, subst (Q a w) (sym (steps_add prog img trees_at j l c)) x)
   reaches_from j i i' n m c Q F (Fails w) le (l, h, x) = (j + l, omega arith, subst (F w) (sym (steps_add prog img trees_at j l c)) x)
   reaches_from j i i' n m c Q F (Ends e w) le (l, h, x) = (j + l, omega arith, subst (Stopped prog img trees_at e w) (sym (steps_add prog img trees_at j l c)) x)
-  reaches_from j i i' n m c Q F (Open w) le x = tt
+  reaches_from j i i' n m c Q F (Open w) le (l, h, x) = (j + l, omega arith, subst (λ s. Still prog img trees_at s w) (sym (steps_add prog img trees_at j l c)) x)
 
   -- a result, and what follows it
   pub reaches_after : {A B : Type 0} (i n l m : ℕ) (c : State) (Q : A → W → State → Type 0) (F : W → State → Type 0) (Q' : B → W → State → Type 0) (F' : W → State → Type 0) (r : Res A) (k : A → W → Res B) (f : W → Res B) (kc : A → W → ℕ) (fc : W → ℕ)
@@ -42,18 +50,18 @@ module _ (prog : Program) (img : Module) (trees_at : ℕ → Option Expr) where
   reaches_after i n l m c Q F Q' F' (Fails w) k f kc fc le (j, h, x) hk hf =
       reaches_from i 0 0 (n + (l + 7 * fc w)) m c Q' F' (f w) (omega arith) (reaches_from j 0 0 (l + 7 * fc w) (n + (l + 7 * fc w)) (steps img i c) Q' F' (f w) (omega arith) (hf w (steps img j (steps img i c)) x))
   reaches_after i n l m c Q F Q' F' (Ends e w) k f kc fc le x hk hf = reaches_from i 0 0 n m c Q' F' (Ends e w) (omega arith) x
-  reaches_after i n l m c Q F Q' F' (Open w) k f kc fc le x hk hf = tt
+  reaches_after i n l m c Q F Q' F' (Open w) k f kc fc le x hk hf = reaches_from i 0 0 n m c Q' F' (Open w) (omega arith) x
 
   -- at the depth n: seven steps for each rule, and the extra ones
   abbrev pub SimPaced : ℕ → Type 0
-  SimPaced n = (q : Query) (t : Task prog img trees_at q) (w : W) (w' : MW) → WR trees_at w w' → Reaches (spent q t) (7 * query_count prog n q w + extra q) (start prog img trees_at q t w') (done prog img trees_at q t) (failed prog img trees_at q t) (meaning prog n q w)
+  SimPaced n = (q : Query) (t : Task prog img trees_at q) (w : W) (w' : MW) → WR trees_at w w' → Reaches (spent n q t) (7 * query_count prog n q w + extra q) (start prog img trees_at q t w') (done prog img trees_at q t) (failed prog img trees_at q t) (meaning prog n q w)
 
   -- the same from a start without steps before
   fresh : {A : Type 0} (i n : ℕ) (c : State) (Q : A → W → State → Type 0) (F : W → State → Type 0) (r : Res A) → Reaches i n c Q F r → Reaches 0 n c Q F r
   fresh i n c Q F (Done a w) (j, h, x) = (j, omega arith, x)
   fresh i n c Q F (Fails w) (j, h, x) = (j, omega arith, x)
   fresh i n c Q F (Ends e w) (j, h, x) = (j, omega arith, x)
-  fresh i n c Q F (Open w) x = tt
+  fresh i n c Q F (Open w) (j, h, x) = (j, omega arith, x)
 
   abbrev pub count_at : {A : Type 0} → ℕ → Rule A → ℕ
   count_at n p = follow_count (suc n) (λ r v. meaning prog n r v) (λ r v. query_count prog n r v) p
@@ -69,7 +77,7 @@ module _ (prog : Program) (img : Module) (trees_at : ℕ → Option Expr) where
       reaches_after x.0 (7 * query_count prog n q w + extra q) x.8 (b + 7 * count_at n (Ask q w k f)) c (done prog img trees_at q x.1) (failed prog img trees_at q x.1) Q F (meaning prog n q w)
       (λ a u. at_depth prog n (k a u)) (λ u. at_depth prog n (f u)) (λ a u. count_at n (k a u)) (λ u. count_at n (f u)) (omega (arith, le))
       (subst (λ s. Reaches 0 (7 * query_count prog n q w + extra q) s (done prog img trees_at q x.1) (failed prog img trees_at q x.1) (meaning prog n q w)) (sym x.3)
-      (fresh (spent q x.1) (7 * query_count prog n q w + extra q) (start prog img trees_at q x.1 x.2) (done prog img trees_at q x.1) (failed prog img trees_at q x.1) (meaning prog n q w) (sim q x.1 w x.2 x.4)))
+      (fresh (spent n q x.1) (7 * query_count prog n q w + extra q) (start prog img trees_at q x.1 x.2) (done prog img trees_at q x.1) (failed prog img trees_at q x.1) (meaning prog n q w) (sim q x.1 w x.2 x.4)))
       (λ a u d h. follow_reaches n sim x.5 x.8 one d Q F (k a u) (x.10 a u d h)) (λ u d h. follow_reaches n sim x.5 x.8 one d Q F (f u) (x.11 u d h))
   follow_reaches n sim r b up c Q F (Seek g w k) x =
       let none : r ≤ 0 = x.0 in

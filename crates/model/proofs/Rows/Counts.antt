@@ -143,3 +143,134 @@ limit_within = refl
 cut_off_within : rules_used 40 (deck (does (Evaluate (Call (codes "DEFINE") (args (Literal (codes "F()") ∷ [])))) Next ∷ does (Match (Literal (codes "A")) (Combine b.Concatenate (Call (codes "LEN") (args (num 1 ∷ []))) (Apply u.Unevaluated (Call (codes "F") (args []))))) Next ∷ at (codes "F") (Match (Literal (codes "A")) (Apply u.Unevaluated (Combine b.Divide (num 1) (num 0)))) Next ∷ [])) no_inputs ≡ 22
 unfolding meaning query_count prim_named named
 cut_off_within = refl
+
+-- ---- what is open counts what it has done
+
+-- `POS(0) (ARB ARB 'B' | 'A' $ OUTPUT)`
+told_after : Expr
+told_after = Combine b.Concatenate (Call (codes "POS") (args (num 0 ∷ []))) (Combine b.Alternate (Combine b.Concatenate (Combine b.Concatenate (Name (codes "ARB")) (Name (codes "ARB"))) (Literal (codes "B"))) (Combine b.Immediate (Literal (codes "A")) OUTPUT))
+
+-- ` S = DUPL('A',12)`, ` S POS(0) (ARB ARB 'B' | 'A' $ OUTPUT)`
+tells_late : List Stmt
+tells_late = deck (set (Name (codes "S")) (Call (codes "DUPL") (args (Literal (codes "A") ∷ num 12 ∷ []))) ∷ does (Match (Name (codes "S")) told_after) Next ∷ [])
+
+-- at this depth the search comes to its question; with its answer, a level below, it doesn't come back to it
+told_open : meaning_at 11 tells_late no_inputs ≡ runs (codes "A" ∷ [])
+unfolding meaning prim_named named told_after tells_late
+told_open = refl
+
+-- two statements, 4 and 13 nodes, and 218 of the search under the script at that question
+counted_open : rules_used 11 tells_late no_inputs ≡ 237
+unfolding meaning query_count prim_named named told_after tells_late
+counted_open = refl
+
+-- a level deeper it comes to its end: an answer, and 219 of the search under both
+counted_ended : rules_used 12 tells_late no_inputs ≡ 239
+unfolding meaning query_count prim_named named told_after tells_late
+counted_ended = refl
+
+-- its image, as the generator writes it
+image_tells_late : Image
+image_tells_late = record {
+  level = levels.Two;
+  entry = 1;
+  strings = codes "S" ∷ codes "A" ∷ codes "ARB" ∷ codes "B" ∷ codes "OUTPUT" ∷ [];
+  labels = [];
+  statements = 0 ∷ 29 ∷ 86 ∷ [];
+  cards = 1 ∷ 2 ∷ 3 ∷ [];
+  expressions = [];
+  patterns = [];
+  code =
+      op.Begin 29 ∷ op.Var 0 ∷ op.Str 1 ∷ op.Int (pos 12) ∷ op.PrimV prim.Dupl 2 ∷ op.Assign ∷ op.Body
+      ∷ op.Begin 86 ∷ op.Var 0 ∷ op.Fetch ∷ op.Int (pos 0) ∷ op.PrimV prim.Pos 1
+      ∷ op.Var 2 ∷ op.Fetch ∷ op.Var 2 ∷ op.Fetch ∷ op.Cat ∷ op.Str 3 ∷ op.Cat ∷ op.Str 1 ∷ op.Var 4 ∷ op.Imm ∷ op.Alt ∷ op.Cat ∷ op.Match ∷ op.Body
+      ∷ op.End ∷ [];
+}
+
+-- counted with one in place of the 218, as other answers are, it would be bound to print by the step 7 * (20 + 1)
+not_told_yet : machine_at image_tells_late no_inputs 226 ≡ runs []
+unfolding image_tells_late
+not_told_yet = refl
+
+told_late : machine_at image_tells_late no_inputs 227 ≡ runs (codes "A" ∷ [])
+unfolding image_tells_late
+told_late = refl
+
+-- ` DEFINE('F()')`, ` S = DUPL('A',13)`, ` S POS(0) (ARB ARB 'B' | *F())`, `F OUTPUT = 'X' :(F)`
+never_answered : List Stmt
+never_answered =
+    deck
+    (does (Evaluate (Call (codes "DEFINE") (args (Literal (codes "F()") ∷ [])))) Next
+    ∷ set (Name (codes "S")) (Call (codes "DUPL") (args (Literal (codes "A") ∷ num 13 ∷ [])))
+    ∷ does (Match (Name (codes "S")) (Combine b.Concatenate (Call (codes "POS") (args (num 0 ∷ []))) (Combine b.Alternate (Combine b.Concatenate (Combine b.Concatenate (Name (codes "ARB")) (Name (codes "ARB"))) (Literal (codes "B"))) (Apply u.Unevaluated (Call (codes "F") (args [])))))) Next
+    ∷ at (codes "F") (sets OUTPUT (Literal (codes "X"))) (Always (Label (codes "F")))
+    ∷ [])
+
+open_within : meaning_at 12 never_answered no_inputs ≡ runs (codes "X" ∷ codes "X" ∷ codes "X" ∷ codes "X" ∷ [])
+unfolding meaning prim_named named never_answered
+open_within = refl
+
+-- three statements, 2, 4, 11 nodes and the call, four times F's statement and its 2 nodes, and once the statement alone; and 246 of the search, which stands at that question
+counted_within : rules_used 12 never_answered no_inputs ≡ 280
+unfolding meaning query_count prim_named named never_answered
+counted_within = refl
+
+-- an image of it
+image_never_answered : Image
+image_never_answered = record {
+  level = levels.Two;
+  entry = 1;
+  strings = codes "F()" ∷ codes "S" ∷ codes "A" ∷ codes "ARB" ∷ codes "B" ∷ codes "F" ∷ codes "OUTPUT" ∷ codes "X" ∷ [];
+  labels = record { string = 5; statement = 4 } ∷ [];
+  statements = 0 ∷ 15 ∷ 44 ∷ 95 ∷ 117 ∷ [];
+  cards = 1 ∷ 2 ∷ 3 ∷ 4 ∷ 5 ∷ [];
+  expressions = 118 ∷ [];
+  patterns = [];
+  code =
+      op.Begin 15 ∷ op.Str 0 ∷ op.PrimV prim.Define 1 ∷ op.Drop ∷ op.Body
+      ∷ op.Begin 44 ∷ op.Var 1 ∷ op.Str 2 ∷ op.Int (pos 13) ∷ op.PrimV prim.Dupl 2 ∷ op.Assign ∷ op.Body
+      ∷ op.Begin 95 ∷ op.Var 1 ∷ op.Fetch ∷ op.Int (pos 0) ∷ op.PrimV prim.Pos 1
+      ∷ op.Var 3 ∷ op.Fetch ∷ op.Var 3 ∷ op.Fetch ∷ op.Cat ∷ op.Str 4 ∷ op.Cat ∷ op.Expr 0 ∷ op.Alt ∷ op.Cat ∷ op.Match ∷ op.Body
+      ∷ op.Begin 112 ∷ op.Var 6 ∷ op.Str 7 ∷ op.Assign ∷ op.Body ∷ op.Goto 4
+      ∷ op.End ∷ op.CallV 5 0 ∷ op.Ret ∷ [];
+}
+
+-- without the 246 it would be bound to print all four by the step 7 * (34 + 1)
+not_within_yet : machine_at image_never_answered no_inputs 261 ≡ runs []
+unfolding image_never_answered prim_named named
+not_within_yet = refl
+
+told_within : machine_at image_never_answered no_inputs 280 ≡ runs (codes "X" ∷ codes "X" ∷ codes "X" ∷ codes "X" ∷ [])
+unfolding image_never_answered prim_named named
+told_within = refl
+
+-- ` 'AB' ARB $ OUTPUT FAIL`
+each_end : List Stmt
+each_end = deck (does (Match (Literal (codes "AB")) (Combine b.Concatenate (Combine b.Immediate (Name (codes "ARB")) OUTPUT) (Name (codes "FAIL")))) Next ∷ [])
+
+-- cut off at a depth that is enough for two ends: a statement and 6 nodes, one answer, and 9 of the search under the script at the second question
+two_ends : meaning_at 8 each_end no_inputs ≡ runs (codes "" ∷ codes "A" ∷ [])
+unfolding meaning prim_named named each_end
+two_ends = refl
+
+two_counted : rules_used 8 each_end no_inputs ≡ 17
+unfolding meaning query_count prim_named named each_end
+two_counted = refl
+
+-- and for five
+five_ends : meaning_at 11 each_end no_inputs ≡ runs (codes "" ∷ codes "A" ∷ codes "AB" ∷ codes "" ∷ codes "B" ∷ [])
+unfolding meaning prim_named named each_end
+five_ends = refl
+
+five_counted : rules_used 11 each_end no_inputs ≡ 33
+unfolding meaning query_count prim_named named each_end
+five_counted = refl
+
+-- and for all six, where the match ends
+all_ends : meaning_at 13 each_end no_inputs ≡ ends_normally (codes "" ∷ codes "A" ∷ codes "AB" ∷ codes "" ∷ codes "B" ∷ codes "" ∷ [])
+unfolding meaning prim_named named each_end
+all_ends = refl
+
+all_counted : rules_used 13 each_end no_inputs ≡ 43
+unfolding meaning query_count prim_named named each_end
+all_counted = refl

@@ -1,9 +1,9 @@
--- How many rules a meaning uses: the count that bounds the steps of a run.
-use Rattle.std.specs.Prelude.{ℕ, zero, suc, ◌+◌, List, [], ◌∷◌, ◌++◌, Option, None, Some}
+-- How many rules a meaning uses: the count that bounds the steps of a run, and those to what it has printed.
+use Rattle.std.specs.Prelude.{ℕ, zero, suc, pred, ◌+◌, List, [], ◌∷◌, ◌++◌, Option, None, Some}
 use Rattle.std.specs.Prelude.{if◌then◌else◌}
 use Rattle.model.specs.Deck.Trees.{Nil, More, Absent, Given, Stmt, Plain as PlainStmt, End}
 use Rattle.model.specs.Language.Programs.{Program, program}
-use Rattle.model.specs.Pattern.Patterns.{Basic, Lit, Arb, Bal, Pat, Plain, Succeed, Abort, Fence, Cat, Alt, Arbno, FenceOf, Cond, Imm, At, Defer, DeferBasic, Pending, Want, Answer, IsPattern, IsSaid, AskFor, SayThat, with_answer, Running, Failed, Asks, Matched}
+use Rattle.model.specs.Pattern.Patterns.{Basic, Lit, Arb, Bal, Pat, Plain, Succeed, Abort, Fence, Cat, Alt, Arbno, FenceOf, Cond, Imm, At, Defer, DeferBasic, Pending, Want, Answer, IsPattern, IsFailed, IsSaid, AskFor, SayThat, with_answer, Running, Failed, Asks, Matched}
 use Rattle.model.specs.Pattern.BasicEnds.{ends_at}
 use Rattle.model.specs.Pattern.Ends.{between}
 use Rattle.model.specs.Pattern.Search.{Hit, Miss, Goal, Part, Closing, Saying, Found', Script, SearchOn, search, scan}
@@ -86,33 +86,44 @@ scan_count s n p left b t = starts_count (λ c u. search s n (Part p ∷ []) c [
 
 -- ---- of a meaning
 
--- a question that is answered counts one, and the match goes on with one more answer; where it isn't, the match ends at
--- that question, and its search counts under the script that it has there
-abbrev pub answer_count : ℕ → Conv (Answer Pattern) → ℕ
-answer_count n (Got y) = 1
-answer_count n (Bad e) = n
+-- what a search comes to with one more answer, at the depth at which it is asked again
+abbrev pub WithAnswer : Type 0
+WithAnswer = Answer Pattern → SearchEvent
 
-abbrev pub evaluated_count : ℕ → Want → Res Val → ℕ
-evaluated_count n k (Done v w) = answer_count n (answer_of pattern_trees k v)
-evaluated_count n k (Fails w) = 1
-evaluated_count n k (Ends e w) = n
-evaluated_count n k (Open w) = 0
+-- a question that is answered counts one, and the match goes on with one more answer. Where it comes to nothing with that
+-- answer, since the depth is used up, this question is the last that it has got past, and its search counts under the
+-- script that it has there
+abbrev pub onward_count : ℕ → SearchEvent → ℕ
+onward_count n Running = n
+onward_count n _ = 1
 
-abbrev pub said_count : {A : Type 0} → ℕ → Op W A → ℕ
-said_count n (Gives a w) = 1
-said_count n (Refuses w) = n
-said_count n (Faults e w) = n
+-- so it does where the question isn't answered, for the match ends there, and where what is asked is open, for it stands there
+abbrev pub answer_count : WithAnswer → ℕ → Conv (Answer Pattern) → ℕ
+answer_count f n (Got y) = onward_count n (f y)
+answer_count f n (Bad e) = n
+
+abbrev pub evaluated_count : WithAnswer → ℕ → Want → Res Val → ℕ
+evaluated_count f n k (Done v w) = answer_count f n (answer_of pattern_trees k v)
+evaluated_count f n k (Fails w) = onward_count n (f IsFailed)
+evaluated_count f n k (Ends e w) = n
+evaluated_count f n k (Open w) = n
+
+abbrev pub said_count : {A : Type 0} → WithAnswer → ℕ → Op W A → ℕ
+said_count f n (Gives a w) = onward_count n (f IsSaid)
+said_count f n (Refuses w) = n
+said_count f n (Faults e w) = n
 
 abbrev pub Meant : Type 0
 Meant = (q : Query) → W → Res (Ans q)
 
--- where the match ends, the search counts under the script that it ends with
-abbrev pub match_count : Meant → SearchEvent → ℕ → W → ℕ
-match_count m Running n w = 0
-match_count m Failed n w = n
-match_count m (Matched b e a) n w = n
-match_count m (Asks (SayThat x v)) n w = said_count n (assign_op x (told_value v) w)
-match_count m (Asks (AskFor e k)) n w = evaluated_count n k (m (QVal e) w)
+-- where the match ends, the search counts under the script that it ends with; where the depth is used up, it counts with the
+-- last question that it has got past
+abbrev pub match_count : Meant → WithAnswer → SearchEvent → ℕ → W → ℕ
+match_count m f Running n w = 0
+match_count m f Failed n w = n
+match_count m f (Matched b e a) n w = n
+match_count m f (Asks (SayThat x v)) n w = said_count f n (assign_op x (told_value v) w)
+match_count m f (Asks (AskFor e k)) n w = evaluated_count f n k (m (QVal e) w)
 
 -- a statement that is run counts one: END doesn't, nor one that the limit keeps from being run; a call and its return count
 -- nothing beside the statements and nodes in it
@@ -130,7 +141,7 @@ own_count prog n m (QArgs (More Absent xs)) w = 1
 own_count prog n m (QArgs (More (Given e) xs)) w = 0
 own_count prog n m (QBody b) w = 0
 own_count prog n m (QExec k) w = stmt_count (prog.at k) w
-own_count prog n m (QMatch s p left t) w = match_count m (scan s n p left 0 t) (scan_count s n p left 0 t) w
+own_count prog n m (QMatch s p left t) w = match_count m (λ y. scan s (pred n) p left 0 (t ++ y ∷ [])) (scan s n p left 0 t) (scan_count s n p left 0 t) w
 
 -- what follows an answer, or a failure
 abbrev pub after_count : {A : Type 0} → Res A → (A → W → ℕ) → (W → ℕ) → ℕ

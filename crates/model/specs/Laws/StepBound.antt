@@ -1,4 +1,4 @@
--- How many steps are enough, by the rules that are used.
+-- How many steps are enough, by the rules that are used: to the end, and to what is printed.
 use Rattle.std.specs.Prelude.{◌≡◌, ◌≢◌, ℕ, ◌≤◌, ◌+◌, ◌*◌, List, Option, Some}
 use Rattle.model.specs.declared.run.Ending.{Ending}
 use Rattle.model.specs.declared.image.Image.{Image}
@@ -7,7 +7,7 @@ use Rattle.model.specs.Deck.Trees.{Stmt, Expr}
 use Rattle.model.specs.Language.Programs.{program}
 use Rattle.model.specs.Module.Images.{module_of}
 use Rattle.model.specs.Module.Placed.{Placed}
-use Rattle.model.specs.Laws.Agreement.{Inputs, meaning_at, machine_at}
+use Rattle.model.specs.Laws.Agreement.{Inputs, IsBeginning, meaning_at, machine_at}
 use Rattle.model.specs.Pattern.Patterns.{Pat, Running}
 use Rattle.model.specs.Pattern.Search.{Script, scan}
 use Rattle.model.specs.Pattern.Steps.{Code, Answers, match_steps, pattern_steps, event_of}
@@ -34,3 +34,14 @@ EndsInTime deck image = (inputs : Inputs) (n : ℕ) (e : Ending) → (meaning_at
 -- the law: wherever the code of each statement stands
 abbrev pub RunStepsBounded : Type 0
 RunStepsBounded = (deck : List Stmt) (image : Image) (trees_at : ℕ → Option Expr) → image.level ≡ levels.Two → Placed (program deck) (module_of image) trees_at → EndsInTime deck image
+
+-- ---- of what is printed, also where a run never ends
+
+-- what the meaning of a deck has printed at some depth, having used r rules to that depth, the module has printed after
+-- any 7 * (r + 1) steps or more
+abbrev pub PrintsInTime : List Stmt → Image → Type 0
+PrintsInTime deck image = (inputs : Inputs) (n b : ℕ) → 7 * (rules_used n deck inputs + 1) ≤ b → IsBeginning (meaning_at n deck inputs).printed (machine_at image inputs b).printed
+
+-- the law: wherever the code of each statement stands
+abbrev pub RunPrintsBounded : Type 0
+RunPrintsBounded = (deck : List Stmt) (image : Image) (trees_at : ℕ → Option Expr) → image.level ≡ levels.Two → Placed (program deck) (module_of image) trees_at → PrintsInTime deck image

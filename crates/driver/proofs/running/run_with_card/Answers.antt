@@ -2,6 +2,7 @@ use Rattle.std.proofs.Common.{◌≡◌, refl, ap, subst, sym, ◌∙◌}
 use Rattle.model.specs.declared.image.Image.{Image}
 use Rattle.model.proofs.Module.SpeltNumbers.{ok_is}
 use Rattle.statement_machine.specs.Runs.{IsRun, IsStoppedRun}
+use Rattle.statement_machine.specs.Asking.{StopsWhereAsked}
 use Rattle.statement_machine.specs.Stopped.{IfRan, IfStop, ending_of, stop_of_run}
 use Rattle.model.specs.Language.Told.{IfTold}
 use Rattle.unit_io.specs.Service.{Served}
@@ -20,6 +21,12 @@ returns-clause-printed g c = λ m e.
     let same : c.in_ok-program.program ≡ m = ok_is c.in_ok-program.program m (sym c.in_ok-program.ensures.loaded.0 ∙ e) in
     let status = c.run_from_entry-status.result in
     subst (λ (im : Image). IfStop status (IfTold (g.U.Units.told c.args.units.now) (g.U.Units.told c.run_from_entry-status.new.units) (IsStoppedRun im c.args.bound))) same c.run_from_entry-status.ensures.printed
+
+pub returns-clause-asked : goal.returns-clause-asked
+returns-clause-asked g c = λ m e.
+    let same : c.in_ok-program.program ≡ m = ok_is c.in_ok-program.program m (sym c.in_ok-program.ensures.loaded.0 ∙ e) in
+    let status = c.run_from_entry-status.result in
+    subst (λ (im : Image). StopsWhereAsked im c.args.bound (stop_of_run status) (g.U.Units.told c.args.units.now) (g.U.Units.told c.run_from_entry-status.new.units)) same c.run_from_entry-status.ensures.asked
 
 pub returns-clause-meant : goal.returns-clause-meant
 returns-clause-meant g c deck m =

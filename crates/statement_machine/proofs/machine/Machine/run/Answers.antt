@@ -4,6 +4,7 @@ use Rattle.statement_machine.specs.Runs.{MachineView}
 use Rattle.statement_machine.proofs.Preparing.{goes_on, whole_again}
 use Rattle.statement_machine.proofs.Seeing.{ran_on, ran_out, ran_same}
 use Rattle.statement_machine.proofs.Printing.{halt_prints}
+use Rattle.statement_machine.proofs.Asked.{halt_stops}
 use Rattle.statement_machine.proofs.machine.Machine.run.Goals as goal
 
 pub returns-in-Some-clause-served : goal.returns-in-Some-clause-served
@@ -39,3 +40,7 @@ invariant_of-self-in-Err g c =
       tt,
       subst (ArePrepared im) (sym (whole_again it.prepared.items c.make_steps.new.prepared it.prepared.len (c.make_steps.ensures.prepared ∙ c.as_mut_slice-prepared.ensures.value) it.prepared.ok.0)) c.self.invariant.2,
     )
+
+pub returns-in-Err-clause-stops : goal.returns-in-Err-clause-stops
+returns-in-Err-clause-stops g c =
+    halt_stops c.self.inside.program.now c.args.self.now c.self.inside.halt c.in-Err.halt c.self.inside.run c.args.bound c.status-in-Err.result _ _ c.self.view_is c.in_default.is c.status-in-Err.ensures c.in-Err.ensures.stops

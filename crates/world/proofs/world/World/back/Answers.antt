@@ -18,7 +18,7 @@ returns-then-count-eq0-clause-back c io =
     let none : min (length names) (length saved.items) ≡ 0 =
     omega (arith, c.min-count.ensures, c.if-count-eq0.true, c.len.ensures, saved.ok.0, ap length c.names-names.ensures.names) in
     gone_back c.args.kind kept names saved.items (to_z w64 (of_z w64 kept.statement)) (to_z w64 (of_z w64 kept.level)) w w (world_of c.put_back.new.self io)
-    refl statement level (none_saved kept.prototype saved.items none w).1 (c.put_back.ensures io)
+    refl statement level (none_saved kept.prototype saved.items none w).1 (c.put_back.ensures.set io)
 
 pub give_back-requires-clause-distinct : goal.give_back-requires-clause-distinct
 give_back-requires-clause-distinct c = distinct_take c.names-names.result.now c.min-count.result c.names-names.ensures.distinct
@@ -44,7 +44,7 @@ returns-clause-back c io =
     gone_back c.args.kind kept names saved.items (to_z w64 (of_z w64 kept.statement)) (to_z w64 (of_z w64 kept.level)) w w1 (world_of c.put_back-2.new.self io)
     c.names-names.ensures.names statement level
     (restored names saved.items count (c.min-count.ensures ∙ ap (min (length names)) (c.len.ensures ∙ saved.ok.0)) w w1 (c.in_ok-had-2.ensures.set io))
-    (c.put_back-2.ensures io)
+    (c.put_back-2.ensures.set io)
 
 pub returns-clause-had : goal.returns-clause-had
 returns-clause-had c =

@@ -1,20 +1,22 @@
 use Rattle.std.proofs.Common.{◌≡◌, ap, drop, subst, sym}
 use Rattle.model.specs.Language.Values.{Str}
+use Rattle.indexmap.specs.IndexMap.{with_value_at}
 use Rattle.world.specs.Held.{StandsIn, WorldView}
 use Rattle.world.specs.declared.value.Value.TheVariants.{String}
-use Rattle.world.proofs.Variables.{assigned_plain, holds_there, put_in_slot}
+use Rattle.world.proofs.Variables.{assigned_plain, holds_there, named_still, put_in_slot}
 use Rattle.world.proofs.world.World.cut_front.Goals as goal
 
-pub returns : goal.returns
-returns c = record {
-  set = λ u name holds within plain io.
-      let w = c.self.inside in
-      let h = c.args.self.now in
-      let old = c.in-Some.found.now in
-      let before = ap {A = WorldView} (λ h. h.variables) c.self.view_is in
-      let held = holds_there h w.variables.entries c.args.slot old (String u) before c.in-Some.ensures.value holds in
-      assigned_plain h _ name c.args.slot (Str (drop c.args.count u)) plain
-      (λ y stands io. put_in_slot w.variables w.heap w.functions w.keywords w.level h y c.args.slot old c.cut_front.new.self (String (drop c.args.count u)) c.self.view_is
-      c.get_index_mut.ensures.unique (subst (StandsIn y c.args.slot) (sym before) stands) c.in-Some.ensures.value (c.cut_front.ensures u held within) io)
-      io;
-}
+pub returns-clause-set : goal.returns-clause-set
+returns-clause-set c = λ u name holds within plain io.
+    let w = c.self.inside in
+    let h = c.args.self.now in
+    let old = c.in-Some.found.now in
+    let before = ap {A = WorldView} (λ h. h.variables) c.self.view_is in
+    let held = holds_there h w.variables.entries c.args.slot old (String u) before c.in-Some.ensures.value holds in
+    assigned_plain h (record { variables = (with_value_at w.variables c.args.slot c.cut_front.new.self).entries; objects = w.heap; functions = w.functions; keys = w.keywords; level = w.level; names = w.names.items }) name c.args.slot (Str (drop c.args.count u)) plain
+    (λ y stands io. put_in_slot w.variables w.heap w.functions w.keywords w.level w.names.items h y c.args.slot old c.cut_front.new.self (String (drop c.args.count u)) c.self.view_is
+    c.get_index_mut.ensures.unique (subst (StandsIn y c.args.slot) (sym before) stands) c.in-Some.ensures.value (c.cut_front.ensures u held within) io)
+    io
+
+pub invariant_of-self-2 : goal.invariant_of-self-2
+invariant_of-self-2 c = named_still c.self.inside.variables c.self.inside.names.items c.args.slot c.cut_front.new.self c.self.invariant

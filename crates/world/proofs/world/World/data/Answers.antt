@@ -11,7 +11,7 @@ append-requires-clause-named c = type_named c.args.prototype.now.name c.args.pro
 pub returns-clause-ok : goal.returns-clause-ok
 returns-clause-ok c =
     let inside = c.self.inside in
-    let h : WorldView = record { variables = inside.variables.entries; objects = inside.heap; functions = inside.functions; keys = inside.keywords; level = inside.level } in
+    let h : WorldView = record { variables = inside.variables.entries; objects = inside.heap; functions = inside.functions; keys = inside.keywords; level = inside.level; names = inside.names.items } in
     on_ok_weaker c.append.result
     (λ puts io. ap (λ z. data_op (Some c.args.prototype.now) (world_of z io)) (sym c.self.view_is)
     ∙ made_type h c.in_ok-made.made.entries c.append.new.self c.args.prototype.now c.in_ok-made.ensures.function puts io)

@@ -11,7 +11,7 @@ exchange_all-requires-clause-count c =
 pub returns-clause-entered : goal.returns-clause-entered
 returns-clause-entered c io =
     entered c.args.prototype c.args.arguments.now.items c.args.saved.now.items c.put_values.new.values.items c.len-base.result (c.len-base.ensures ∙ c.args.saved.now.ok.0) c.in_ok-put_values.ensures c.names.result.now
-    (world_of c.args.self.now io) (world_of c.exchange_all.new.self io) (world_of c.deepen.new.self io) c.names.ensures.names (c.in_ok-exchange_all.ensures.set io) (c.deepen.ensures io)
+    (world_of c.args.self.now io) (world_of c.exchange_all.new.self io) (world_of c.deepen.new.self io) c.names.ensures.names (c.in_ok-exchange_all.ensures.set io) (c.deepen.ensures.set io)
 
 pub returns-clause-kept : goal.returns-clause-kept
 returns-clause-kept c =

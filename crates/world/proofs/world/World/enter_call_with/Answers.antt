@@ -18,7 +18,7 @@ loop-number-init c =
     let many : 1 < length names = omega (arith, c.requires, ap length c.names-names.ensures.names, length-append f.arguments f.locals) in
     let turn0 = save_turn names gs saved saved c.save.new.saved.items 0 c.index-names-0.result (value_of c.null.result) self c.args.self.now c.save.new.self c.names-names.ensures.distinct (omega (arith, many)) c.index-names-0.is c.null.ensures c.in_ok-save.ensures.set c.in_ok-save.ensures.had (none_saved names gs saved self) in
     let turn1 = save_turn names gs saved c.save.new.saved.items c.save-2.new.saved.items 1 c.index-names-1.result (value_of c.args.argument) self c.save.new.self c.save-2.new.self c.names-names.ensures.distinct (omega (arith, many)) c.index-names-1.is refl c.in_ok-save-2.ensures.set c.in_ok-save-2.ensures.had turn0 in
-    record { past = omega arith; given = turn1 }
+    record { names = c.save-2.ensures.names ∙ c.save.ensures.names; past = omega arith; given = turn1 }
 
 pub loop-number-preserved : goal.loop-number-preserved
 loop-number-preserved c =
@@ -26,6 +26,7 @@ loop-number-preserved c =
     let gs : List MVal = Str [] ∷ value_of c.args.argument ∷ [] in
     let k = c.loop-number.number in
     record {
+      names = c.save-in-loop-number.ensures.names ∙ c.loop-number.invariant.names;
       past = omega (arith, c.loop-number.invariant.past);
       given =
           save_turn names gs c.args.saved.now.items c.loop-number.saved.items c.save-in-loop-number.new.saved.items k c.index-names-number.result (value_of c.null-in-loop-number.result)
@@ -38,7 +39,7 @@ returns-clause-entered c io =
     let names = c.names-names.result.now in
     let gs : List MVal = Str [] ∷ value_of c.args.argument ∷ [] in
     let all = all_saved names gs c.args.saved.now.items c.loop-number.saved.items c.loop-number.number c.args.self.now c.loop-number.self c.loop-number-test.false c.loop-number.invariant.given in
-    entered_with c.args.prototype names (value_of c.args.argument) (world_of c.args.self.now io) (world_of c.loop-number.self io) (world_of c.deepen.new.self io) c.requires c.names-names.ensures.names (all.1 io) (c.deepen.ensures io)
+    entered_with c.args.prototype names (value_of c.args.argument) (world_of c.args.self.now io) (world_of c.loop-number.self io) (world_of c.deepen.new.self io) c.requires c.names-names.ensures.names (all.1 io) (c.deepen.ensures.set io)
 
 pub returns-clause-kept : goal.returns-clause-kept
 returns-clause-kept c =

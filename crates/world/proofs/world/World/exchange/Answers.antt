@@ -2,14 +2,14 @@ use Rattle.std.proofs.Common.{◌≡◌, Some, ap, subst, sym, slice_get, ◌∙
 use Rattle.std.specs.Map.{values_of}
 use Rattle.world.specs.Held.{WorldView, StandsIn, value_in}
 use Rattle.world.specs.Values.{value_of}
-use Rattle.world.proofs.Variables.{held_there, put_in_slot}
+use Rattle.world.proofs.Variables.{held_there, named_still, put_in_slot}
 use Rattle.world.proofs.world.World.exchange.Goals as goal
 
 pub returns-clause-set : goal.returns-clause-set
 returns-clause-set c io =
     let stands = subst (StandsIn c.args.name.now c.in-Some.at) (sym (ap {A = WorldView} (λ h. h.variables) c.self.view_is)) c.in-Some.ensures.entry in
     let found = c.in-Some-get_index_mut in
-    put_in_slot c.self.inside.variables c.self.inside.heap c.self.inside.functions c.self.inside.keywords c.self.inside.level c.args.self.now c.args.name.now c.in-Some.at found.variable.now c.exchange.new.self c.args.value.now c.self.view_is c.get_index_mut.ensures.unique stands found.ensures.value c.exchange.ensures.set io
+    put_in_slot c.self.inside.variables c.self.inside.heap c.self.inside.functions c.self.inside.keywords c.self.inside.level c.self.inside.names.items c.args.self.now c.args.name.now c.in-Some.at found.variable.now c.exchange.new.self c.args.value.now c.self.view_is c.get_index_mut.ensures.unique stands found.ensures.value c.exchange.ensures.set io
 
 pub returns-clause-had : goal.returns-clause-had
 returns-clause-had c =
@@ -17,3 +17,6 @@ returns-clause-had c =
     let there = subst (λ vs. Some c.in-Some-get_index_mut.variable.now ≡ slice_get (values_of vs) c.in-Some.at) same c.in-Some-get_index_mut.ensures.value in
     ap value_of c.exchange.ensures.had
     ∙ sym (ap value_in (held_there c.args.self.now.variables c.args.name.now c.in-Some.at c.in-Some-get_index_mut.variable.now c.in-Some.ensures.entry there))
+
+pub invariant_of-self : goal.invariant_of-self
+invariant_of-self c = named_still c.self.inside.variables c.self.inside.names.items c.in-Some.at c.exchange.new.self c.self.invariant

@@ -1,4 +1,4 @@
-use Rattle.std.proofs.Common.{◌≡◌, ◌-◌, ◌+◌, ℕ, [], suc, get_or, length, take, drop, subst, ◌∙◌, arith}
+use Rattle.std.proofs.Common.{◌≡◌, ◌-◌, ◌+◌, ℕ, [], suc, get_or, length, take, drop, refl, subst, ◌∙◌, arith}
 use Rattle.std.proofs.lemmas.List.{length-drop}
 use Rattle.std.proofs.lemmas.Result.{IfOk-weaker, on_ok_weaker}
 use Rattle.world.specs.Values.{value_of}
@@ -13,6 +13,7 @@ loop-left-init c =
     let base = length all - length names in
     let size : length (drop base all) ≡ length names = length-drop base all ∙ omega (arith, c.requires.count) in
     record {
+      names = refl;
       within = omega (arith, c.requires.some);
       given = none_given names base (length names - 1 + 1) all c.args.self.now (omega arith) (omega (arith, size));
     }
@@ -29,11 +30,12 @@ loop-left-preserved c =
     let next : left + 1 ≡ suc left = omega arith in
     let so = subst (λ n. IsGivenBack names (take base all) (drop base all) n c.loop-left.saved.items c.args.self.now c.loop-left.self) next c.loop-left.invariant.given in
     record {
+      names = c.give_last.ensures.names ∙ c.loop-left.invariant.names;
       within = omega (arith, c.loop-left.invariant.within);
       given =
           subst (λ n. IsGivenBack names (take base all) (drop base all) n c.give_last.new.saved.items c.args.self.now c.give_last.new.self) same
-          (give_turn names (take base all) (drop base all) c.loop-left.saved.items c.give_last.new.saved.items left c.index-names-left.result c.in_ok-give_last.ensures.0 c.args.self.now c.loop-left.self c.give_last.new.self size
-          c.loop-left.invariant.within c.index-names-left.is c.in_ok-give_last.ensures.1 c.in_ok-give_last.ensures.2 so);
+          (give_turn names (take base all) (drop base all) c.loop-left.saved.items c.give_last.new.saved.items left c.index-names-left.result c.in_ok-give_last.ensures.set.0 c.args.self.now c.loop-left.self c.give_last.new.self size
+          c.loop-left.invariant.within c.index-names-left.is c.in_ok-give_last.ensures.set.1 c.in_ok-give_last.ensures.set.2 so);
     }
 
 pub returns-clause-values : goal.returns-clause-values

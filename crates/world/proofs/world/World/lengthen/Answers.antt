@@ -1,5 +1,5 @@
 use Rattle.std.proofs.Common.{◌≡◌, ◌+◌, ◌++◌, Some, ap, arith, length, slice_get, subst, sym, true, ◌∙◌}
-use Rattle.indexmap.specs.IndexMap.{set_value_at}
+use Rattle.indexmap.specs.IndexMap.{set_value_at, with_value_at}
 use Rattle.model.specs.Deck.Target as target
 use Rattle.model.specs.Deck.Trees.{Bytes}
 use Rattle.model.specs.Language.Conversions.{Gives}
@@ -11,7 +11,7 @@ use Rattle.world.specs.Values.{value_of}
 use Rattle.world.specs.declared.value.Value.{Value}
 use Rattle.world.specs.declared.value.Value.TheVariants.{String}
 use Rattle.world.specs.declared.world.Variable.{Variable}
-use Rattle.world.proofs.Variables.{assigned_plain, holds_there, kept_at, put_in_slot}
+use Rattle.world.proofs.Variables.{assigned_plain, holds_there, kept_at, named_still, put_in_slot}
 use Rattle.world.proofs.world.World.lengthen.Goals.{else-filled-via-then-filled+else-front-eq0, else-filled-via-else-filled}
 use Rattle.world.proofs.world.World.lengthen.Goals as goal
 
@@ -39,8 +39,8 @@ returns-clause-made c done =
         | else-filled-via-then-filled+else-front-eq0 b ↦ omega (arith, c.len-front.ensures, b.if-front-eq0.false)
         | else-filled-via-else-filled b ↦ absurd cc
       ],
-      λ io. assigned_plain h _ (target.Variable x) c.args.slot (Str all) c.in-Some-String.ensures.plain
-          (λ y stands io. put_in_slot w.variables w.heap w.functions w.keywords w.level h y c.args.slot old new (String all) c.self.view_is
+      λ io. assigned_plain h (record { variables = (with_value_at w.variables c.args.slot new).entries; objects = w.heap; functions = w.functions; keys = w.keywords; level = w.level; names = w.names.items }) (target.Variable x) c.args.slot (Str all) c.in-Some-String.ensures.plain
+          (λ y stands io. put_in_slot w.variables w.heap w.functions w.keywords w.level w.names.items h y c.args.slot old new (String all) c.self.view_is
           c.get_index_mut.ensures.unique (subst (StandsIn y c.args.slot) (sym before) stands) c.in-Some.ensures.value e io) io,
     )
 
@@ -48,6 +48,9 @@ pub returns-clause-kept : goal.returns-clause-kept
 returns-clause-kept c failed =
     let w = c.self.inside in
     let es = w.variables.entries in
-    ap (λ l. record { variables = l; objects = w.heap; functions = w.functions; keys = w.keywords; level = w.level })
+    ap (λ l. record { variables = l; objects = w.heap; functions = w.functions; keys = w.keywords; level = w.level; names = w.names.items })
     (ap (λ (v : Variable). set_value_at es c.args.slot v) (c.lengthen.ensures.kept failed) ∙ kept_at es c.args.slot c.in-Some.found.now c.in-Some.ensures.value)
     ∙ c.self.view_is
+
+pub invariant_of-self-2 : goal.invariant_of-self-2
+invariant_of-self-2 c = named_still c.self.inside.variables c.self.inside.names.items c.args.slot c.lengthen.new.self c.self.invariant

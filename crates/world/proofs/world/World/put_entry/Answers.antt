@@ -10,5 +10,5 @@ use Rattle.world.proofs.world.World.put_entry.Goals as goal
 pub returns-clause-set : goal.returns-clause-set
 returns-clause-set c q name is io =
     ap (λ z. assign_op name (Int z) (world_of c.args.self.now io)) (sym (to_z-of_z w64 c.args.n (search rules)))
-    ∙ entry_assigned c.self.inside.variables.entries c.self.inside.heap c.put_entry-stored.new.self c.self.inside.functions c.self.inside.keywords c.self.inside.level c.args.self.now c.args.object (value.Integer _) c.put_entry-stored.result c.self.view_is c.args.index name is
+    ∙ entry_assigned c.self.inside.variables.entries c.self.inside.heap c.put_entry-stored.new.self c.self.inside.functions c.self.inside.keywords c.self.inside.level c.self.inside.names.items c.args.self.now c.args.object (value.Integer _) c.put_entry-stored.result c.self.view_is c.args.index name is
     c.put_entry-stored.ensures.stored q io

@@ -10,6 +10,6 @@ pub returns-clause-ok : goal.returns-clause-ok
 returns-clause-ok c =
     let inside = c.self.inside in
     on_ok_weaker c.put.result
-    (λ puts io. function_put (record { variables = inside.variables.entries; objects = inside.heap; functions = inside.functions; keys = inside.keywords; level = inside.level }) c.put.new.self c.args.name c.args.function puts io
+    (λ puts io. function_put (record { variables = inside.variables.entries; objects = inside.heap; functions = inside.functions; keys = inside.keywords; level = inside.level; names = inside.names.items }) c.put.new.self c.args.name c.args.function puts io
     ∙ ap (λ z. set_function c.args.name (function_of c.args.function) (world_of z io)) c.self.view_is)
     c.put.ensures.ok

@@ -4,7 +4,7 @@ use Rattle.world.proofs.world.World.read.Goals as goal
 
 pub returns-in-Ok-Some-clause-served : goal.returns-in-Ok-Some-clause-served
 returns-in-Ok-Some-clause-served g c = record {
-  told = read_takes c.args.name.now c.args.unit _ c.in-Ok-Some.line c.args.self.now _ _ _ _ c.in-Ok-Some.field-0-is c.in-Ok-Some.ensures.ok c.take.ensures.taken;
+  told = read_takes c.args.name.now c.args.unit _ c.in-Ok-Some.line c.args.self.now c.take.new.self _ _ _ c.in-Ok-Some.field-0-is c.in-Ok-Some.ensures.ok c.take.ensures.taken;
   counts = search rules;
 }
 

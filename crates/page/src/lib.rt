@@ -1,0 +1,97 @@
+//! What the page in a browser calls: a deck is run on records that are given, or listed.
+//!
+//! The page hands over memory for what is printed and told, and gets as much as fits, with the whole lengths in a
+//! `Shown`. Nothing is kept from one call to the next.
+//!
+//!     page_run(alloc, b" OUTPUT = INPUT\nEND\n", b"HI\n", 1_000, &mut printed, &mut told, &mut shown);
+//!
+//! Promised, of `page_run`: what is printed is what the deck means on the records, or a beginning of that, and a status of
+//! 0 says that the run ended normally. Listings, lines that are told and other statuses are tested, and so is each call
+//! from the page's side.
+#![tactic(auto)]
+
+mod putting;
+mod running;
+
+ghost use Rattle.page.specs.Shown.{IsPage};
+
+use crate::putting::put;
+use crate::running::{exit_status, run};
+use driver::{Told, report};
+use listing::{Style, list};
+use model::Status;
+use std::alloc::Global;
+
+/// The status where nothing can be told.
+const NOTHING_TOLD: u8 = 6;
+
+/// How a call came out.
+#[repr(C)]
+#[derive(Drop)]
+pub struct Shown {
+    /// The exit status that `sno` or `sno_list` has.
+    pub status: u64,
+    /// How many bytes there are to show, which may be more than fitted.
+    pub printed: u64,
+    /// How many bytes there are to tell.
+    pub told: u64,
+}
+
+// What `sno` would write on standard error, and its exit status.
+fn lines_of(alloc: Global, told: &Told<'_>) -> (Vec<u8>, u8) {
+    let mut lines = Vec::new(alloc);
+    let status = report(told, &mut lines).unwrap_or(NOTHING_TOLD);
+    (lines, status)
+}
+
+/// Compiles a deck and runs it, at most so many steps. Unit 5 has the lines of `input`; what is written to unit 6 goes to
+/// `printed`, and what `sno` would write on standard error to `told`.
+#[unsafe(no_mangle)]
+pub extern "C" fn page_run(
+    alloc: Global,
+    deck: &[u8],
+    input: &[u8],
+    steps: u64,
+    printed: &mut [u8],
+    told: &mut [u8],
+    shown: &mut Shown,
+)
+    ensures { IsPage deck.now input.now shown.new.status shown.new.printed printed.old printed.new }
+{
+    match run(alloc, deck, input, steps) {
+        Ok(run) => {
+            let ran = run.ran;
+            let (lines, status) = lines_of(alloc, &Told::Ran(ran));
+            shown.status = u64::from(exit_status(ran.status, status));
+            shown.printed = put(&run.printed, printed);
+            shown.told = put(&lines, told);
+        }
+        Err(refusal) => {
+            let (lines, status) = lines_of(alloc, &Told::Refused(refusal));
+            shown.status = u64::from(exit_status(Status::Running, status));
+            shown.printed = put(b"", printed);
+            shown.told = put(&lines, told);
+        }
+    }
+}
+
+/// Lists a deck, in lines of some width, with its instructions where they are wanted.
+#[unsafe(no_mangle)]
+pub extern "C" fn page_list(
+    alloc: Global,
+    deck: &[u8],
+    width: u64,
+    has_code: bool,
+    printed: &mut [u8],
+    shown: &mut Shown,
+) {
+    let mut lines = Vec::new(alloc);
+    let style = Style::new(usize::try_from(width).unwrap_or(80), false);
+    shown.status = match list(alloc, style, has_code, deck, &mut lines) {
+        Ok(true) => 0,
+        Ok(false) => 3,
+        Err(_) => 6,
+    };
+    shown.printed = put(&lines, printed);
+    shown.told = 0;
+}

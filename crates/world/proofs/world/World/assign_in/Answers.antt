@@ -1,0 +1,15 @@
+use Rattle.std.proofs.Common.{rules, sym, ◌∙◌}
+use Rattle.world.proofs.UnitCalls.{assigned_to_unit, assigned_alone}
+use Rattle.world.proofs.world.World.assign_in.Goals as goal
+
+pub returns-in-Some-clause-served : goal.returns-in-Some-clause-served
+returns-in-Some-clause-served g c = record {
+  told = assigned_to_unit c.args.name.now _ _ c.args.self.now c.set_in.new.self _ _ _ (sym c.in-Some.is ∙ c.set_in.ensures.output) c.set_in.ensures.set c.write.ensures.served.told;
+  counts = search rules;
+}
+
+pub returns-in-None-clause-served : goal.returns-in-None-clause-served
+returns-in-None-clause-served g c = record {
+  told = assigned_alone c.args.name.now _ c.args.self.now c.set_in.new.self _ (sym c.in-None.is ∙ c.set_in.ensures.output) c.set_in.ensures.set;
+  counts = search rules;
+}

@@ -1,0 +1,29 @@
+use Rattle.std.proofs.Common.{rules, inl, refl}
+use Rattle.model.specs.Deck.Target.{Variable}
+use Rattle.model.specs.Language.Operators.{assign_op, splice_op}
+use Rattle.world.specs.Values.{value_of}
+use Rattle.world.proofs.UnitCalls.{no_more, not_replaced, replaced_by}
+use Rattle.world.proofs.world.World.splice_in.Goals as goal
+
+pub returns-in_err-whole-clause-only : goal.returns-in_err-whole-clause-only
+returns-in_err-whole-clause-only g c = inl refl
+
+pub returns-clause-only : goal.returns-clause-only
+returns-clause-only g c =
+    no_more c.assign_in.result (Variable c.args.name.now) (value_of c.in_ok-whole.whole) c.args.self.now c.assign_in.new.self c.assign_in.ensures.ok c.assign_in.ensures.err
+
+pub returns-in_err-whole-clause-served : goal.returns-in_err-whole-clause-served
+returns-in_err-whole-clause-served g c = record {
+  told = not_replaced c.in_err-whole.field-0.0 c.from_residual.result c.args.self.now (assign_op (Variable c.args.name.now))
+      (splice_op (Variable c.args.name.now) c.args.span.now.subject c.args.span.now.start c.args.span.now.end (value_of c.args.value.now)) _ c.from_residual.ensures.1
+      (λ io. c.in_err-whole.ensures.value io (Variable c.args.name.now));
+  counts = search rules;
+}
+
+pub returns-clause-served : goal.returns-clause-served
+returns-clause-served g c = record {
+  told = replaced_by c.args.self.now c.assign_in.new.self (assign_op (Variable c.args.name.now) (value_of c.in_ok-whole.whole))
+      (splice_op (Variable c.args.name.now) c.args.span.now.subject c.args.span.now.start c.args.span.now.end (value_of c.args.value.now)) _ _ _
+      (λ io. c.in_ok-whole.ensures.value io (Variable c.args.name.now)) c.assign_in.ensures.served.told;
+  counts = search rules;
+}
