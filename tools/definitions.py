@@ -286,11 +286,10 @@ class Count(typing.NamedTuple):
 
 # The clauses whose figures docs/promises.md tells.
 HEADLINES = (
-    ("driver", "run_deck", "meant"),
-    ("driver", "run_deck", "in_time"),
+    ("driver", "run_deck", "meaning"),
     ("driver", "run_deck", "refused"),
     ("driver", "run_deck", "run"),
-    ("driver", "run_module", "served"),
+    ("driver", "run_module", "run"),
     ("driver", "compile_deck", None),
 )
 

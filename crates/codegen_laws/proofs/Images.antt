@@ -3,9 +3,9 @@ use Rattle.std.proofs.Common.{slice_get, refl, sym, ◌∙◌}
 use Rattle.model.specs.Deck.Cards.{first_cards}
 use Rattle.model.proofs.Machine.Agreement.{agrees_where_placed}
 use Rattle.model.proofs.Decks.FirstCards.{first_cards_law}
-use Rattle.model.proofs.Machine.RunsBounded.{run_steps_law}
+use Rattle.model.proofs.Machine.RunsBounded.{run_steps_law, run_prints_law}
 use Rattle.codegen.specs.Layout.{generated_image}
-use Rattle.codegen_laws.specs.CodegenLaws.{AreFit, AreCountable, IsPlaced, IsSpelt, IsSound, IsSmall, DoesAsMeant, IsInTime}
+use Rattle.codegen_laws.specs.CodegenLaws.{AreFit, AreCountable, IsPlaced, IsSpelt, IsSound, IsSmall, DoesAsMeant, IsInTime, IsPrintedInTime}
 use Rattle.codegen_laws.proofs.Accepted.{accepted_is_fit}
 use Rattle.codegen_laws.proofs.Counting.{all_statements}
 use Rattle.codegen_laws.proofs.Limits as Limits
@@ -39,3 +39,6 @@ agrees text cards ss h = let p = placed text cards ss h in agrees_where_placed s
 
 pub in_time : IsInTime
 in_time text cards ss h = let p = placed text cards ss h in run_steps_law ss (generated_image cards ss) p.0 refl p.1
+
+pub prints : IsPrintedInTime
+prints text cards ss h = let p = placed text cards ss h in run_prints_law ss (generated_image cards ss) p.0 refl p.1

@@ -8,7 +8,7 @@ use Rattle.model.specs.Module.Images.{module_of, code_size}
 use Rattle.model.specs.Module.Placed.{Placed}
 use Rattle.model.specs.Language.Programs.{program}
 use Rattle.model.specs.Module.Spelling.{IsImage}
-use Rattle.model.specs.Laws.StepBound.{EndsInTime}
+use Rattle.model.specs.Laws.StepBound.{EndsInTime, PrintsInTime}
 use Rattle.model.specs.Deck.Trees.{Expr, Stmt}
 use Rattle.model.specs.Module.WellFormed.{IsWellFormed}
 use Rattle.codegen.specs.Countable.{CountableStmt}
@@ -42,6 +42,10 @@ DoesAsMeant = (text cards : List ℕ) (ss : List Stmt) → verdict text ≡ Acce
 -- it ends in time
 abbrev pub IsInTime : Type 0
 IsInTime = (text cards : List ℕ) (ss : List Stmt) → verdict text ≡ Accepted ss → EndsInTime ss (generated_image cards ss)
+
+-- what the deck's meaning prints, it prints in time, also where neither ends
+abbrev pub IsPrintedInTime : Type 0
+IsPrintedInTime = (text cards : List ℕ) (ss : List Stmt) → verdict text ≡ Accepted ss → PrintsInTime ss (generated_image cards ss)
 
 -- its code has at most 15 bytes for each byte that a deck may have
 abbrev pub IsSmall : Type 0

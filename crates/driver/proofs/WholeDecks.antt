@@ -14,7 +14,7 @@ use Rattle.model.specs.Deck.Trees.{Stmt}
 use Rattle.parser.specs.Refusals.{IsRefusal}
 use Rattle.codegen.specs.Countable.{Fits}
 use Rattle.codegen.specs.Layout.{generated_image}
-use Rattle.codegen_laws.proofs.Images.{are_fit, are_countable, spelt as is_spelt, sound as is_sound, agrees as does_as_meant, in_time as ends_in_time}
+use Rattle.codegen_laws.proofs.Images.{are_fit, are_countable, spelt as is_spelt, sound as is_sound, agrees as does_as_meant, in_time as ends_in_time, prints as prints_in_time}
 use Rattle.driver.specs.declared.refusal.Refusal.{Refusal}
 use Rattle.driver.specs.declared.refusal.Refusal.TheVariants as refusal
 use Rattle.driver.specs.Compiled.{IsModuleOf, IsRefusalOf, OfCards, OfStatements}
@@ -70,4 +70,5 @@ is_module deck bytes ss image a i s = record {
   sound = is_sound deck (cards.first_cards deck) ss a;
   agrees = does_as_meant deck (cards.first_cards deck) ss a;
   in_time = ends_in_time deck (cards.first_cards deck) ss a;
+  prints = prints_in_time deck (cards.first_cards deck) ss a;
 }

@@ -1,6 +1,5 @@
 -- The card that is told beside a run's status.
-use Rattle.std.specs.Prelude.{ℕ, ℤ, pos, negsuc}
-use Rattle.model.specs.declared.image.Image.{Image}
+use Rattle.std.specs.Prelude.{ℕ, ℤ, pos, negsuc, List}
 use Rattle.model.specs.declared.run.Ending.TheVariants.{Normal, Error, StLimit}
 use Rattle.model.specs.declared.run.Status.{Status}
 use Rattle.model.specs.declared.run.Status.TheVariants.{Running, Ended, Stopped}
@@ -19,6 +18,6 @@ statement_told (Ended Normal) = 0
 statement_told Running = 0
 statement_told (Stopped s) = 0
 
--- the card where it begins; 0 where none is known
-abbrev pub card_told : Image → Status → ℕ
-card_told im status = card_of im.cards (statement_told status)
+-- the card where it begins, of the cards where statements begin; 0 where none is known
+abbrev pub card_told : (cards : List ℕ) → Status → ℕ
+card_told cards status = card_of cards (statement_told status)

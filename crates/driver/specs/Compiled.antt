@@ -9,7 +9,7 @@ use Rattle.model.specs.Laws.Agreement.{Agrees}
 use Rattle.model.specs.Deck.Cards.{first_cards}
 use Rattle.model.specs.Deck.Faults.{verdict, CardRefused, Refused, Accepted}
 use Rattle.model.specs.Module.Spelling.{IsImage, spelling}
-use Rattle.model.specs.Laws.StepBound.{EndsInTime}
+use Rattle.model.specs.Laws.StepBound.{EndsInTime, PrintsInTime}
 use Rattle.model.specs.Deck.Trees.{Stmt}
 use Rattle.model.specs.Module.WellFormed.{IsWellFormed}
 use Rattle.codegen.specs.Layout.{generated_image}
@@ -19,7 +19,7 @@ use Rattle.driver.specs.declared.refusal.Refusal.TheVariants as refusal
 -- ---- decks that are accepted
 
 -- the bytes are the module of the deck: they spell its image, of level 2 and with the card where each statement begins.
--- It is well-formed, and does what the deck's statements mean in as many steps as the step bound says
+-- It is well-formed, and does what the deck's statements mean, and ends and prints in as many steps as the step bound says
 pub record IsModuleOf (deck bytes : List ℕ) : Type 0 where
   pub statements : List Stmt
   pub trees : verdict deck ≡ Accepted statements
@@ -30,6 +30,7 @@ pub record IsModuleOf (deck bytes : List ℕ) : Type 0 where
   pub sound : IsWellFormed image
   pub agrees : Agrees statements image
   pub in_time : EndsInTime statements image
+  pub prints : PrintsInTime statements image
 
 -- ---- decks that are refused
 

@@ -1,15 +1,16 @@
 //! Whole calls: from a deck to a module, from a module to what it prints, and the words of the program `sno`.
 //!
 //! `run_deck(alloc, deck, units, bound)` compiles a deck and runs its module, at most `bound` steps; `compile_deck` and
-//! `run_module` are its halves, `run_with_card` tells the card of an error beside, `check_module` and `show` look at a
-//! module, and `upgrade` writes one of version 1 of the format anew.
+//! `run_with_card` are its halves, `run_module` is the second without the card of an error, `check_module` and `show` look
+//! at a module, and `upgrade` writes one of version 1 of the format anew.
 //!
-//!     let status = run_deck(alloc, b" OUTPUT = 'HI'\nEND\n", &mut units, 1_000)?;
+//!     let ran = run_deck(alloc, b" OUTPUT = 'HI'\nEND\n", &mut units, 1_000)?;
 //!
-//! Promised, of `run_deck`: a deck is refused by exactly its faults (`refused`); a run ends as the deck's meaning does,
-//! with that printed, or what it printed is a beginning of what the meaning prints (`meant`); and a meaning that ends
-//! after r rules is reached within 7 * (r + 1) steps (`in_time`). Words, lines and statuses (`read_words`, `report`)
-//! are tested.
+//! Promised, of `run_deck`: a deck is refused by exactly its faults (`refused`). A run does what the deck means
+//! (`meaning`): it ends as the deck's meaning does, with that printed, or what it printed is a prefix of what the meaning
+//! prints (`sound`); a meaning that ends after r rules is reached within 7 * (r + 1) steps (`reaches`); and what a meaning
+//! prints within r rules is printed within so many steps, also where neither ends (`prints`). Words, lines and statuses
+//! (`read_words`, `report`) are tested.
 #![tactic(auto)]
 
 mod compiling;

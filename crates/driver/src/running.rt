@@ -1,19 +1,16 @@
 //! From a module to what it prints.
 
-ghost use Rattle.std.specs.Prelude.{◌≡◌, ℕ, List, Err, Ok, IfErr, IfOk, OnErr, OnOk};
+ghost use Rattle.std.specs.Prelude.{◌≡◌, ℕ, List, Err, Ok, IfErr, IfOk, OnErr};
 ghost use Rattle.model.specs.declared.image.Image.{Image};
-ghost use Rattle.model.specs.Language.Told.{IfTold};
 ghost use Rattle.model.specs.Module.Images.{card_of};
 ghost use Rattle.model.specs.Module.Reading.{read_image};
 ghost use Rattle.loader.specs.Answers.{IsAnswer};
 ghost use Rattle.loader.specs.Loaded.{IsLoaded};
-ghost use Rattle.statement_machine.specs.Asking.{StopsWhereAsked};
-ghost use Rattle.statement_machine.specs.Stopped.{IfRan, IfStop, ending_of, stop_of_run};
-ghost use Rattle.statement_machine.specs.Runs.{IsRun, IsStoppedRun};
-ghost use Rattle.unit_io.specs.Service.{Served};
+ghost use Rattle.statement_machine.specs.Stopped.{stop_of_run};
+ghost use Rattle.unit_io.specs.Service.{KeepsCounts};
 ghost use Rattle.driver.specs.Cards.{card_told, number_in};
 ghost use Rattle.driver.specs.Compiled.{IsModuleOf};
-ghost use Rattle.driver.specs.Whole.{IsInTime, IsMeant};
+ghost use Rattle.driver.specs.Whole.{IsModuleRun, RefinesMeaning};
 
 use loader::{Module, load};
 use model::{Ending, LoadFault, Status};
@@ -48,7 +45,7 @@ fn card_at(program: &Module, statement: i64) -> u32
 // The card that is told beside a status.
 fn card_told(program: &Module, status: Status) -> u32
     requires { IsLoaded program.now }
-    ensures { result ≡ card_told program.now status }
+    ensures { result ≡ card_told program.now.cards status }
 {
     match status {
         Status::Ended(Ending::Error { statement, .. }) => card_at(program, statement),
@@ -67,31 +64,20 @@ pub fn run_with_card<U: Units>(
 ) -> Result<Ran, LoadFault>
     ensures refused { IfErr result (λ fault. IsAnswer bytes.now (Err fault)) }
     ensures untouched { OnErr result (units.new ≡ units.old) }
-    ensures accepted { OnOk result ((m : Image) × (read_image bytes.now ≡ Ok m) × IsLoaded m) }
-    // What was printed is what was printed before, followed by what the machine prints, and what is left on each unit
-    // is what the machine leaves there. A run that nothing stopped met no failure of a unit.
-    ensures served { IfOk result (λ ran. (m : Image) → read_image bytes.now ≡ Ok m →
-        Served U.Units (stop_of_run ran.status) units.old units.new (λ io io'.
-        IfRan ran.status (IsRun m bound (ending_of ran.status) io io'))) }
-    // A run that stopped has printed a beginning of what the machine prints.
-    ensures printed { IfOk result (λ ran. (m : Image) → read_image bytes.now ≡ Ok m →
-        IfStop ran.status (IfTold (U.told units.old) (U.told units.new) (IsStoppedRun m bound))) }
-    // A run that a unit stopped did so where the machine may ask one.
-    ensures asked { IfOk result (λ ran. (m : Image) → read_image bytes.now ≡ Ok m →
-        StopsWhereAsked m bound (stop_of_run ran.status) (U.told units.old) (U.told units.new)) }
-    // Of a module that compile_deck wrote, in the words of its deck alone: it ended as the deck's meaning does at some
-    // depth, with exactly that printed, or runs on or was stopped, and what it printed is a beginning of what the meaning
-    // prints.
-    ensures meant { IfOk result (λ ran.
+    // The run is the machine's on the image that the bytes spell.
+    ensures run { IfOk result (λ ran.
+        IsModuleRun bytes.now bound ran.status (U.told units.old) (U.told units.new)) }
+    // A run that nothing stopped met no failure of a unit. One stopped by a failed unit names it, and no other unit
+    // failed; for want of memory, none failed.
+    ensures counts { IfOk result (λ ran.
+        KeepsCounts (stop_of_run ran.status) (U.failures units.old) (U.failures units.new)) }
+    // Of a module that compile_deck wrote, in the words of its deck alone: it does what the deck means.
+    ensures meaning { IfOk result (λ ran.
         (deck : List ℕ) → IsModuleOf deck bytes.now
-        → IsMeant deck ran.status (U.told units.old) (U.told units.new)) }
-    // Where that meaning ends having used r rules, a run of STEPS_PER_RULE * (r + 1) steps or more has ended so.
-    ensures in_time { IfOk result (λ ran.
-        (deck : List ℕ) → IsModuleOf deck bytes.now
-        → IsInTime deck bound ran.status (U.told units.old) (U.told units.new)) }
+        → RefinesMeaning deck bound ran.status (U.told units.old) (U.told units.new)) }
     // The card of the statement at which the run ended by an error or the limit.
     ensures card { IfOk result (λ ran.
-        (m : Image) → read_image bytes.now ≡ Ok m → ran.card ≡ card_told m ran.status) }
+        (m : Image) × (read_image bytes.now ≡ Ok m) × (ran.card ≡ card_told m.cards ran.status)) }
 {
     let program = load(alloc, bytes)?;
     let status = run_from_entry(alloc, &program, units, bound);
@@ -108,28 +94,17 @@ pub fn run_module<U: Units>(
 ) -> Result<Status, LoadFault>
     ensures refused { IfErr result (λ fault. IsAnswer bytes.now (Err fault)) }
     ensures untouched { OnErr result (units.new ≡ units.old) }
-    ensures accepted { OnOk result ((m : Image) × (read_image bytes.now ≡ Ok m) × IsLoaded m) }
-    // What was printed is what was printed before, followed by what the machine prints, and what is left on each unit
-    // is what the machine leaves there. A run that nothing stopped met no failure of a unit.
-    ensures served { IfOk result (λ status. (m : Image) → read_image bytes.now ≡ Ok m →
-        Served U.Units (stop_of_run status) units.old units.new (λ io io'.
-        IfRan status (IsRun m bound (ending_of status) io io'))) }
-    // A run that stopped has printed a beginning of what the machine prints.
-    ensures printed { IfOk result (λ status. (m : Image) → read_image bytes.now ≡ Ok m →
-        IfStop status (IfTold (U.told units.old) (U.told units.new) (IsStoppedRun m bound))) }
-    // A run that a unit stopped did so where the machine may ask one.
-    ensures asked { IfOk result (λ status. (m : Image) → read_image bytes.now ≡ Ok m →
-        StopsWhereAsked m bound (stop_of_run status) (U.told units.old) (U.told units.new)) }
-    // Of a module that compile_deck wrote, in the words of its deck alone: it ended as the deck's meaning does at some
-    // depth, with exactly that printed, or runs on or was stopped, and what it printed is a beginning of what the meaning
-    // prints.
-    ensures meant { IfOk result (λ status.
+    // The run is the machine's on the image that the bytes spell.
+    ensures run { IfOk result (λ status.
+        IsModuleRun bytes.now bound status (U.told units.old) (U.told units.new)) }
+    // A run that nothing stopped met no failure of a unit. One stopped by a failed unit names it, and no other unit
+    // failed; for want of memory, none failed.
+    ensures counts { IfOk result (λ status.
+        KeepsCounts (stop_of_run status) (U.failures units.old) (U.failures units.new)) }
+    // Of a module that compile_deck wrote, in the words of its deck alone: it does what the deck means.
+    ensures meaning { IfOk result (λ status.
         (deck : List ℕ) → IsModuleOf deck bytes.now
-        → IsMeant deck status (U.told units.old) (U.told units.new)) }
-    // Where that meaning ends having used r rules, a run of STEPS_PER_RULE * (r + 1) steps or more has ended so.
-    ensures in_time { IfOk result (λ status.
-        (deck : List ℕ) → IsModuleOf deck bytes.now
-        → IsInTime deck bound status (U.told units.old) (U.told units.new)) }
+        → RefinesMeaning deck bound status (U.told units.old) (U.told units.new)) }
 {
     let ran = run_with_card(alloc, bytes, units, bound)?;
     Ok(ran.status)

@@ -14,6 +14,7 @@ pub mod Agreement
 pub mod Pacing
 pub mod MatchesPaced
 pub mod RunsBounded
+pub mod LongerRuns
 pub mod Lists
 pub mod OperationsIn
 pub mod PrimitivesIn

@@ -1,6 +1,7 @@
 -- Room: The statements of the laws; each is a clause of a function of `src/laws_*.rt`.
 pub mod Agreement
 pub mod PrintedBefore
+pub mod LongerRuns
 pub mod StepBound
 pub mod Meaning
 pub mod Matches

@@ -2,6 +2,7 @@
 //! may use the law.
 
 ghost use Rattle.model.specs.Laws.Agreement.{AgreesWherePlaced, EndingStays, PrintedGrows};
+ghost use Rattle.model.specs.Laws.LongerRuns.{EndedRunStays, RunPrintsOn};
 ghost use Rattle.model.specs.Laws.PrintedBefore.{RunsAfter};
 ghost use Rattle.model.specs.Laws.StepBound.{RunPrintsBounded, RunStepsBounded};
 ghost use Rattle.model.specs.Laws.Meaning.{AnswersStay, MatchesStay, CountsStay, RulesStay};
@@ -27,6 +28,13 @@ pub fn run_steps_are_bounded()
 /// does has printed after any 7 * (r + 1) steps or more: also where the run never ends.
 pub fn run_prints_are_bounded()
     ensures { RunPrintsBounded }
+{}
+
+/// A longer bound only adds: what a run has printed is a prefix of what it prints with a greater bound on the same inputs,
+/// and a run that has ended comes to the same with any greater bound.
+pub fn longer_runs_only_add()
+    ensures ending { EndedRunStays }
+    ensures printed { RunPrintsOn }
 {}
 
 /// While it runs, a match of the machine is the steps of its code.

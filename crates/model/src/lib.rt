@@ -43,8 +43,8 @@ pub use image::{Image, Label, Level, PatInstr};
 pub use instr::{ArithOp, Instr, ReturnKind, SignOp};
 pub use keys::KeyId;
 pub use laws_agreement::{
-    agreement, counts_stay, matches_step, meaning_stays, queries_stay, run_prints_are_bounded,
-    run_steps_are_bounded,
+    agreement, counts_stay, longer_runs_only_add, matches_step, meaning_stays, queries_stay,
+    run_prints_are_bounded, run_steps_are_bounded,
 };
 pub use laws_bytes::{read_is_spelt, spelling_rows, spelt_is_read};
 pub use laws_cards::worked_decks;

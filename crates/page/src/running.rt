@@ -8,7 +8,7 @@ ghost use Rattle.statement_machine.specs.Stopped.{ending_of};
 ghost use Rattle.driver.specs.Compiled.{IsRefusalOf};
 ghost use Rattle.page.specs.Shown.{IsShown, inputs_of};
 
-use driver::{Ran, Refusal, compile_deck, run_with_card};
+use driver::{Ran, Refusal, run_deck};
 use model::{Ending, Status, UnitFault};
 use std::alloc::Global;
 use unit_io::MemUnits;
@@ -50,13 +50,10 @@ pub(crate) fn run(alloc: Global, deck: &[u8], input: &[u8], steps: u64) -> Resul
     ensures refused { IfErr result (IsRefusalOf deck.now) }
     ensures shown { IfOk result (λ run. IsShown deck.now input.now run.ran.status run.printed.items) }
 {
-    let module = compile_deck(alloc, deck)?;
     let Ok(mut units) = units(alloc, input) else {
         return Err(Refusal::Memory);
     };
-    let Ok(ran) = run_with_card(alloc, &module, &mut units, steps) else {
-        return Err(Refusal::Memory);
-    };
+    let ran = run_deck(alloc, deck, &mut units, steps)?;
     match printed_on(alloc, &units) {
         Ok(printed) => Ok(Outcome { ran, printed }),
         Err(_) => Err(Refusal::Memory),

@@ -2,22 +2,25 @@
 
 use crate::files::{read_file, read_input, write_file};
 use driver::{
-    Job, Ran, ShowFault, Told, UnitFile, check_module, compile_deck, run_with_card, show, upgrade,
+    Job, Ran, ShowFault, Told, UnitFile, check_module, compile_deck, run_deck, run_with_card, show,
+    upgrade,
 };
 use model::{Status, Stop, UnitFault};
 use std::fs::Files;
 use std::io::{self, BufWriter, Input, Print, Write};
 use unit_io::FileUnits;
 
-/// The status of a run after what it kept back was written, but for the unit that is told.
-fn flushed(status: Status, written: Result<(), u8>) -> Status {
-    match (status, written) {
-        (Status::Stopped(stop), _) => Status::Stopped(stop),
-        (_, Err(unit)) => Status::Stopped(Stop::Unit {
-            unit,
-            cause: UnitFault::WriteFailed,
-        }),
-        (status, Ok(())) => status,
+/// How a run came out after what it kept back was written, but for the unit that is told.
+fn flushed(ran: Ran, written: Result<(), u8>) -> Ran {
+    match (ran.status, written) {
+        (Status::Stopped(_), _) | (_, Ok(())) => ran,
+        (_, Err(unit)) => Ran {
+            status: Status::Stopped(Stop::Unit {
+                unit,
+                cause: UnitFault::WriteFailed,
+            }),
+            card: ran.card,
+        },
     }
 }
 
@@ -46,10 +49,7 @@ fn run<R: Files + Input + Print + AllocGlobal>(
 ) -> Result<Ran, Told<'static>> {
     let mut units = units_of(rt, files)?;
     match run_with_card(rt.alloc(), module, &mut units, steps) {
-        Ok(Ran { status, card }) => Ok(Ran {
-            status: flushed(status, units.flush()),
-            card,
-        }),
+        Ok(ran) => Ok(flushed(ran, units.flush())),
         Err(fault) => Err(Told::BadModule(fault)),
     }
 }
@@ -61,8 +61,9 @@ fn compile_and_run<R: Files + Input + Print + AllocGlobal>(
     steps: u64,
     files: &[UnitFile<'_>],
 ) -> Result<Ran, Told<'static>> {
-    match compile_deck(rt.alloc(), deck) {
-        Ok(module) => run(rt, &module, steps, files),
+    let mut units = units_of(rt, files)?;
+    match run_deck(rt.alloc(), deck, &mut units, steps) {
+        Ok(ran) => Ok(flushed(ran, units.flush())),
         Err(refusal) => Err(Told::Refused(refusal)),
     }
 }

@@ -28,7 +28,8 @@ fn comes(alloc: Global, run: Run<'_>, status: Option<Status>, printed: &str) -> 
     };
     let mut units = FailAt::new(inner, run.failing);
     let found = run_deck(alloc, run.deck.as_bytes(), &mut units, run.steps);
-    found.ok() == status && units.into_inner().bytes(6) == Some(printed.as_bytes())
+    found.ok().map(|ran| ran.status) == status
+        && units.into_inner().bytes(6) == Some(printed.as_bytes())
 }
 
 const NORMAL: Option<Status> = Some(Status::Ended(Ending::Normal));

@@ -95,7 +95,7 @@ module _ (img : Module) (g : Matching) (fs : List Frame) (m : MW) where
       go f (Asks v) q = now (Asks v) q tt
       go f (Matched b e a) q = now (Matched b e a) q tt
 
-machine_more : (img : Module) (i j : ℕ) (c : State) → steps img (i + j) c ≡ steps img j (steps img i c)
+pub machine_more : (img : Module) (i j : ℕ) (c : State) → steps img (i + j) c ≡ steps img j (steps img i c)
 machine_more img zero j c = let e : zero + j ≡ j = omega arith in ap (λ k. steps img k c) e
 machine_more img (suc i) j c = let e : suc i + j ≡ suc (i + j) = omega arith in ap (λ k. steps img k c) e ∙ machine_more img i j (step img c)
 

@@ -1,4 +1,4 @@
-use Rattle.codegen_laws.proofs.Images.{spelt, sound, small, agrees, in_time}
+use Rattle.codegen_laws.proofs.Images.{spelt, sound, small, agrees, in_time, prints}
 use Rattle.codegen_laws.proofs.laws.accepted_images.Goals as goal
 
 pub returns-clause-spelt : goal.returns-clause-spelt
@@ -15,3 +15,6 @@ returns-clause-agrees c = agrees
 
 pub returns-clause-in_time : goal.returns-clause-in_time
 returns-clause-in_time c = in_time
+
+pub returns-clause-prints : goal.returns-clause-prints
+returns-clause-prints c = prints

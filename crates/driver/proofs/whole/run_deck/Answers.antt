@@ -1,20 +1,17 @@
-use Rattle.driver.proofs.WholeRuns.{is_run, is_meant, is_in_time, only_memory}
+use Rattle.driver.proofs.WholeRuns.{card_is, is_run, refines, only_memory}
 use Rattle.driver.proofs.whole.run_deck.Goals as goal
 
 pub returns-in-Ok-clause-run : goal.returns-in-Ok-clause-run
 returns-in-Ok-clause-run g c =
-    is_run c.args.deck.now c.deref.result.now c.in_ok-module.module.items c.args.bound c.in-Ok.status (g.U.Units.told c.args.units.now) (g.U.Units.told c.run_module.new.units) c.deref.ensures.value c.in_ok-module.ensures.module (λ im e. (c.in-Ok.ensures.served im e).told) c.in-Ok.ensures.printed
+    is_run c.args.deck.now c.deref.result.now c.in_ok-module.module.items c.args.bound c.in-Ok.ran.status (g.U.Units.told c.args.units.now) (g.U.Units.told c.run_with_card.new.units) c.deref.ensures.value c.in_ok-module.ensures.module c.in-Ok.ensures.run
 
 pub lacking-requires : goal.lacking-requires
 lacking-requires g c = record { memory = only_memory c.args.deck.now c.deref.result.now c.in_ok-module.module.items c.in-Err.fault c.deref.ensures.value c.in_ok-module.ensures.module c.in-Err.ensures.refused }
 
-pub returns-in-Ok-clause-meant : goal.returns-in-Ok-clause-meant
-returns-in-Ok-clause-meant g c =
-    is_meant c.args.deck.now c.args.bound c.in-Ok.status (g.U.Units.told c.args.units.now) (g.U.Units.told c.run_module.new.units) (returns-in-Ok-clause-run g c)
+pub returns-in-Ok-clause-meaning : goal.returns-in-Ok-clause-meaning
+returns-in-Ok-clause-meaning g c =
+    refines c.args.deck.now c.args.bound c.in-Ok.ran.status (g.U.Units.told c.args.units.now) (g.U.Units.told c.run_with_card.new.units) (returns-in-Ok-clause-run g c)
 
-pub returns-in-Ok-clause-in_time : goal.returns-in-Ok-clause-in_time
-returns-in-Ok-clause-in_time g c =
-    is_in_time c.args.deck.now c.args.bound c.in-Ok.status (g.U.Units.told c.args.units.now) (g.U.Units.told c.run_module.new.units) (returns-in-Ok-clause-run g c)
-
-pub returns-in-Ok-clause-counts : goal.returns-in-Ok-clause-counts
-returns-in-Ok-clause-counts g c = let m = c.in-Ok.ensures.accepted in (c.in-Ok.ensures.served m.0 m.1).counts
+pub returns-in-Ok-clause-card : goal.returns-in-Ok-clause-card
+returns-in-Ok-clause-card g c =
+    card_is c.args.deck.now c.deref.result.now c.in_ok-module.module.items c.in-Ok.ran.status c.in-Ok.ran.card c.deref.ensures.value c.in_ok-module.ensures.module c.in-Ok.ensures.card
