@@ -5,6 +5,7 @@ DECK ?= examples/hello.sno
 INPUT ?=
 CRATE ?=
 PREFIX ?= /usr/local
+SEED ?=
 # What `install` puts into PREFIX.
 SNO ?= build/sno
 LIST ?= build/sno_list
@@ -24,7 +25,7 @@ PARTS = $(foreach crate,$(shell tools/below $(1) 2>/dev/null),$(foreach part,src
 SOURCES := $(shell find crates.txt $(wildcard $(call PARTS,sno)) 2>/dev/null)
 LISTER_SOURCES := $(shell find crates.txt $(wildcard $(call PARTS,sno_list)) 2>/dev/null)
 
-.PHONY: help run try sno list install uninstall test decks pages bound ways refuse failing damage deep wrong time check bench compare fmt clean page toolchain program deck input
+.PHONY: help run try sno list install uninstall test decks pages bound ways refuse failing damage deep wrong time check bench compare variants random fmt clean page toolchain program deck input
 .DEFAULT_GOAL := help
 
 help: ## list the targets
@@ -137,6 +138,12 @@ endif
 
 compare: build/sno ## the workloads of bench/ on the proved program and on the others that are installed
 	@bench/compare build/sno
+
+variants: build/sno ## rewrites of six workloads on the proved program, and what the same rewrites cost in Lua
+	@bench/compare --variants build/sno
+
+random: build/sno ## [SEED=word]: 200 loops of statements drawn by the seed (the day's), and the same in Lua
+	@bench/random $(SEED) --program build/sno
 
 fmt: toolchain ## lay out every crate's files
 	@for crate in crates/*/; do echo "fmt: $$crate"; (cd $$crate && $(RT) fmt) || exit 1; done

@@ -1,0 +1,8 @@
+-- A local that nothing uses.
+local function fib(n)
+  local t
+  if n < 2 then return n end
+  return fib(n - 1) + fib(n - 2)
+end
+local n = io.read("n")
+print(fib(n))

@@ -1,0 +1,23 @@
+-- The place of an element is reckoned in its subscript.
+local a, n = {}, 0
+for line in io.lines() do
+  n = n + 1
+  a[n] = tonumber(line)
+end
+local gap = n
+while gap > 1 do
+  gap = gap // 2
+  local i = gap
+  while i < n do
+    i = i + 1
+    local x = a[i]
+    local j = i
+    while j > gap do
+      if not (a[j - gap] > x) then break end
+      a[j] = a[j - gap]
+      j = j - gap
+    end
+    a[j] = x
+  end
+end
+print(a[1] .. " " .. a[n // 2] .. " " .. a[n])

@@ -1,0 +1,21 @@
+-- An entry is fetched into a variable first.
+local word = "%l+"
+local t, n = {}, 0
+for line in io.lines() do
+  local at = 1
+  while true do
+    local from, to = line:find(word, at)
+    if not from then break end
+    local w = line:sub(from, to)
+    at = to + 1
+    n = n + 1
+    local c = t[w] or 0
+    t[w] = c + 1
+  end
+end
+local i, m = 0, 0
+for _, c in pairs(t) do
+  i = i + 1
+  if c > m then m = c end
+end
+print(n .. " " .. i .. " " .. m)

@@ -1,0 +1,20 @@
+-- A test whether an entry is null, for what is first.
+local word = "%l+"
+local t, n = {}, 0
+for line in io.lines() do
+  local at = 1
+  while true do
+    local from, to = line:find(word, at)
+    if not from then break end
+    local w = line:sub(from, to)
+    at = to + 1
+    n = n + 1
+    if t[w] == nil then t[w] = 1 else t[w] = t[w] + 1 end
+  end
+end
+local i, m = 0, 0
+for _, c in pairs(t) do
+  i = i + 1
+  if c > m then m = c end
+end
+print(n .. " " .. i .. " " .. m)
