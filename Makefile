@@ -25,7 +25,7 @@ PARTS = $(foreach crate,$(shell tools/below $(1) 2>/dev/null),$(foreach part,src
 SOURCES := $(shell find crates.txt $(wildcard $(call PARTS,sno)) 2>/dev/null)
 LISTER_SOURCES := $(shell find crates.txt $(wildcard $(call PARTS,sno_list)) 2>/dev/null)
 
-.PHONY: help run try sno list install uninstall test decks pages bound ways refuse failing damage deep wrong time check bench compare variants random fmt clean page toolchain program deck input
+.PHONY: help run try sno list install uninstall test decks pages bound ways load refuse failing damage deep wrong time check bench compare variants random fmt clean page toolchain program deck input
 .DEFAULT_GOAL := help
 
 help: ## list the targets
@@ -90,7 +90,7 @@ uninstall: ## [PREFIX=folder]: take away what install put there
 test: toolchain ## the gate: every proof from nothing, must-fail edits, tests, programs, decks (last line 'N passed, M failed')
 	@echo "test: proving every crate from nothing; this takes many minutes (all lines go to build/log)"
 	@mkdir -p build && touch build/began
-	@RT_JOBS=$${RT_JOBS:-$$(tools/jobs)} tools/progress "$(RT) ci" "tools/wrong --texts" "tests/docs $(PROGRAM)/out/sno $(LISTER)/out/sno_list" "tests/run $(BUILT)" "tests/pipe $(PROGRAM)/out/sno" "tests/bound --decks 100 $(PROGRAM)/out/sno" "tests/ways $(BUILT)" $(FAULTS)
+	@RT_JOBS=$${RT_JOBS:-$$(tools/jobs)} tools/progress "$(RT) ci" "tools/wrong --texts" "tests/docs $(PROGRAM)/out/sno $(LISTER)/out/sno_list" "tests/run $(BUILT)" "tests/pipe $(BUILT) --list $(LISTER)/out/sno_list" "tests/load $(PROGRAM)/out/sno" "tests/bound --decks 100 $(PROGRAM)/out/sno" "tests/ways $(BUILT)" $(FAULTS)
 	@cp $(PROGRAM)/out/sno build/sno.new && touch -r build/began build/sno.new && mv build/sno.new build/sno
 
 decks: build/sno ## the decks of tests/ alone, on the proved program
@@ -105,10 +105,13 @@ bound: build/sno ## 2,000 random decks on the proved program and on the referenc
 ways: build/sno ## 5,000 random decks of the whole language each way on the proved program, and on the reference
 	@tests/ways build/sno --decks 5000 --mangled 1000
 
+load: build/sno ## a thousand runs at once, more files than the system opens, and units that are opened on and on
+	@tests/load build/sno
+
 refuse: build/sno build/failing ## each growth of memory refused in turn, to the proved program on some hundred decks
 	@tests/refuse build/sno build/failing
 
-failing: build/sno build/failing ## each read and write failed in turn, on the proved program and on units that fail
+failing: build/sno build/failing ## each read and write failed or the program killed there, and streams closed, on the proved program
 	@tests/failing build/sno build/failing
 
 damage: build/sno build/failing ## some nine million damaged modules, run by the proved code

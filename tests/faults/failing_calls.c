@@ -1,15 +1,19 @@
 /* Preloaded into a program, this starts the program anew for each line of standard input, and lets some of its calls
  * fail. A line is `KIND FIRST LAST`: of the calls of that kind, counted from 1, those from FIRST to LAST fail. Of
- * the kind `space` the program has FIRST bytes of address space more than it has when it starts; behind a line of the
- * kind `file` stand FIRST bytes, which the file `file` of the current folder holds then, and no call fails. The answer
- * is a line `CALLS FAILED STATUS KILOBYTES OUT ERR`, and then OUT bytes that the program printed and ERR bytes that it
- * wrote to standard error. STATUS is 256 more than the number of a signal, if one ended it. The program's standard
- * input is the file `stdin` of the current folder, or nothing. It has at most 60 seconds.
+ * the kind `space` the program has FIRST bytes of address space more than it has when it starts; of the kind `closed`
+ * those of its standard streams are closed whose bits are set in FIRST; behind a line of the kind `file` stand FIRST
+ * bytes, which the file `file` of the current folder holds then, and no call fails. Of the kinds `kill` and `kill_amid`
+ * the process is killed at the FIRST of the calls that change files: before it, or when half the bytes of a write, or
+ * all of another call, are done. The answer is a line `CALLS FAILED STATUS KILOBYTES OUT ERR`, and then OUT bytes that
+ * the program printed and ERR bytes that it wrote to standard error. STATUS is 256 more than the number of a signal, if
+ * one ended it. The program's standard input is the file `stdin` of the current folder, or nothing. It has at most 60
+ * seconds.
  */
 #define _GNU_SOURCE
 #include <errno.h>
 #include <fcntl.h>
 #include <malloc.h>
+#include <signal.h>
 #include <stdarg.h>
 #include <stdint.h>
 #include <stdio.h>
@@ -22,11 +26,14 @@
 #include <unistd.h>
 
 /* Growths of memory that are refused; reads and writes that fail, move one byte, or are interrupted; files that don't
- * open. */
-enum kind { NONE, GROWTH, READ, WRITE, OPEN, SHORT_READ, SHORT_WRITE, READ_AGAIN, WRITE_AGAIN, SPACE, FILED, KINDS };
+ * open, or take no other name; the end of the process at a call. */
+enum kind {
+    NONE, GROWTH, READ, WRITE, OPEN, RENAME, SHORT_READ, SHORT_WRITE, READ_AGAIN, WRITE_AGAIN, KILL, KILL_AMID, CLOSED,
+    SPACE, FILED, KINDS
+};
 static const char *const names[KINDS] = {
-    "none",        "growth",     "read",        "write", "open", "short_read",
-    "short_write", "read_again", "write_again", "space", "file",
+    "none",        "growth",     "read",        "write", "open",      "rename", "short_read",
+    "short_write", "read_again", "write_again", "kill",  "kill_amid", "closed", "space",      "file",
 };
 
 /* What a run is asked for and tells, in memory that it shares with its parent. */
@@ -74,7 +81,29 @@ ssize_t read(int file, void *bytes, size_t size) {
     return syscall(SYS_read, file, bytes, size > 1 && fails(SHORT_READ) ? 1 : size);
 }
 
+static void end_process(void) {
+    syscall(SYS_kill, getpid(), SIGKILL);
+}
+
+/* Ends the process before the call that is asked for. */
+static void may_end(void) {
+    if (fails(KILL))
+        end_process();
+}
+
+/* Gives the result of a call, but ends the process if it's the one that is asked for. */
+static long ended(long result) {
+    if (fails(KILL_AMID))
+        end_process();
+    return result;
+}
+
 ssize_t write(int file, const void *bytes, size_t size) {
+    may_end();
+    if (fails(KILL_AMID)) {
+        syscall(SYS_write, file, bytes, size / 2);
+        end_process();
+    }
     if (fails(WRITE) || fails(WRITE_AGAIN)) {
         errno = tally->kind == WRITE ? EIO : EINTR;
         return -1;
@@ -85,6 +114,7 @@ ssize_t write(int file, const void *bytes, size_t size) {
 ssize_t __write(int file, const void *bytes, size_t size) { return write(file, bytes, size); }
 
 int open(const char *path, int flags, ...) {
+    may_end();
     if (fails(OPEN)) {
         errno = EACCES;
         return -1;
@@ -93,7 +123,26 @@ int open(const char *path, int flags, ...) {
     va_start(rest, flags);
     int mode = flags & (O_CREAT | O_TMPFILE) ? va_arg(rest, int) : 0;
     va_end(rest);
-    return syscall(SYS_openat, AT_FDCWD, path, flags, mode);
+    return ended(syscall(SYS_openat, AT_FDCWD, path, flags, mode));
+}
+
+int rename(const char *from, const char *to) {
+    may_end();
+    if (fails(RENAME)) {
+        errno = EXDEV;
+        return -1;
+    }
+    return ended(syscall(SYS_renameat2, AT_FDCWD, from, AT_FDCWD, to, 0));
+}
+
+int unlink(const char *path) {
+    may_end();
+    return ended(syscall(SYS_unlinkat, AT_FDCWD, path, 0));
+}
+
+int ftruncate(int file, off_t size) {
+    may_end();
+    return ended(syscall(SYS_ftruncate, file, size));
 }
 
 static void give_up(const char *what) {
@@ -129,8 +178,8 @@ static int asked(FILE *requests) {
     return tally->kind < KINDS;
 }
 
-/* Gives the new process its files. */
-static void become(int out, int err) {
+/* Gives the new process its files, but for those whose bits are set. */
+static void become(int out, int err, unsigned closed) {
     int in = syscall(SYS_openat, AT_FDCWD, "stdin", O_RDONLY);
     if (in < 0)
         in = syscall(SYS_openat, AT_FDCWD, "/dev/null", O_RDONLY);
@@ -139,6 +188,9 @@ static void become(int out, int err) {
     close(in);
     close(out);
     close(err);
+    for (int file = 0; file < 3; file++)
+        if (closed >> file & 1)
+            close(file);
     alarm(60);
 }
 
@@ -177,6 +229,7 @@ static void answer(pid_t child, int out, int err, FILE *answers) {
     struct rusage used;
     if (wait4(child, &ended, 0, &used) != child)
         give_up("wait4");
+    tally->kind = NONE;
     int status = WIFEXITED(ended) ? WEXITSTATUS(ended) : 256 + WTERMSIG(ended);
     off_t printed = lseek(out, 0, SEEK_END), told = lseek(err, 0, SEEK_END);
     fprintf(answers, "%lu %lu %d %ld %ld %ld\n", tally->calls, tally->failed, status, used.ru_maxrss, (long)printed,
@@ -205,7 +258,7 @@ __attribute__((constructor)) static void serve(void) {
         if (child == 0) {
             close(fileno(requests));
             close(fileno(answers));
-            become(out, err);
+            become(out, err, kind == CLOSED ? tally->first : 0);
             if (kind == SPACE)
                 limit_space(tally->first);
             tally->kind = kind;

@@ -79,11 +79,16 @@ def fault(wanted, seen, whole):
     return None
 
 
-class Run:
-    """A command in a folder, ready to run on a deck's files."""
+def left_beside(run):
+    """What is wrong with the files beside others, where the process ended by itself."""
+    return f"left {run.beside()}" if run.beside() else None
 
-    def __init__(self, served, case, command):
-        self.served, self.case, self.command = served, case, command
+
+class Run:
+    """A command in a folder, ready to run on a deck's files, with this in the files that it writes whole."""
+
+    def __init__(self, served, case, command, before=None):
+        self.served, self.case, self.command, self.before = served, case, command, before
         served.put("deck.sno", case.deck)
         served.put("stdin", case.given if command.words else case.deck)
 
@@ -92,10 +97,16 @@ class Run:
         program = "tests_failing" if self.command.asks_again else "sno"
         return f"{self.case.name}, {program} {' '.join(self.command.words)}"
 
+    def beside(self):
+        """The names of files that a command writes beside others, and gives their names only when they are whole."""
+        return [file.name for file in self.served.folder.glob(".sno-*")]
+
     def seen(self, first=0, last=0, kind="growth"):
         """What is seen where these growths are refused, and how many are."""
         self.case.put(self.served)
         for name in self.command.whole:
+            self.served.put(name, self.before)
+        for name in self.beside():
             self.served.put(name, None)
         answer = self.served.run(kind, first, last)
         files = {**self.case.get(self.served), **{name: self.served.get(name) for name in self.command.whole}}
@@ -110,7 +121,7 @@ def refused(run, first, every):
         for last in (n, LAST):
             seen, failed = run.seen(n, last)
             count += failed > 0
-            why = fault(wanted, seen, run.command.whole)
+            why = fault(wanted, seen, run.command.whole) or left_beside(run)
             if why:
                 so = "alone" if last == n else "and all that follow"
                 lines.append(f"{run.name()}, growth {n} {so}: {why}")

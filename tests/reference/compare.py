@@ -12,8 +12,9 @@ from .replay import Replay
 from .units import Units
 
 DECKS = pathlib.Path(__file__).resolve().parents[1] / "decks"
-# Words of a case that the reference has nothing for: steps, and files that can't be opened or written.
-LEFT_OUT = re.compile(r"--steps.*|[0-9]+=(\.|not_there.*|/dev/full)")
+# Words of a case that the reference has nothing for: steps, and files that can't be opened or written, as those that two
+# units have.
+LEFT_OUT = re.compile(r"--steps.*|[0-9]+=(\.|not_there.*|/dev/.*|(\./)?both)")
 
 MOST_RULES = 1500
 

@@ -8,7 +8,9 @@ use std::alloc::AllocError;
 use std::env::{self, Env};
 use std::fs::{self, Files};
 use std::io::{self, BufWriter, ErrorKind, Input, Print, Read, Write};
+use std::os::fd::AsFd;
 use std::process::ExitCode;
+use streams::{Stream, Streams};
 
 /// Exit statuses, as `sno` has them.
 const BAD_WORDS: u8 = 2;
@@ -167,8 +169,15 @@ fn status<W: Write>(done: Result<u8, Told<'_>>, errors: &mut W) -> ExitCode {
     })
 }
 
-/// Does what the program's words ask for, tells what is to be told as lines of `errors`, and gives the exit status.
-pub fn run<R: Env + Files + Input + Print + AllocGlobal, W: Write>(
+// What is told where the number of a standard stream can't be held.
+fn not_held(stream: Stream) -> Told<'static> {
+    match stream {
+        Stream::Input => Told::CannotRead("standard input"),
+        Stream::Output | Stream::Error => Told::CannotWrite,
+    }
+}
+
+fn perform_words<R: Env + Files + Input + Print + AllocGlobal, W: Write>(
     rt: &R,
     errors: &mut W,
 ) -> ExitCode {
@@ -179,5 +188,19 @@ pub fn run<R: Env + Files + Input + Print + AllocGlobal, W: Write>(
     match borrowed(rt, &arguments) {
         Ok(words) => status(answer(rt, &words), errors),
         Err(_) => status(Err(Told::NoMemory), errors),
+    }
+}
+
+/// Does what the program's words ask for, tells what is to be told as lines of `errors`, and gives the exit status. The
+/// standard streams that are closed are held first.
+pub fn run<R: Env + Files + Input + Print + AllocGlobal, I: AsFd, O: AsFd, W: Write + AsFd>(
+    rt: &R,
+    input: &I,
+    output: &O,
+    errors: &mut W,
+) -> ExitCode {
+    match Streams::hold(rt, input, output, errors) {
+        Ok(_held) => perform_words(rt, errors),
+        Err(stream) => status(Err(not_held(stream)), errors),
     }
 }

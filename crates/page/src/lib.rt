@@ -5,7 +5,7 @@
 //!
 //!     page_run(alloc, b" OUTPUT = INPUT\nEND\n", b"HI\n", 1_000, &mut printed, &mut told, &mut shown);
 //!
-//! Promised, of `page_run`: what is printed is what the deck means on the records, or a beginning of that, and a status of
+//! Promised, of `page_run`: what is printed is what the deck means on the records, or a prefix of that, and a status of
 //! 0 says that the run ended normally. Listings, lines that are told and other statuses are tested, and so is each call
 //! from the page's side.
 #![tactic(auto)]

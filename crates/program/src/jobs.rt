@@ -1,11 +1,13 @@
 //! What is done for each row of the table of words.
 
 use crate::files::{read_file, read_input, write_file};
+use crate::system::RunSystem;
 use driver::{
     Job, Ran, ShowFault, Told, UnitFile, check_module, compile_deck, run_deck, run_with_card, show,
     upgrade,
 };
 use model::{Status, Stop, UnitFault};
+use std::alloc::Global;
 use std::fs::Files;
 use std::io::{self, BufWriter, Input, Print, Write};
 use unit_io::FileUnits;
@@ -24,12 +26,24 @@ fn flushed(ran: Ran, written: Result<(), u8>) -> Ran {
     }
 }
 
-/// Standard input and output, and the files that are given.
-fn units_of<'a, R: Files + Input + Print + AllocGlobal>(
+/// The system on which the units of a run open their files.
+fn system_of<'a, R: Files + AllocGlobal>(
     rt: &'a R,
-    files: &[UnitFile<'a>],
+    files: &[UnitFile<'_>],
+) -> Result<RunSystem<'a, R>, Told<'static>> {
+    match RunSystem::new(rt, files) {
+        Ok(system) => Ok(system),
+        Err(_) => Err(Told::NoMemory),
+    }
+}
+
+/// Standard input and output, and the files that are given.
+fn units_of<'a, 'f: 'a, R: Files + Input + Print>(
+    alloc: Global,
+    system: &'a R,
+    files: &[UnitFile<'f>],
 ) -> Result<FileUnits<'a, R>, Told<'static>> {
-    let Ok(mut units) = FileUnits::new(rt.alloc(), rt) else {
+    let Ok(mut units) = FileUnits::new(alloc, system) else {
         return Err(Told::NoMemory);
     };
     for given in files {
@@ -47,7 +61,8 @@ fn run<R: Files + Input + Print + AllocGlobal>(
     steps: u64,
     files: &[UnitFile<'_>],
 ) -> Result<Ran, Told<'static>> {
-    let mut units = units_of(rt, files)?;
+    let system = system_of(rt, files)?;
+    let mut units = units_of(rt.alloc(), &system, files)?;
     match run_with_card(rt.alloc(), module, &mut units, steps) {
         Ok(ran) => Ok(flushed(ran, units.flush())),
         Err(fault) => Err(Told::BadModule(fault)),
@@ -61,7 +76,8 @@ fn compile_and_run<R: Files + Input + Print + AllocGlobal>(
     steps: u64,
     files: &[UnitFile<'_>],
 ) -> Result<Ran, Told<'static>> {
-    let mut units = units_of(rt, files)?;
+    let system = system_of(rt, files)?;
+    let mut units = units_of(rt.alloc(), &system, files)?;
     match run_deck(rt.alloc(), deck, &mut units, steps) {
         Ok(ran) => Ok(flushed(ran, units.flush())),
         Err(refusal) => Err(Told::Refused(refusal)),

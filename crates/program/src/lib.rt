@@ -1,9 +1,10 @@
 //! What the program does: its words, its files, its lines and its exit status.
 //!
-//! `run(runtime, errors)` reads the words, does what they ask by the calls of `driver`, tells what is to be told as
-//! lines of `errors`, and gives the exit status. docs/program.md has the rules.
+//! `run(runtime, input, output, errors)` holds the numbers of the standard streams that are closed, reads the words,
+//! does what they ask by the calls of `driver`, tells what is to be told as lines of `errors`, and gives the exit
+//! status. docs/program.md has the rules.
 //!
-//!     let status = run(&runtime, &mut errors);
+//!     let status = run(&runtime, &runtime.stdin(), &runtime.stdout(), &mut errors);
 //!
 //! Nothing is proved of it but that it returns: what files and terminals hold and give isn't stated. Decks and commands
 //! of tests/ show the rest.
@@ -11,6 +12,8 @@
 
 mod files;
 mod jobs;
+mod records;
+mod system;
 
 use crate::jobs::perform;
 use driver::{Told, read_words, report};
@@ -18,7 +21,9 @@ use std::alloc::AllocError;
 use std::env::{self, Env};
 use std::fs::Files;
 use std::io::{ErrorKind, Input, Print, Write};
+use std::os::fd::AsFd;
 use std::process::ExitCode;
+use streams::{Stream, Streams};
 
 /// The exit status where nothing can be told, since standard error takes no line.
 const NOTHING_TOLD: u8 = 6;
@@ -65,8 +70,16 @@ fn tell<W: Write>(told: &Told<'_>, errors: &mut W) -> ExitCode {
     ExitCode::from(report(told, errors).unwrap_or(NOTHING_TOLD))
 }
 
-/// Does what the program's words ask for, tells what is to be told as lines of `errors`, and gives the exit status.
-pub fn run<R: Env + Files + Input + Print + AllocGlobal, W: Write>(
+/// What is told where the number of a standard stream can't be held.
+fn not_held(stream: Stream) -> Told<'static> {
+    match stream {
+        Stream::Input => Told::CannotRead("standard input"),
+        Stream::Output => Told::CannotWrite("standard output"),
+        Stream::Error => Told::CannotWrite("standard error"),
+    }
+}
+
+fn perform_words<R: Env + Files + Input + Print + AllocGlobal, W: Write>(
     rt: &R,
     errors: &mut W,
 ) -> ExitCode {
@@ -80,5 +93,19 @@ pub fn run<R: Env + Files + Input + Print + AllocGlobal, W: Write>(
     match answer(rt, &words) {
         Some(told) => tell(&told, errors),
         None => ExitCode::SUCCESS,
+    }
+}
+
+/// Does what the program's words ask for, tells what is to be told as lines of `errors`, and gives the exit status. The
+/// standard streams that are closed are held first.
+pub fn run<R: Env + Files + Input + Print + AllocGlobal, I: AsFd, O: AsFd, W: Write + AsFd>(
+    rt: &R,
+    input: &I,
+    output: &O,
+    errors: &mut W,
+) -> ExitCode {
+    match Streams::hold(rt, input, output, errors) {
+        Ok(_held) => perform_words(rt, errors),
+        Err(stream) => tell(&not_held(stream), errors),
     }
 }

@@ -5,5 +5,5 @@ use listing::run;
 use std::process::ExitCode;
 
 fn main(rt: HostRuntime) -> ExitCode {
-    run(&rt, &mut rt.stderr())
+    run(&rt, &rt.stdin(), &rt.stdout(), &mut rt.stderr())
 }
