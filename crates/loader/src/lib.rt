@@ -25,8 +25,6 @@ mod places;
 mod tables;
 
 pub use decoding::Decoded;
-pub use forms::{
-    Amount, Comparison, Form, Known, Part, Place, Search, Subscript, Term, Way, Whole, compares,
-};
+pub use forms::{Comparison, Form, Known, Search, Term, Way, Whole, compares};
 pub use loading::{load, load_v1};
 pub use module::Module;

@@ -5,3 +5,4 @@ pub mod Called
 pub mod Associations
 pub mod Defined
 pub mod Tests
+pub mod Unchanging

@@ -2,3 +2,4 @@ pub mod Answers
 pub mod Parts
 pub mod Calling
 pub mod Units
+pub mod Pure

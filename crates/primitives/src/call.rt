@@ -13,14 +13,11 @@ ghost use Rattle.primitives.specs.Calling.{IsOther};
 
 use crate::applying::{Applied, apply, copied};
 use crate::defining::define;
-use crate::functions::{data_type, dupl, remdr, replace, size, trim};
 use crate::objects::{array, convert, copy, data, item, table};
 use crate::outcome::Outcome;
-use crate::patterns::{arbno, fence_of, kind};
-use crate::predicates::{Comparison, compare, differ, ident, integer, lgt};
+use crate::pure::call_three;
 use crate::units::{detach, input, output};
 use model::PrimId;
-use pattern_compiler::Kind;
 use std::alloc::Global;
 use world::{Fault, Value, World, argument};
 
@@ -122,32 +119,6 @@ fn call_with(
     ensures names { world.new.names ≡ world.old.names }
 {
     match id {
-        PrimId::Len => kind(alloc, Kind::Len, first),
-        PrimId::Pos => kind(alloc, Kind::Pos, first),
-        PrimId::RPos => kind(alloc, Kind::RPos, first),
-        PrimId::Tab => kind(alloc, Kind::Tab, first),
-        PrimId::RTab => kind(alloc, Kind::RTab, first),
-        PrimId::Any => kind(alloc, Kind::Any, first),
-        PrimId::NotAny => kind(alloc, Kind::NotAny, first),
-        PrimId::Span => kind(alloc, Kind::Span, first),
-        PrimId::Break => kind(alloc, Kind::Break, first),
-        PrimId::Arbno => arbno(alloc, first),
-        PrimId::Eq => compare(Comparison::Eq, first, second),
-        PrimId::Ne => compare(Comparison::Ne, first, second),
-        PrimId::Lt => compare(Comparison::Lt, first, second),
-        PrimId::Le => compare(Comparison::Le, first, second),
-        PrimId::Gt => compare(Comparison::Gt, first, second),
-        PrimId::Ge => compare(Comparison::Ge, first, second),
-        PrimId::Lgt => lgt(alloc, first, second),
-        PrimId::Ident => ident(first, second),
-        PrimId::Differ => differ(first, second),
-        PrimId::Integer => integer(first),
-        PrimId::Size => size(alloc, first),
-        PrimId::Trim => trim(alloc, first),
-        PrimId::Dupl => dupl(alloc, first, second, world.longest()),
-        PrimId::Replace => replace(alloc, first, second, third),
-        PrimId::Remdr => remdr(first, second),
-        PrimId::DataType => data_type(alloc, first, world),
         PrimId::Array => array(alloc, first, second, world),
         PrimId::Table => table(alloc, world),
         PrimId::Copy => copy(alloc, first, world),
@@ -156,8 +127,7 @@ fn call_with(
         PrimId::Input => input(alloc, first, second, world),
         PrimId::Output => output(alloc, first, second, world),
         PrimId::Detach => detach(alloc, first, world),
-        PrimId::Fence => fence_of(alloc, first),
         PrimId::Define => define(alloc, first, second, world),
-        _ => unreachable!(),
+        _ => call_three(alloc, id, first, second, third, world),
     }
 }

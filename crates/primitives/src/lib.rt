@@ -8,6 +8,10 @@
 //! `holds(id, first, second)` is a call of one that `is_test`: it says something of two values and takes no memory;
 //! `integers_hold` is the same of two integers.
 //!
+//! `integers_compare` is one that compares the integers of two values.
+//!
+//! `call_pure(alloc, id, first, second, third, &world)` is a call of one that `is_pure`: it changes nothing.
+//!
 //! `call_one(alloc, id, value)` is a call with one argument of one that makes a part of a pattern, of SIZE or of TRIM.
 //! `replace_strings(alloc, value, from, to)` is a call of REPLACE with three strings.
 //!
@@ -23,10 +27,12 @@ mod objects;
 mod outcome;
 mod patterns;
 mod predicates;
+mod pure;
 mod units;
 
 pub use call::call_prim;
 pub use functions::replace_strings;
 pub use outcome::Outcome;
 pub use patterns::call_one;
-pub use predicates::{holds, integers_hold, is_test};
+pub use predicates::{holds, integers_compare, integers_hold, is_test};
+pub use pure::{call_pure, is_pure};

@@ -1,6 +1,7 @@
 //! The primitives that hold or fail.
 
-ghost use Rattle.std.specs.Prelude.{◌≡◌, List, Ok, not, true};
+ghost use Rattle.std.specs.Prelude.{◌≡◌, List, IfSome, Ok, not, true};
+ghost use Rattle.model.specs.Language.Conversions.{Got, to_integer};
 ghost use Rattle.model.specs.Machine.Steps.{MVal, MW, codes_of};
 ghost use Rattle.model.specs.Language.Calls.{arg_at};
 ghost use Rattle.model.specs.Language.Values.{Int};
@@ -100,6 +101,23 @@ pub fn integers_hold(id: PrimId, first: i64, second: i64) -> bool
     }
 }
 
+/// Whether a comparison holds of two values that convert to these integers; what isn't a comparison is `None`.
+#[inline(always)]
+pub fn integers_compare(id: PrimId, first: i64, second: i64) -> Option<bool>
+    ensures { IfSome result (λ answer. (vs : List MVal) (w : MW) → to_integer (arg_at vs 0) ≡ Got first
+        → to_integer (arg_at vs 1) ≡ Got second → prim_op codes_of id vs w ≡ tested (Ok answer) w) }
+{
+    match id {
+        PrimId::Eq => Some(first == second),
+        PrimId::Ne => Some(first != second),
+        PrimId::Lt => Some(first < second),
+        PrimId::Le => Some(first <= second),
+        PrimId::Gt => Some(first > second),
+        PrimId::Ge => Some(first >= second),
+        _ => None,
+    }
+}
+
 // Whether a comparison holds of two values; integers come first.
 #[inline(always)]
 fn compares(test: Comparison, left: &Value, right: &Value) -> Result<bool, ErrorCode>
@@ -139,6 +157,9 @@ pub(crate) fn lgt(alloc: Global, left: &Value, right: &Value) -> Result<Outcome,
     ensures answer { AnswersAs result (lgt_op (value_of left.now) (value_of right.now)) }
     ensures stop { IfStopped result (λ stop. stop ≡ NoMemory) }
 {
+    if let (Value::String(s), Value::String(t)) = (left, right) {
+        return Ok(Outcome::holds_if(comes_after(s.as_slice(), t.as_slice())));
+    }
     let s = left.to_text(alloc)?;
     let t = right.to_text(alloc)?;
     Ok(Outcome::holds_if(comes_after(s.as_slice(), t.as_slice())))

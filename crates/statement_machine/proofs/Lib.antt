@@ -14,8 +14,8 @@ pub mod Sought
 pub mod Straights
 pub mod TakenOut
 pub mod Rows
-pub mod Lengthening
 pub mod Going
+pub mod Looping
 pub mod Joining
 pub mod Keys
 pub mod Operations
@@ -37,9 +37,6 @@ pub mod Constantly
 pub mod Expressions
 pub mod Needles
 pub mod Preparing
-pub mod Fixing
-pub mod Limited
 pub mod AtOnce
 pub mod BaseCases
-pub mod Testing
 pub mod Upon

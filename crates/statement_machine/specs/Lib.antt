@@ -8,15 +8,11 @@ pub mod Calling
 pub mod Resuming
 pub use Rattle.world.specs.Answers
 pub mod Elements
-pub mod Fixed
-pub mod Quick
 pub mod Forms
 pub mod Joined
 pub mod BaseCases
 pub mod KnownCalls
-pub mod KnownTests
 pub mod Sums
-pub mod Texts
 pub mod Constants
 pub mod Sought
 pub mod Trees

@@ -25,6 +25,7 @@ impl State {
         requires { AreOnTop (takes (Instr.Elem count)) self.old.operands.top }
         ensures left { Does (Instr.Elem count) next result self.old self.new }
         ensures stop { IfHalted result (λ stop. stop ≡ NoMemory) }
+        ensures names { self.new.world.names ≡ self.old.world.names }
     {
         match self.item(count) {
             Ok(Some(name)) => self.put_name(name, next),
@@ -39,6 +40,7 @@ impl State {
         ensures named { (im : Image) (fs : List Frame) (next : ℕ) (io : Io) →
             Named im fs next result self.new io (after im (Instr.Elem count) next fs self.old io) }
         ensures stop { IfStopped result (λ stop. stop ≡ NoMemory) }
+        ensures names { self.new.world.names ≡ self.old.world.names }
     {
         if count == 1 {
             return self.item_of_one();
@@ -53,6 +55,7 @@ impl State {
         ensures named { (im : Image) (fs : List Frame) (next : ℕ) (io : Io) →
             Named im fs next result self.new io (after im (Instr.Elem 1) next fs self.old io) }
         ensures stop { IfStopped result (λ stop. stop ≡ NoMemory) }
+        ensures names { self.new.world.names ≡ self.old.world.names }
     {
         let subscript = pop_value(&mut self.operands);
         let base = pop_value(&mut self.operands);

@@ -26,6 +26,7 @@ impl State {
             (fail_to (handlers_in im self.old) (operands_of self.old.operands.top)
             (waiting im fs self.old) (world_of self.old.world io)) }
         ensures stop { IfHalted result (λ stop. stop ≡ NoMemory) }
+        ensures names { self.new.world.names ≡ self.old.world.names }
     {
         match fail(&mut self.operands, &mut self.handlers) {
             Some(Caught::Statement { target }) => {
@@ -46,6 +47,7 @@ impl State {
         ensures left { (im : Image) (fs : List Frame) (io : Io) →
             Left im fs result self.new io (after im (Instr.Try (offset_at im.code target)) next fs self.old io) }
         ensures stop { IfHalted result (λ stop. stop ≡ NoMemory) }
+        ensures names { self.new.world.names ≡ self.old.world.names }
     {
         let depth = self.operands.len();
         self.handlers.push(Handler::Try { target, depth })?;
@@ -56,7 +58,8 @@ impl State {
     /// The newest TRY ends.
     pub(crate) fn end_try(&mut self, next: usize)
         requires { IsInTry self.old.handlers.top }
-        ensures { Does Instr.Untry next (Ok tt) self.old self.new }
+        ensures left { Does Instr.Untry next (Ok tt) self.old self.new }
+        ensures names { self.new.world.names ≡ self.old.world.names }
     {
         pop_try(&mut self.handlers);
         self.place = next;

@@ -14,7 +14,7 @@ ghost use Rattle.frames.specs.declared.frame.Frame.{Frame};
 ghost use Rattle.world.specs.Held.{world_of};
 ghost use Rattle.statement_machine.specs.Calling.{GoesTo, WaitsAsBefore};
 ghost use Rattle.statement_machine.specs.Held.{Left, after, waiting};
-ghost use Rattle.statement_machine.specs.Runnable.{IsRunnable};
+ghost use Rattle.segments.specs.Leading.{IsRunnable};
 
 use crate::state::State;
 use crate::status::Exit;
@@ -34,6 +34,7 @@ impl State {
             GoesTo program.now fs result self.new io (after program.now Instr.GotoV next fs self.old io) }
         ensures waits { WaitsAsBefore self.old self.new }
         ensures stop { IfHalted result (λ stop. stop ≡ NoMemory) }
+        ensures names { self.new.world.names ≡ self.old.world.names }
     {
         let label = pop_value(&mut self.operands).to_label(self.alloc);
         match label {
@@ -57,6 +58,7 @@ impl State {
             (waiting program.now fs self.old) (world_of self.old.world io)) }
         ensures waits { WaitsAsBefore self.old self.new }
         ensures stop { IfHalted result (λ stop. stop ≡ NoMemory) }
+        ensures names { self.new.world.names ≡ self.old.world.names }
     {
         if let Some(kind) = ReturnKind::named(label) {
             return Ok(Some(kind));
@@ -90,6 +92,7 @@ impl State {
             (waiting program.now fs self.old) (world_of self.old.world io)) }
         ensures waits { WaitsAsBefore self.old self.new }
         ensures stop { IfHalted result (λ stop. stop ≡ NoMemory) }
+        ensures names { self.new.world.names ≡ self.old.world.names }
     {
         match program.place_labelled(label, number) {
             Some(place) => {

@@ -45,6 +45,7 @@ impl State {
             (Run (offset_at im.code next) (OV (value_of value) ∷ operands_of self.old.operands.top)
             (handlers_in im self.old) (waiting im fs self.old) (world_of self.old.world io)) }
         ensures stop { IfHalted result (λ stop. stop ≡ NoMemory) }
+        ensures names { self.new.world.names ≡ self.old.world.names }
     {
         self.operands.push(Operand::Value(value))?;
         self.place = next;
@@ -57,6 +58,7 @@ impl State {
             (Run (offset_at im.code next) (ON (name_of name) ∷ operands_of self.old.operands.top)
             (handlers_in im self.old) (waiting im fs self.old) (world_of self.old.world io)) }
         ensures stop { IfHalted result (λ stop. stop ≡ NoMemory) }
+        ensures names { self.new.world.names ≡ self.old.world.names }
     {
         self.put_named(
             Named {
@@ -74,6 +76,7 @@ impl State {
             (Run (offset_at im.code next) (ON (name_of named.name) ∷ operands_of self.old.operands.top)
             (handlers_in im self.old) (waiting im fs self.old) (world_of self.old.world io)) }
         ensures stop { IfHalted result (λ stop. stop ≡ NoMemory) }
+        ensures names { self.new.world.names ≡ self.old.world.names }
     {
         self.operands.push(Operand::Name(named))?;
         self.place = next;
@@ -86,6 +89,7 @@ impl State {
             → entered ≡ statement_number im.statements (offset_at im.code self.old.place) →
             Left im fs result self.new io (after im (Instr.Begin (offset_at im.code target)) next fs self.old io) }
         ensures stop { IfHalted result (λ stop. stop ≡ NoMemory) }
+        ensures names { self.new.world.names ≡ self.old.world.names }
     {
         if self.world.is_over_limit() {
             return Err(Exit::Limit(entered));
@@ -99,7 +103,8 @@ impl State {
     /// The body of a statement ends.
     pub(crate) fn end_body(&mut self, next: usize)
         requires { IsInBegin self.old.handlers.top }
-        ensures { Does Instr.Body next (Ok tt) self.old self.new }
+        ensures left { Does Instr.Body next (Ok tt) self.old self.new }
+        ensures names { self.new.world.names ≡ self.old.world.names }
     {
         pop_begin(&mut self.handlers);
         self.place = next;
@@ -115,6 +120,7 @@ impl State {
         requires { number < length program.now.strings }
         ensures left { DoesIn program.now (Instr.Str number) next result self.old self.new }
         ensures stop { IfHalted result (λ stop. stop ≡ NoMemory) }
+        ensures names { self.new.world.names ≡ self.old.world.names }
     {
         let text = program.string(number).clone()?;
         self.put(Value::String(text), next)
@@ -130,6 +136,7 @@ impl State {
         requires { number < length program.now.strings }
         ensures left { DoesIn program.now (Instr.Var number) next result self.old self.new }
         ensures stop { IfHalted result (λ stop. stop ≡ NoMemory) }
+        ensures names { self.new.world.names ≡ self.old.world.names }
     {
         let name = Name::Variable(program.string(number).clone()?);
         let slot = self.slot(number);

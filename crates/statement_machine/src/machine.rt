@@ -19,6 +19,7 @@ use crate::run::Run;
 use crate::status::Halt;
 use loader::Module;
 use model::{Status, Stop};
+use segments::{Form, form_of};
 use std::alloc::{AllocError, Global};
 use std::marker::Model;
 use unit_io::Units;
@@ -27,14 +28,16 @@ use unit_io::Units;
 #[derive(Drop)]
 pub struct Machine<'m, 'a> {
     program: &'m Module<'a>,
+    form: Form,
     prepared: Vec<Option<Box<Prepared>>>,
     run: Run,
     halt: Option<Halt>,
 }
 
 impl<'m, 'a> Model for Machine<'m, 'a> {
+    ghost use Rattle.segments.specs.Leading.{IsRunnable};
+    ghost use Rattle.segments.specs.Segments.{IsForm};
     ghost use Rattle.statement_machine.specs.Prepared.{ArePrepared};
-    ghost use Rattle.statement_machine.specs.Runnable.{IsRunnable};
     ghost use Rattle.statement_machine.specs.Runs.{MachineView, IsGoing, LacksNothing};
 
     ghost Value = { MachineView };
@@ -43,7 +46,8 @@ impl<'m, 'a> Model for Machine<'m, 'a> {
 
     ghost invariant = { λ m.
         IsRunnable m.program.now × IsGoing m.halt (LacksNothing m.program.now m.run)
-        × ArePrepared m.program.now m.prepared.items };
+        × ArePrepared m.program.now m.prepared.items
+        × IsForm m.program.now m.run.state.world.names m.form };
 }
 
 impl<'m, 'a> Machine<'m, 'a> {
@@ -58,9 +62,12 @@ impl<'m, 'a> Machine<'m, 'a> {
         let place = program.start();
         let mut run = Run::new(alloc, program.level(), place)?;
         run.state.enter_variables(program)?;
+        run.state.world.keep_slots()?;
+        let form = form_of(alloc, program, &run.state.world)?;
         let prepared = prepared_of(alloc, program)?;
         Ok(Machine {
             program,
+            form,
             prepared,
             run,
             halt: None,
@@ -88,7 +95,10 @@ impl<'m, 'a> Machine<'m, 'a> {
             return halt.status();
         }
         let prepared = self.prepared.as_mut_slice();
-        match self.run.make_steps(self.program, prepared, units, bound) {
+        match self
+            .run
+            .make_steps(self.program, &self.form, prepared, units, bound)
+        {
             Ok(()) => Status::Running,
             Err(halt) => {
                 self.halt = Some(halt);

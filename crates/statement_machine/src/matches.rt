@@ -4,13 +4,11 @@ ghost use Rattle.std.specs.Prelude.{◌≡◌, List, [], OnOk, IfOk};
 ghost use Rattle.frames.specs.Kinds.{kinds_of};
 ghost use Rattle.frames.specs.declared.frame.Frame.{Frame};
 ghost use Rattle.match_machine.specs.View.{pending_of, told_of};
-ghost use Rattle.model.specs.Language.Io.{Io};
 ghost use Rattle.model.specs.Machine.Steps.{on_event};
 ghost use Rattle.model.specs.Module.Images.{module_of};
 ghost use Rattle.model.specs.Language.Operators.{assign_all, assign_op, told_value};
 ghost use Rattle.model.specs.Pattern.Steps.{event_of};
 ghost use Rattle.model.specs.declared.image.Image.{Image};
-ghost use Rattle.model.specs.declared.run.Stop.TheVariants.{NoMemory};
 ghost use Rattle.pattern_compiler.specs.View.{name_of};
 ghost use Rattle.statement_machine.specs.Held.{Left, waiting};
 ghost use Rattle.statement_machine.specs.Runs.{IsMatched, PrintsTo, PrintsWithin, found_kinds, matching_in, world_in};
@@ -56,6 +54,7 @@ fn assign_noting<U: Units>(
         AnswersAs (done result) (world_of world.new io')
         (assign_op (name_of name.now) (value_of value) (world_of world.old io))) }
     ensures quiet { IsQuiet (stopped_by result) (U.told units.old) (U.told units.new) }
+    ensures names { world.new.names ≡ world.old.names }
 {
     let mut slot = NO_SLOT;
     if let Name::Variable(variable) = name {
@@ -79,6 +78,7 @@ fn assign<U: Units>(
         AnswersAs (done result) (world_of world.new io')
         (assign_op (name_of name.now) (value_of value) (world_of world.old io))) }
     ensures quiet { IsQuiet (stopped_by result) (U.told units.old) (U.told units.new) }
+    ensures names { world.new.names ≡ world.old.names }
 {
     if let Name::Variable(variable) = name {
         let slot = slot_at(slots.as_slice(), number_of(variable));
@@ -103,6 +103,7 @@ fn assign_all<U: Units>(
         (assign_all (pending_of pending.now) (world_of world.old io))) }
     ensures printed { PrintsTo (stopped_by result) (U.told units.old) (U.told units.new) (λ io.
         world_in (assign_all (pending_of pending.now) (world_of world.old io))) }
+    ensures names { world.new.names ≡ world.old.names }
 {
     for assignment in pending {
         let value = Value::String(assignment.value.clone()?);
@@ -148,6 +149,7 @@ impl State {
             × (kinds_of self.new.operands.top ≡ found_kinds matching.old.keep (kinds_of self.old.operands.top))
             × (self.new.saved.items ≡ self.old.saved.items)) }
         ensures halts { GoesOrHalts result }
+        ensures names { self.new.world.names ≡ self.old.world.names }
     {
         let Event::Matched {
             start,

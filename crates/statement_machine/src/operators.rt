@@ -19,6 +19,7 @@ impl State {
         requires { AreOnTop (V ∷ []) self.old.operands.top }
         ensures left { Does (Instr.Sign op) next result self.old self.new }
         ensures stop { IfHalted result (λ stop. stop ≡ NoMemory) }
+        ensures names { self.new.world.names ≡ self.old.world.names }
     {
         let value = pop_value(&mut self.operands);
         match sign(op, &value) {
@@ -32,6 +33,7 @@ impl State {
         requires { AreOnTop (V ∷ V ∷ []) self.old.operands.top }
         ensures left { Does (Instr.Arith op) next result self.old self.new }
         ensures stop { IfHalted result (λ stop. stop ≡ NoMemory) }
+        ensures names { self.new.world.names ≡ self.old.world.names }
     {
         let right = pop_value(&mut self.operands);
         let left = pop_value(&mut self.operands);
@@ -46,6 +48,7 @@ impl State {
         requires { AreOnTop (V ∷ V ∷ []) self.old.operands.top }
         ensures left { Does Instr.Cat next result self.old self.new }
         ensures stop { IfHalted result (λ stop. stop ≡ NoMemory) }
+        ensures names { self.new.world.names ≡ self.old.world.names }
     {
         let right = pop_value(&mut self.operands);
         let left = pop_value(&mut self.operands);
@@ -60,6 +63,7 @@ impl State {
         requires { AreOnTop (V ∷ V ∷ []) self.old.operands.top }
         ensures left { Does Instr.Alt next result self.old self.new }
         ensures stop { IfHalted result (λ stop. stop ≡ NoMemory) }
+        ensures names { self.new.world.names ≡ self.old.world.names }
     {
         let right = pop_value(&mut self.operands);
         let left = pop_value(&mut self.operands);
@@ -74,6 +78,7 @@ impl State {
         requires { AreOnTop (N ∷ V ∷ []) self.old.operands.top }
         ensures left { Does Instr.Cond next result self.old self.new }
         ensures stop { IfHalted result (λ stop. stop ≡ NoMemory) }
+        ensures names { self.new.world.names ≡ self.old.world.names }
     {
         let Named { name, slot: _ } = pop_name(&mut self.operands);
         let value = pop_value(&mut self.operands);
@@ -88,6 +93,7 @@ impl State {
         requires { AreOnTop (N ∷ V ∷ []) self.old.operands.top }
         ensures left { Does Instr.Imm next result self.old self.new }
         ensures stop { IfHalted result (λ stop. stop ≡ NoMemory) }
+        ensures names { self.new.world.names ≡ self.old.world.names }
     {
         let Named { name, slot: _ } = pop_name(&mut self.operands);
         let value = pop_value(&mut self.operands);
@@ -102,6 +108,7 @@ impl State {
         requires { AreOnTop (N ∷ []) self.old.operands.top }
         ensures left { Does Instr.Cursor next result self.old self.new }
         ensures stop { IfHalted result (λ stop. stop ≡ NoMemory) }
+        ensures names { self.new.world.names ≡ self.old.world.names }
     {
         let Named { name, slot: _ } = pop_name(&mut self.operands);
         let pattern = cursor(self.alloc, name)?;
@@ -113,6 +120,7 @@ impl State {
         requires { AreOnTop (V ∷ []) self.old.operands.top }
         ensures left { Does Instr.Indir next result self.old self.new }
         ensures stop { IfHalted result (λ stop. stop ≡ NoMemory) }
+        ensures names { self.new.world.names ≡ self.old.world.names }
     {
         let value = pop_value(&mut self.operands);
         match indir(self.alloc, &value) {
@@ -126,6 +134,7 @@ impl State {
         requires { AreOnTop (N ∷ []) self.old.operands.top }
         ensures left { Does Instr.NameV next result self.old self.new }
         ensures stop { IfHalted result (λ stop. stop ≡ NoMemory) }
+        ensures names { self.new.world.names ≡ self.old.world.names }
     {
         let Named { name, slot: _ } = pop_name(&mut self.operands);
         let name = SharedName::of(self.alloc, name)?;
@@ -136,7 +145,8 @@ impl State {
     #[inline(always)]
     pub(crate) fn drop_value(&mut self, next: usize)
         requires { AreOnTop (V ∷ []) self.old.operands.top }
-        ensures { Does Instr.Drop next (Ok tt) self.old self.new }
+        ensures left { Does Instr.Drop next (Ok tt) self.old self.new }
+        ensures names { self.new.world.names ≡ self.old.world.names }
     {
         pop_value(&mut self.operands);
         self.place = next;
@@ -146,6 +156,7 @@ impl State {
     pub(crate) fn keyword(&mut self, id: KeyId, next: usize) -> Result<(), Exit>
         ensures left { Does (Instr.KeyGet id) next result self.old self.new }
         ensures stop { IfHalted result (λ stop. stop ≡ NoMemory) }
+        ensures names { self.new.world.names ≡ self.old.world.names }
     {
         match self.world.keyword(id) {
             Ok(value) => self.put(value, next),
@@ -158,6 +169,7 @@ impl State {
         requires { AreOnTop (V ∷ []) self.old.operands.top }
         ensures left { Does (Instr.KeySet id) next result self.old self.new }
         ensures stop { IfHalted result (λ stop. stop ≡ NoMemory) }
+        ensures names { self.new.world.names ≡ self.old.world.names }
     {
         let value = pop_value(&mut self.operands);
         match self.world.set_keyword(id, &value) {

@@ -91,6 +91,7 @@ impl State {
         requires { (code : PCode) × ((module_of program.now).pattern number ≡ Some code) }
         ensures left { DoesIn program.now (Instr.Pat number) next result self.old self.new }
         ensures stop { IfHalted result (λ stop. stop ≡ NoMemory) }
+        ensures names { self.new.world.names ≡ self.old.world.names }
     {
         let Some(parts) = program.pattern(number) else {
             unreachable!()

@@ -30,6 +30,7 @@ impl State {
         ensures quiet { IsQuiet (halted_by result) (U.told units.old) (U.told units.new) }
         ensures sound { (im : Image) (fs : List Frame) → CallerStands im fs false next self.old
             → StaysSound im fs result self.new }
+        ensures names { self.new.world.names ≡ self.old.world.names }
     {
         let answer = self.world.returned_value(units, given);
         self.gave(answer, next)
@@ -41,6 +42,7 @@ impl State {
         ensures left { (im : Image) (fs : List Frame) (io : Io)
             → Left im fs result self.new io (resumed_with im fs true next given self.old io) }
         ensures stop { IfHalted result (λ stop. stop ≡ NoMemory) }
+        ensures names { self.new.world.names ≡ self.old.world.names }
     {
         match given.into_name() {
             Ok(name) => self.put_name(name, next),
@@ -63,6 +65,7 @@ impl State {
         ensures quiet { IsQuiet (halted_by result) (U.told units.old) (U.told units.new) }
         ensures sound { (im : Image) (fs : List Frame) → CallerStands im fs want_name next self.old
             → StaysSound im fs result self.new }
+        ensures names { self.new.world.names ≡ self.old.world.names }
     {
         if want_name {
             return self.resume_for_name(given, next);

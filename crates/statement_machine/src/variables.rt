@@ -38,6 +38,7 @@ impl State {
         ensures counts { (old new : ℕ → ℕ) → KeepsCounts (stopped_by answer) old new
             → KeepsCounts (halted_by result) old new }
         ensures stop { IfSome (halted_by result) (λ why. stopped_by answer ≡ Some why) }
+        ensures names { self.new.world.names ≡ self.old.world.names }
     {
         match answer {
             Ok(()) => {
@@ -65,6 +66,7 @@ impl State {
             (handlers_in im self.old) (waiting im fs self.old) w)) }
         ensures counts { (old new : ℕ → ℕ) → KeepsCounts (stopped_by answer) old new
             → KeepsCounts (halted_by result) old new }
+        ensures names { self.new.world.names ≡ self.old.world.names }
     {
         match answer {
             Ok(Some(value)) => self.put(value, next),
@@ -82,6 +84,7 @@ impl State {
         ensures quiet { IsQuiet (halted_by result) (U.told units.old) (U.told units.new) }
         ensures sound { (im : Image) (fs : List Frame) → Meets im Instr.Assign next fs self.old
             → StaysSound im fs result self.new }
+        ensures names { self.new.world.names ≡ self.old.world.names }
     {
         let value = pop_value(&mut self.operands);
         let named = pop_name(&mut self.operands);
@@ -100,6 +103,7 @@ impl State {
         ensures quiet { IsQuiet (halted_by result) (U.told units.old) (U.told units.new) }
         ensures sound { (im : Image) (fs : List Frame) → Meets im Instr.Fetch next fs self.old
             → StaysSound im fs result self.new }
+        ensures names { self.new.world.names ≡ self.old.world.names }
     {
         let named = pop_name(&mut self.operands);
         let answer = self.world.fetch_at(units, &named.name, named.slot);
@@ -115,6 +119,7 @@ impl State {
         ensures quiet { IsQuiet (halted_by result) (U.told units.old) (U.told units.new) }
         ensures sound { (im : Image) (fs : List Frame) → Meets im Instr.FetchK next fs self.old
             → StaysSound im fs result self.new }
+        ensures names { self.new.world.names ≡ self.old.world.names }
     {
         let named = top_name(&self.operands);
         let answer = self.world.fetch_at(units, &named.name, named.slot);
@@ -130,6 +135,7 @@ impl State {
         ensures quiet { IsQuiet (halted_by result) (U.told units.old) (U.told units.new) }
         ensures sound { (im : Image) (fs : List Frame) → Meets im Instr.Splice next fs self.old
             → StaysSound im fs result self.new }
+        ensures names { self.new.world.names ≡ self.old.world.names }
     {
         let value = pop_value(&mut self.operands);
         let span = pop_span(&mut self.operands);

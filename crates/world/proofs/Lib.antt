@@ -16,6 +16,7 @@ pub mod Named
 pub mod TypeFunctions
 pub mod Recorded
 pub mod Placed
+pub mod TableValues
 pub mod Exchanging
 pub mod Giving
 pub mod Entering

@@ -80,11 +80,11 @@ index_kind key i (Some (ArrayOf bs es)) e = absurd (cc)
 index_kind key i (Some (TableOf es)) e = refl
 index_kind key i (Some (RecordOf t fs es)) e = absurd (cc)
 
-keyed : (k : ℕ) (key : Key) (w : MW) → table_element k (key_value key ∷ []) w ≡ Gives (entry_name k key) w
+pub keyed : (k : ℕ) (key : Key) (w : MW) → table_element k (key_value key ∷ []) w ≡ Gives (entry_name k key) w
 keyed k (IntegerAt z) w = refl
 keyed k (StringAt s) w = refl
 
-fetched_by : (k : ℕ) (key : Key) (w : MW) → fetch_op (entry_name k key) w ≡ there (entry_of (Str []) (slice_get w.objects k) key) w
+pub fetched_by : (k : ℕ) (key : Key) (w : MW) → fetch_op (entry_name k key) w ≡ there (entry_of (Str []) (slice_get w.objects k) key) w
 fetched_by k (IntegerAt z) w = refl
 fetched_by k (StringAt s) w = refl
 

@@ -1,6 +1,6 @@
 //! Keywords in which a run counts its statements.
 
-ghost use Rattle.std.specs.Prelude.{◌≡◌, IsTrue};
+ghost use Rattle.std.specs.Prelude.{◌≡◌, ◌+ℤ◌, ◌≤ℤ◌, ◌<ℤ◌, pos, IsTrue};
 ghost use Rattle.model.specs.Language.Io.{Io};
 ghost use Rattle.model.specs.Language.Keywords.{IsInteger, Keys, key_value};
 ghost use Rattle.model.specs.Language.Keywords as keys;
@@ -46,6 +46,24 @@ impl World {
     {
         let limit = integer(&self.keywords, KeyId::StLimit);
         limit >= 0 && limit <= integer(&self.keywords, KeyId::StCount)
+    }
+
+    /// How many statements may begin before `&STLIMIT` refuses one; the greatest number where it refuses none.
+    pub fn statements_left(&self) -> u64
+        ensures unlimited { self.now.keys.stlimit <ℤ pos 0 → result ≡ u64.MAX }
+        ensures none { pos 0 ≤ℤ self.now.keys.stlimit → self.now.keys.stlimit ≤ℤ self.now.keys.stcount → result ≡ 0 }
+        ensures some { pos 0 ≤ℤ self.now.keys.stlimit → self.now.keys.stcount ≤ℤ self.now.keys.stlimit
+            → (self.now.keys.stcount +ℤ pos result) ≡ self.now.keys.stlimit }
+    {
+        let limit = integer(&self.keywords, KeyId::StLimit);
+        if limit < 0 {
+            return u64::MAX;
+        }
+        let count = integer(&self.keywords, KeyId::StCount);
+        if limit <= count {
+            return 0;
+        }
+        limit.abs_diff(count)
     }
 
     /// The statement of this number begins.

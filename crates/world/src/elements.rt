@@ -127,6 +127,19 @@ impl World {
         stored
     }
 
+    /// A value in the entry of a table that stands at an index, if that was stored; else nothing changed.
+    #[inline]
+    pub fn put_in_entry(&mut self, object: usize, index: usize, value: Value) -> bool
+        ensures set { result ≡ true → (name : target.Name) → IsEntry name object index self.old → (io : Io)
+            → assign_op name (value_of value) (world_of self.old io)
+            ≡ Gives (record {}) (world_of self.new io) }
+        ensures kept { result ≡ false → self.new ≡ self.old }
+        ensures names { self.new.names ≡ self.old.names }
+    {
+        let stored = self.heap.put_entry(object, index, value);
+        stored
+    }
+
     // The value of a table for a key that was assigned.
     #[inline(never)]
     fn held_for(&self, object: usize, key: &Text) -> Option<&Value>
@@ -268,6 +281,60 @@ impl World {
         ensures names { self.new.names ≡ self.old.names }
     {
         self.heap.put_written(object, index, Value::Integer(n))
+    }
+
+    /// `replace` with a value that isn't needed any more.
+    #[inline(never)]
+    pub fn give(&mut self, name: &Name, value: Value) -> bool
+        ensures set { result ≡ true → (io : Io)
+            → assign_op (name_of name.now) (value_of value) (world_of self.old io)
+            ≡ Gives (record {}) (world_of self.new io) }
+        ensures kept { result ≡ false → self.new ≡ self.old }
+        ensures names { self.new.names ≡ self.old.names }
+    {
+        match name {
+            Name::Variable(_) => false,
+            Name::Element { object, index } => {
+                self.put_value(*object, Place::Element(*index), value)
+            }
+            Name::IntegerKey { object, key } => {
+                self.put_value(*object, Place::Key(Key::Integer(*key)), value)
+            }
+            Name::StringKey { object, key } => {
+                let Ok(key) = key.clone() else {
+                    return false;
+                };
+                self.put_value(*object as usize, Place::Key(Key::String(key)), value)
+            }
+        }
+    }
+
+    /// A value at a place of an array or a record, if that was stored; else nothing changed.
+    #[inline]
+    pub fn put_in_place(&mut self, object: usize, index: usize, value: Value) -> bool
+        ensures set { result ≡ true → (io : Io)
+            → assign_op (Element object index) (value_of value) (world_of self.old io)
+            ≡ Gives (record {}) (world_of self.new io) }
+        ensures kept { result ≡ false → self.new ≡ self.old }
+        ensures names { self.new.names ≡ self.old.names }
+    {
+        self.put_value(object, Place::Element(index), value)
+    }
+
+    // A value at a place of an object, if that was stored.
+    #[inline(always)]
+    fn put_value(&mut self, object: usize, place: Place, value: Value) -> bool
+        ensures set { result ≡ true → (io : Io)
+            → put_object object (stored_at place (value_of value)
+            (slice_get (world_of self.old io).objects object)) (world_of self.old io)
+            ≡ Gives (record {}) (world_of self.new io) }
+        ensures kept { result ≡ false → self.new ≡ self.old }
+        ensures names { self.new.names ≡ self.old.names }
+    {
+        let Ok(()) = self.store(object, place, value) else {
+            return false;
+        };
+        true
     }
 
     // A copy of a value at a place of an object, if that was stored.

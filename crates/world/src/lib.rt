@@ -19,6 +19,7 @@ mod calls;
 mod conversions;
 mod counts;
 mod elements;
+mod entries;
 mod fault;
 mod functions;
 mod items;

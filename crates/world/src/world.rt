@@ -308,7 +308,7 @@ impl World {
     }
 
     /// Where memory comes from.
-    pub(crate) fn alloc(&self) -> Global {
+    pub fn alloc(&self) -> Global {
         *self.variables.allocator()
     }
 

@@ -4,7 +4,7 @@ ghost use Rattle.std.specs.Prelude.{◌≡◌, ◌++◌, ◌+◌, ◌<◌, ◌�
 ghost use Rattle.model.specs.Language.Io.{Io};
 ghost use Rattle.model.specs.Machine.Steps.{codes_of, PCode};
 ghost use Rattle.model.specs.Deck.Trees.{Bytes};
-ghost use Rattle.model.specs.Language.Conversions.{Gives};
+ghost use Rattle.model.specs.Language.Conversions.{Gives, Got, to_text};
 ghost use Rattle.model.specs.Language.Values.{Str, Pat};
 ghost use Rattle.model.specs.Language.Operators.{cat_op, keyget_op, keyset_op, match_op, assign_op, splice_op};
 ghost use Rattle.model.specs.Deck.Target.{Name};
@@ -122,6 +122,30 @@ fn spliced(alloc: Global, span: &Span, text: &[u8], limit: usize) -> Result<Text
     Text::from_vec(all)
 }
 
+// The text of a value behind another one, if both are no longer than this.
+#[inline(always)]
+fn append_text(alloc: Global, front: Text, value: &Value, longest: usize) -> Option<Text>
+    ensures { IfSome result (λ all. (back : Bytes) × (to_text (value_of value.now) ≡ Got back)
+        × (all ≡ front ++ back) × (length all ≤ longest)) }
+{
+    match value {
+        Value::String(back) => match Text::append(alloc, front, back, longest) {
+            Ok(all) => Some(all),
+            Err(_) => None,
+        },
+        Value::Integer(n) => {
+            let Ok(back) = Text::int_text(alloc, *n) else {
+                return None;
+            };
+            match Text::append(alloc, front, &back, longest) {
+                Ok(all) => Some(all),
+                Err(_) => None,
+            }
+        }
+        _ => None,
+    }
+}
+
 impl World {
     /// The subject of a replacement with a value in the place of the part: what is to be assigned.
     pub fn replaced(&self, alloc: Global, span: &Span, value: &Value) -> Result<Value, Fault>
@@ -218,6 +242,48 @@ impl World {
         match joined {
             Ok(text) => Some(Value::String(text)),
             Err(_) => None,
+        }
+    }
+
+    // `cat` with a copy of the second value.
+    fn cat_copy(&self, alloc: Global, left: Value, right: &Value) -> Option<Value>
+        ensures { IfSome result (λ v. (io : Io)
+            → cat_op codes_of (value_of left) (value_of right.now) (world_of self.now io)
+            ≡ Gives (value_of v) (world_of self.now io)) }
+    {
+        let Ok(right) = right.clone() else {
+            return None;
+        };
+        match self.cat(alloc, left, right) {
+            Ok(value) => Some(value),
+            Err(_) => None,
+        }
+    }
+
+    /// `cat` of a value that isn't needed any more and another one, which stays as it is; what has no value has none here.
+    pub fn cat_onto(&self, alloc: Global, left: Value, right: &Value) -> Option<Value>
+        ensures { IfSome result (λ v. (io : Io)
+            → cat_op codes_of (value_of left) (value_of right.now) (world_of self.now io)
+            ≡ Gives (value_of v) (world_of self.now io)) }
+    {
+        if left.is_null() {
+            return match right.clone() {
+                Ok(value) => Some(value),
+                Err(_) => None,
+            };
+        }
+        if right.is_null() {
+            return Some(left);
+        }
+        if !left.has_text() || !right.has_text() {
+            return self.cat_copy(alloc, left, right);
+        }
+        let Ok(front) = left.into_text(alloc) else {
+            return None;
+        };
+        match append_text(alloc, front, right, self.keywords.longest()) {
+            Some(text) => Some(Value::String(text)),
+            None => None,
         }
     }
 

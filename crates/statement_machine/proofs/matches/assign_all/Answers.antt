@@ -1,4 +1,4 @@
-use Rattle.std.proofs.Common.{drop, rules}
+use Rattle.std.proofs.Common.{drop, rules, ◌∙◌}
 use Rattle.match_machine.specs.View.{pending_of}
 use Rattle.pattern_compiler.specs.View.{name_of}
 use Rattle.world.specs.Answers.{stopped_by}
@@ -24,6 +24,7 @@ loop-assignment-preserved g c =
     let x = c.assignment-item.result in
     let v = value_of (value.String c.in_ok-clone.field-0) in
     record {
+      names = c.assign.ensures.names ∙ c.loop-assignment.invariant.names;
       printed = printed_more _ _ _ _ c.loop-assignment.invariant.printed c.in_ok-assign.ensures.served.told (λ io io' e. assigned_prints (name_of x.name) v c.loop-assignment.world c.assign.new.world io io' (record {}) e);
       served = served_then _ c.loop-assignment.invariant.served c.in_ok-assign.ensures.served
           (λ before now after so_far one. assigned_rest c.args.pending.now c.loop-assignment.assignment-index x v (world_of c.args.world.now before) (world_of c.loop-assignment.world now) (world_of c.assign.new.world after) c.loop-assignment-test.true c.assignment-item.is (search rules) so_far one);

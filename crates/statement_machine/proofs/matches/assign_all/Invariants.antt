@@ -10,5 +10,6 @@ use Rattle.statement_machine.proofs.matches.assign_all.Given as goal
 abbrev pub invariant-loop-assignment : goal.invariant-loop-assignment
 invariant-loop-assignment g l = record {
   printed : IfTold (g.U.Units.told l.fn.units) (g.U.Units.told l.units) (λ io io'. IsBeginning io.printed io'.printed);
+  names : l.world.names ≡ l.fn.world.names;
   served : Served g.U.Units None l.fn.units l.units (λ io io'. assign_all (pending_of (drop l.assignment-index l.pending)) (world_of l.world io') ≡ assign_all (pending_of l.pending) (world_of l.fn.world io));
 }

@@ -17,7 +17,7 @@ invariant_of-result c =
     let ops = ap (λ (s : State). s.operands.top) rest ∙ c.in_ok-run.ensures.place.1 in
     let hs = ap (λ (s : State). s.handlers.top) rest ∙ c.in_ok-run.ensures.place.2 in
     let at = statement_begins im (runnable im c.start-place.ensures.loaded) im.entry c.start-place.result c.start-place.ensures.place in
-    (runnable im c.start-place.ensures.loaded, (rw e.1 tt, rw (e.0, e.1, place, ops, hs) (statement_stands im im.entry _ at)), c.in_ok-prepared.ensures)
+    (runnable im c.start-place.ensures.loaded, (rw e.1 tt, rw (e.0, e.1, place, ops, hs) (statement_stands im im.entry _ at)), c.in_ok-prepared.ensures, c.in_ok-form.ensures)
 
 pub returns-clause-begun : goal.returns-clause-begun
 returns-clause-begun c = λ io.
@@ -28,4 +28,7 @@ returns-clause-begun c = λ io.
     let ops = ap (λ (s : State). s.operands.top) rest ∙ c.in_ok-run.ensures.place.1 in
     let hs = ap (λ (s : State). s.handlers.top) rest ∙ c.in_ok-run.ensures.place.2 in
     let at = statement_begins im (runnable im c.start-place.ensures.loaded) im.entry c.start-place.result c.start-place.ensures.place in
-    begun_is im _ (record c.in_ok-run.run' { state = c.enter_variables.new.self }) io at (ap (offset_at im.code) place) e.0 e.1 ops hs (c.in_ok-enter_variables.ensures.unseen io ∙ c.in_ok-run.ensures.world io ∙ ap (λ l. after_w io.printed (first_m l io.left)) c.level.ensures)
+    begun_is im _ (record c.in_ok-run.run' { state = record c.enter_variables.new.self { world = c.keep_slots.new.self } }) io at (ap (offset_at im.code) place) e.0 e.1 ops hs (c.keep_slots.ensures.unseen io ∙ c.in_ok-enter_variables.ensures.unseen io ∙ c.in_ok-run.ensures.world io ∙ ap (λ l. after_w io.printed (first_m l io.left)) c.level.ensures)
+
+pub form_of-requires : goal.form_of-requires
+form_of-requires c = record { runs = runnable c.args.program.now c.start-place.ensures.loaded }
