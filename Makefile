@@ -25,7 +25,7 @@ PARTS = $(foreach crate,$(shell tools/below $(1) 2>/dev/null),$(foreach part,src
 SOURCES := $(shell find crates.txt $(wildcard $(call PARTS,sno)) 2>/dev/null)
 LISTER_SOURCES := $(shell find crates.txt $(wildcard $(call PARTS,sno_list)) 2>/dev/null)
 
-.PHONY: help run try sno list install uninstall test decks pages bound ways load refuse failing damage deep wrong time check bench compare variants random fmt clean page toolchain program deck input
+.PHONY: help run try sno list install uninstall release test decks pages bound ways load refuse failing damage deep wrong time check bench compare variants random fmt clean page toolchain program deck input
 .DEFAULT_GOAL := help
 
 help: ## list the targets
@@ -86,6 +86,9 @@ install: $(SNO) $(LIST) ## [PREFIX=folder]: put the proved programs, manual page
 uninstall: ## [PREFIX=folder]: take away what install put there
 	@tools/install --remove "$(DESTDIR)$(PREFIX)" && echo "uninstall: from $(DESTDIR)$(PREFIX)"
 
+release: build/sno build/sno_list ## leave programs, manual pages, the page and checksums of VERSION at build/release
+	@tools/release
+
 # A program that the gate proved is the one that `make run` runs, unless a source changed since the gate began.
 test: toolchain ## the gate: every proof from nothing, must-fail edits, tests, programs, decks (last line 'N passed, M failed')
 	@echo "test: proving every crate from nothing; this takes many minutes (all lines go to build/log)"
@@ -123,8 +126,8 @@ deep: build/sno ## deep and large decks on the proved program, with a small stac
 wrong: toolchain ## [CRATE=name]: try the wrong bodies that the gate doesn't; each must be refused
 	@tools/wrong $(CRATE)
 
-time: toolchain ## [CRATE=name]: the processor time of the gate, or of a crate, as a table
-	@RT_JOBS=$${RT_JOBS:-$$(tools/jobs)} tools/gate_time $(CRATE)
+time: toolchain ## [CRATE=name]: measure the gate and write its table into docs/architecture.md, or measure a crate
+	@RT_JOBS=$${RT_JOBS:-$$(tools/jobs)} tools/gate_time $(if $(CRATE),$(CRATE),--write)
 
 check: toolchain ## prove every crate over what earlier checks kept
 	@echo "check: proving every crate, lowest first"

@@ -66,7 +66,7 @@ impl<V: Element> Array<V> {
         Ok(Array { bounds, elements })
     }
 
-    /// The same array again.
+    /// A copy of the array, with its bounds and a clone of each element.
     pub(crate) fn copy(&self, alloc: Global) -> Result<Array<V>, AllocError>
         ensures { IfOk result (λ array. array ≡ self.now) }
     {

@@ -10,7 +10,7 @@ use crate::element::Element;
 use crate::items::{copied, put};
 use std::alloc::{AllocError, Global};
 
-/// How many more elements are written at once than are asked for.
+/// How many elements are written in one go beyond those that are asked for.
 const AHEAD: usize = 128;
 
 /// The elements that are written, what each of those behind them is, and how many these are.
@@ -46,7 +46,7 @@ impl<V: Element> Elements<V> {
         })
     }
 
-    /// The same elements again.
+    /// A copy of the elements, with a clone of each value.
     pub(crate) fn copy(&self, alloc: Global) -> Result<Elements<V>, AllocError>
         ensures { IfOk result (λ it. all_of it ≡ all_of self.now) }
     {
@@ -73,7 +73,7 @@ impl<V: Element> Elements<V> {
         self.behind(place)
     }
 
-    // The same behind all that are written.
+    // The element at a place behind all that are written.
     #[inline(never)]
     fn behind(&self, place: usize) -> Option<&V>
         requires { length self.now.written.items ≤ place }

@@ -7,7 +7,7 @@ ghost use Rattle.aggregates.specs.Objects.{if_stored};
 use crate::element::Element;
 use std::alloc::{AllocError, Global};
 
-/// The same items again.
+/// A copy of a list, with a clone of each item.
 pub(crate) fn copied<T: Clone + Drop>(alloc: Global, items: &[T]) -> Result<Vec<T>, AllocError>
     requires { (item copy : T) → T.is_clone item copy → copy ≡ item }
     ensures { IfOk result (λ copy. copy.items ≡ items.now) }

@@ -10,7 +10,7 @@ pub enum Key {
     String(Text),
 }
 
-/// A key that is looked up, whose text stays where it lies.
+/// A key that is looked up, whose text isn't copied.
 #[derive(Clone, Copy, PartialEq, Eq, Hash)]
 pub(crate) enum Wanted<'a> {
     Integer(i64),

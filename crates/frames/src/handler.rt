@@ -44,7 +44,7 @@ pub fn pop_try(handlers: &mut Stack<Handler>)
     let _handler = handlers.pop();
 }
 
-/// A failure: takes off the newest handler, drops the operands that it doesn't keep, and tells where to go on. Without
+/// A failure: takes off the newest handler, drops the operands that it doesn't keep, and returns where to go on. Without
 /// a handler there is nowhere, and nothing changes.
 pub fn fail(operands: &mut Stack<Operand>, handlers: &mut Stack<Handler>) -> Option<Caught>
     ensures caught { result ≡ caught_by handlers.old.top }

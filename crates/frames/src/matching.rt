@@ -141,7 +141,7 @@ impl Matching {
         held.matcher.let_go();
     }
 
-    // The same; its subject.
+    // Ends the match and lets go of what it held, but for its subject, which it returns.
     fn finish(&mut self) -> Text
         ensures subject { result ≡ self.old.search.subject }
         ensures over { self.new ≡ record self.old {

@@ -47,11 +47,11 @@ pub enum CardRule {
     Memory,
 }
 
-/// A broken rule of cards, and the number of the card at which it is told.
+/// A broken rule of cards, and the number of the card at which it is reported.
 #[derive(Clone, Copy, Debug, PartialEq, Eq, Error)]
 #[error("card {card} {rule}")]
 pub struct CardFault {
-    /// From 1; 0 where the deck as a whole is told, and one more than the cards for a missing END.
+    /// From 1; 0 for the deck as a whole, and one more than the cards for a missing END.
     pub card: u32,
     /// The rule that is broken there.
     pub rule: CardRule,

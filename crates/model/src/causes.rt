@@ -50,7 +50,7 @@ pub enum Cause {
 pub struct StmtFault {
     /// The statement's number, from 1.
     pub number: u32,
-    /// The one cause that is told of it.
+    /// The one cause that is reported for it.
     pub cause: Cause,
 }
 

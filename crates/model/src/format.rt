@@ -41,7 +41,7 @@ pub enum FormatRule {
     Memory,
 }
 
-/// A broken rule of the format, and the offset at which it is told.
+/// A broken rule of the format, and the offset at which it is reported.
 #[derive(Clone, Copy, Debug, PartialEq, Eq, Error)]
 #[error("offset {offset} {rule}")]
 pub struct FormatFault {
@@ -51,7 +51,7 @@ pub struct FormatFault {
     pub rule: FormatRule,
 }
 
-/// A broken rule of the format, and how many bytes are left where it is told.
+/// A broken rule of the format, and how many bytes are left where it is reported.
 #[derive(Clone, Copy)]
 pub struct Miss {
     /// How many bytes stand from there to the end.
@@ -113,7 +113,7 @@ pub enum ModuleRule {
     NoEnd,
 }
 
-/// A broken condition of well-formed modules, and the offset at which it is told.
+/// A broken condition of well-formed modules, and the offset at which it is reported.
 #[derive(Clone, Copy, Debug, PartialEq, Eq, Error)]
 #[error("offset {offset} {rule}")]
 pub struct ModuleFault {

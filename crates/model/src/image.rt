@@ -42,10 +42,10 @@ pub struct Label {
     pub statement: u32,
 }
 
-/// The level of a module: what it may name, and whether it tells cards.
+/// The level of a module: what it may name, and whether it has cards.
 #[derive(Clone, Copy)]
 pub enum Level {
-    /// It was written before FENCE of a pattern was there, and tells no cards.
+    /// It was written before FENCE of a pattern was there, and has no cards.
     One,
     /// As the generator writes it.
     Two,
@@ -54,7 +54,7 @@ pub enum Level {
 /// A module before it is spelt as bytes. Offsets count bytes of the code, numbers of statements begin at 1, others at
 /// 0.
 pub struct Image {
-    /// What it may name, and whether it tells cards.
+    /// What it may name, and whether it has cards.
     pub level: Level,
     /// The number of the first statement to run.
     pub entry: u32,

@@ -53,7 +53,7 @@ pub enum ArithOp {
     Power,
 }
 
-/// An instruction, in the order of the codes that modules have for them; docs/module-format.md tells what each does.
+/// An instruction, in the order of the codes that modules have for them; docs/module-format.md says what each does.
 #[derive(Clone, Copy)]
 pub enum Instr {
     /// The run ends normally.
@@ -96,11 +96,11 @@ pub enum Instr {
     Expr(u32),
     /// A call for a value: the number of the string that is the function's name, and how many arguments.
     CallV(u32, u16),
-    /// The same for a name.
+    /// A call for a name: the number of the string that is the function's name, and how many arguments.
     CallN(u32, u16),
     /// A primitive for a value, and how many arguments.
     PrimV(PrimId, u8),
-    /// The same for a name.
+    /// A primitive for a name, and how many arguments.
     PrimN(PrimId, u8),
     /// The newest value is dropped.
     Drop,
@@ -130,7 +130,7 @@ pub enum Instr {
     FetchK,
     /// A match of a subject and a pattern.
     Match,
-    /// The same for a replacement.
+    /// A match of a subject and a pattern whose part is replaced behind it.
     MatchR,
     /// The replacement of what matched.
     Splice,

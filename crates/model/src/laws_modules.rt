@@ -5,7 +5,7 @@ ghost use Rattle.model.specs.Laws.LeastFaults.{LeastIsTold, NoneIsWellFormed, On
 ghost use Rattle.model.specs.Laws.SameRuns.{SameRuns};
 ghost use Rattle.model.specs.Rows.WellFormed.{PartsMeetCases};
 
-/// Of all faults that an image has, the one of least offset is told, and of these the one of least number; none is told
+/// Of all faults of an image the one of least offset is reported, and of these the one of least number; none is reported
 /// where it has none.
 pub fn least_fault_is_told()
     ensures least { LeastIsTold }

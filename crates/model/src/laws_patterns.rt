@@ -35,7 +35,7 @@ pub fn pattern_steps_are_bounded()
     ensures from_there { PatternStepsOnBounded }
 {}
 
-/// The first end of a plain pattern is what its scan answers.
+/// The first end of a plain pattern is the result of its scan.
 pub fn first_end_is_found()
     ensures scan { ScanOfFirst }
     ensures first { FirstOfScan }
@@ -80,7 +80,7 @@ pub fn match_states_lead_on()
     ensures answers { AnswersLeadOn }
 {}
 
-/// The worked cases: the scan of each pattern and the steps of its code give the answer that its table tells.
+/// The worked cases: the scan of each pattern and the steps of its code give the answer that its table has.
 pub fn pattern_cases()
     ensures scans { ScansMeetCases }
     ensures steps { StepsMeetCases }

@@ -112,7 +112,7 @@ impl PatCode {
         code.led_anew(alloc, first)
     }
 
-    // The same of code that something else shares.
+    // The code with an instruction before it, in new memory.
     #[inline(never)]
     fn led_anew(self, alloc: Global, first: Instr) -> Result<PatCode, AllocError>
         ensures { IfOk result (λ code. code ≡ instr_of first ∷ self) }
@@ -136,7 +136,7 @@ impl PatCode {
         code.followed_anew(alloc, part)
     }
 
-    // The same of code that something else shares.
+    // The code and then a pattern, in new memory.
     #[inline(never)]
     fn followed_anew(self, alloc: Global, part: Pattern) -> Result<PatCode, AllocError>
         ensures { IfOk result (λ code. code ≡ self ++ part) }

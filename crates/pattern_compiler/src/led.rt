@@ -68,7 +68,7 @@ impl Led {
         }
     }
 
-    /// The same of a part of one instruction, in the memory of what was made last, which is lent until it is brought back.
+    /// The code behind a part of one instruction, in the memory of the last such code, lent until `bring_back`.
     /// None where there is none, or where something else holds it.
     #[inline(always)]
     pub fn lend(&mut self, first: Pattern) -> Option<PatCode>
@@ -98,7 +98,7 @@ impl Led {
         self.whole = code.into_shared();
     }
 
-    // The same of a part that is one instruction.
+    // The code behind an instruction, in the memory of the last such code if nothing else holds it.
     #[inline(always)]
     fn led_by(&mut self, alloc: Global, first: Instr) -> Result<PatCode, AllocError>
         ensures code { IfOk result (λ code. code ≡ instr_of first ∷ self.old) }
@@ -113,7 +113,7 @@ impl Led {
         self.led_anew(alloc, first)
     }
 
-    // The same in memory of its own, which the next may take.
+    // The code behind an instruction, in new memory, which the next call may use again.
     #[inline(never)]
     fn led_anew(&mut self, alloc: Global, first: Instr) -> Result<PatCode, AllocError>
         ensures code { IfOk result (λ code. code ≡ instr_of first ∷ self.old) }

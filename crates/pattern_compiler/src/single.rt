@@ -23,7 +23,7 @@ impl PatCode {
         PatCode::prim(alloc, Basic::Lit(text.clone()?))
     }
 
-    /// The same, which this code becomes where the text isn't null, in the same memory where nothing else holds it.
+    /// The code of a literal. This code becomes it if the text isn't null, in place if nothing else holds the memory.
     pub fn lit_again(&mut self, alloc: Global, text: &Text) -> Result<PatCode, AllocError>
         ensures { IfOk result (λ code. code ≡ basic_code (pattern.Lit text.now)) }
     {
@@ -51,7 +51,7 @@ impl PatCode {
         self.become_new_lit(alloc, text)
     }
 
-    // The same in other memory.
+    // Becomes the code of a literal, in new memory.
     #[inline(never)]
     fn become_new_lit(&mut self, alloc: Global, text: &Text) -> Result<(), AllocError>
         ensures { OnOk result (self.new ≡ pattern.Do (pattern.Lit text.now) ∷ []) }

@@ -65,7 +65,7 @@ pub(crate) fn apply(
     Err(Fault::Error(ErrorCode::NotAName))
 }
 
-/// The same arguments again.
+/// A copy of the arguments, with a clone of each value.
 pub(crate) fn copied(alloc: Global, arguments: &[Value]) -> Result<Vec<Value>, AllocError>
     ensures { IfOk result (λ copy. copy.items ≡ arguments.now) }
 {

@@ -6,7 +6,7 @@
 //!     let outcome = call_prim(alloc, PrimId::Size, &arguments, &mut world)?;
 //!
 //! `holds(id, first, second)` is a call of one that `is_test`: it says something of two values and takes no memory;
-//! `integers_hold` is the same of two integers.
+//! `integers_hold` is a test of two integers.
 //!
 //! `integers_compare` is one that compares the integers of two values.
 //!

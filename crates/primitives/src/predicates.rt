@@ -83,7 +83,7 @@ pub fn holds(id: PrimId, first: &Value, second: &Value) -> Result<bool, ErrorCod
     }
 }
 
-/// The same of two integers.
+/// Whether a test of two integers holds.
 #[inline(always)]
 pub fn integers_hold(id: PrimId, first: i64, second: i64) -> bool
     requires { is_test id ≡ true }
@@ -189,7 +189,7 @@ pub(crate) fn differ(left: &Value, right: &Value) -> Result<Outcome, Fault>
     Ok(Outcome::holds_if(!same(left, right)?))
 }
 
-// The same, or the error that it can't be asked.
+// Whether two values have one type and one content, or E1 for a pattern or an expression.
 fn same(left: &Value, right: &Value) -> Result<bool, ErrorCode>
     ensures { SameOr result (same_value (value_of left.now) (value_of right.now)) }
 {

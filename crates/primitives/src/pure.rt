@@ -60,7 +60,7 @@ pub fn call_pure(
     call_three(alloc, id, first, second, third, world)
 }
 
-// The same with exactly three arguments.
+// Calls such a primitive with exactly three arguments.
 #[inline(always)]
 pub(crate) fn call_three(
     alloc: Global,

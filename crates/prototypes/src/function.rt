@@ -24,7 +24,7 @@ struct Parts {
     slots: Vec<u32>,
 }
 
-/// What DEFINE is told: a function's name, its arguments and its locals, all different. Its clones share them.
+/// The prototype that DEFINE takes: a function's name, its arguments and its locals, all different. Its clones share them.
 pub struct FunctionPrototype {
     parts: Rc<Parts>,
 }
@@ -104,7 +104,7 @@ impl FunctionPrototype {
         self.parts.as_ref().slots.as_slice()
     }
 
-    /// The same prototype with these slots. One that is shared keeps those that it has.
+    /// The prototype with these slots in place of its own. One that is shared keeps those that it has.
     pub fn with_slots(self, alloc: Global, slots: Vec<u32>) -> Result<FunctionPrototype, AllocError>
         ensures { IfOk result (λ prototype. prototype ≡ self) }
     {

@@ -1,4 +1,4 @@
-//! Prototypes: the texts by which DEFINE, DATA and ARRAY are told what to make.
+//! Prototypes: the texts that say what DEFINE, DATA and ARRAY make.
 //!
 //! `function_prototype(alloc, level, text)` reads `NAME(ARGUMENT,..)LOCAL,..`, `type_prototype` what DATA takes, as
 //! `TYPE(FIELD,..)`, `dimensions` what ARRAY takes, as `0:9,20`.

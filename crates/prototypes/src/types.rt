@@ -13,7 +13,7 @@ use std::alloc::{AllocError, Global};
 use std::marker::Model;
 use strings::Text;
 
-/// What DATA is told: a type's name and its fields. Its clones share them.
+/// The prototype that DATA takes: a type's name and its fields. Its clones share them.
 pub struct TypePrototype {
     // The type's name, and then the fields.
     names: Names,

@@ -284,7 +284,7 @@ impl Text {
         true
     }
 
-    // The same of a few bytes that stay few.
+    // Puts bytes behind a few that stay few.
     #[inline(always)]
     fn extend_few(&mut self, more: &[u8])
         requires few { length self.old + length more.now ≤ 22 }
@@ -302,7 +302,7 @@ impl Text {
         *self = Text::few_joined(self, more);
     }
 
-    // The same of many, or of a few that become many.
+    // Puts bytes behind many, or behind a few that become many; whether there was memory, or else nothing changes.
     #[inline(never)]
     fn extend_many(&mut self, alloc: Global, one: &[u8], two: &[u8]) -> bool
         requires fits { length self.old + length one.now + length two.now < 2 ^ 64 }
@@ -668,7 +668,7 @@ fn lengthened(all: Vec<u8>, start: u32, end: u32, right: &[u8]) -> Result<Text, 
     shared_from(start, all)
 }
 
-// The bytes from a place on. More than a place can tell are refused as too many for memory.
+// The bytes from a place on. More than a place can count are refused as too many for memory.
 #[tactic(auto, using(crate::proofs::Lists::slice_range_to_end))]
 fn shared_from(start: u32, all: Vec<u8>) -> Result<Text, StrFault>
     requires { start ≤ length all.items }
