@@ -1,4 +1,5 @@
 pub mod Compiled
 pub mod Whole
 pub mod Cards
+pub mod Exits
 pub mod Upgraded

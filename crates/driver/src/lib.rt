@@ -9,11 +9,12 @@
 //! Promised, of `run_deck`: a deck is refused by exactly its faults (`refused`). A run does what the deck means
 //! (`meaning`): it ends as the deck's meaning does, with that printed, or what it printed is a prefix of what the meaning
 //! prints (`sound`); a meaning that ends after r rules is reached within 7 * (r + 1) steps (`reaches`); and what a meaning
-//! prints within r rules is printed within so many steps, also where neither ends (`prints`). Words, lines and statuses
-//! (`read_words`, `report`) are tested.
+//! prints within r rules is printed within so many steps, also where neither ends (`prints`). The exit status is a function
+//! of what is told (`exit_status`). Words and lines (`read_words`, `report`) are tested.
 #![tactic(auto)]
 
 mod compiling;
+mod exits;
 mod refusal;
 mod running;
 mod showing;
@@ -23,6 +24,7 @@ mod whole;
 mod words;
 
 pub use compiling::compile_deck;
+pub use exits::exit_status;
 pub use refusal::Refusal;
 pub use running::{Ran, run_module, run_with_card};
 pub use showing::{ShowFault, check_module, instruction_name, show};

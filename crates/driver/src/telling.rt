@@ -1,5 +1,9 @@
-//! What the program tells on standard error, and its exit status.
+//! What the program tells on standard error.
 
+ghost use Rattle.std.specs.Prelude.{◌≡◌, IfOk};
+ghost use Rattle.driver.specs.Exits.{exit_of};
+
+use crate::exits::exit_status;
 use crate::refusal::Refusal;
 use crate::running::Ran;
 use model::{Ending, FormatFault, FormatRule, LoadFault, Status, Stop, UnitFault};
@@ -38,42 +42,36 @@ fn end_with_card<W: Write>(card: u32, out: &mut W) -> io::Result<()> {
     }
 }
 
-fn report_ending<W: Write>(ending: Ending, card: u32, out: &mut W) -> Result<u8, WriteFault> {
+fn tell_ending<W: Write>(ending: Ending, card: u32, out: &mut W) -> io::Result<()> {
     match ending {
-        Ending::Normal => Ok(0),
+        Ending::Normal => Ok(()),
         Ending::Error { code, statement } => {
             write!(out, "error {code} statement {statement}")?;
-            end_with_card(card, out)?;
-            Ok(1)
+            end_with_card(card, out)
         }
         Ending::StLimit { statement } => {
             write!(out, "stlimit statement {statement}")?;
-            end_with_card(card, out)?;
-            Ok(5)
+            end_with_card(card, out)
         }
     }
 }
 
-fn report_no_memory<W: Write>(out: &mut W) -> Result<u8, WriteFault> {
-    writeln!(out, "no memory")?;
-    Ok(6)
+fn tell_no_memory<W: Write>(out: &mut W) -> io::Result<()> {
+    writeln!(out, "no memory")
 }
 
-fn report_stop<W: Write>(stop: Stop, out: &mut W) -> Result<u8, WriteFault> {
+fn tell_stop<W: Write>(stop: Stop, out: &mut W) -> io::Result<()> {
     match stop {
         Stop::Unit {
             cause: UnitFault::Memory,
             ..
         }
-        | Stop::NoMemory => report_no_memory(out),
-        Stop::Unit { unit, cause } => {
-            writeln!(out, "unit {unit} {cause}")?;
-            Ok(6)
-        }
+        | Stop::NoMemory => tell_no_memory(out),
+        Stop::Unit { unit, cause } => writeln!(out, "unit {unit} {cause}"),
     }
 }
 
-fn report_bad_module<W: Write>(fault: LoadFault, out: &mut W) -> Result<u8, WriteFault> {
+fn tell_bad_module<W: Write>(fault: LoadFault, out: &mut W) -> io::Result<()> {
     if let LoadFault::Format(
         FormatFault {
             rule: FormatRule::Memory,
@@ -81,54 +79,48 @@ fn report_bad_module<W: Write>(fault: LoadFault, out: &mut W) -> Result<u8, Writ
         },
     ) = fault
     {
-        return report_no_memory(out);
+        return tell_no_memory(out);
     }
-    writeln!(out, "{fault}")?;
-    Ok(4)
+    writeln!(out, "{fault}")
 }
 
-fn report_run<W: Write>(ran: Ran, out: &mut W) -> Result<u8, WriteFault> {
+fn tell_run<W: Write>(ran: Ran, out: &mut W) -> io::Result<()> {
     match ran.status {
-        Status::Running => {
-            writeln!(out, "steps used up")?;
-            Ok(5)
-        }
-        Status::Ended(ending) => report_ending(ending, ran.card, out),
-        Status::Stopped(stop) => report_stop(stop, out),
+        Status::Running => writeln!(out, "steps used up"),
+        Status::Ended(ending) => tell_ending(ending, ran.card, out),
+        Status::Stopped(stop) => tell_stop(stop, out),
     }
 }
 
-fn report_refusal<W: Write>(refusal: &Refusal, out: &mut W) -> Result<u8, WriteFault> {
+fn tell_refusal<W: Write>(refusal: &Refusal, out: &mut W) -> io::Result<()> {
     match refusal {
-        Refusal::Card(fault) => writeln!(out, "{fault}")?,
+        Refusal::Card(fault) => writeln!(out, "{fault}"),
         Refusal::Statements(faults) => {
             for fault in faults.as_slice() {
                 writeln!(out, "{fault}")?;
             }
+            Ok(())
         }
-        Refusal::Memory => return report_no_memory(out),
+        Refusal::Memory => tell_no_memory(out),
     }
-    Ok(3)
+}
+
+fn tell<W: Write>(told: &Told<'_>, out: &mut W) -> io::Result<()> {
+    match told {
+        Told::BadCommandLine => writeln!(out, "bad command line"),
+        Told::Refused(refusal) => tell_refusal(refusal, out),
+        Told::BadModule(fault) => tell_bad_module(*fault, out),
+        Told::Ran(ran) => tell_run(*ran, out),
+        Told::CannotRead(file) => writeln!(out, "cannot read {file}"),
+        Told::CannotWrite(file) => writeln!(out, "cannot write {file}"),
+        Told::NoMemory => tell_no_memory(out),
+    }
 }
 
 /// Writes the lines that tell it, and gives the exit status. After a failure nothing is said of what was written.
-pub fn report<W: Write>(told: &Told<'_>, out: &mut W) -> Result<u8, WriteFault> {
-    match told {
-        Told::BadCommandLine => {
-            writeln!(out, "bad command line")?;
-            Ok(2)
-        }
-        Told::Refused(refusal) => report_refusal(refusal, out),
-        Told::BadModule(fault) => report_bad_module(*fault, out),
-        Told::Ran(ran) => report_run(*ran, out),
-        Told::CannotRead(file) => {
-            writeln!(out, "cannot read {file}")?;
-            Ok(6)
-        }
-        Told::CannotWrite(file) => {
-            writeln!(out, "cannot write {file}")?;
-            Ok(6)
-        }
-        Told::NoMemory => report_no_memory(out),
-    }
+pub fn report<W: Write>(told: &Told<'_>, out: &mut W) -> Result<u8, WriteFault>
+    ensures { IfOk result (λ exit. exit ≡ exit_of told.now) }
+{
+    tell(told, out)?;
+    Ok(exit_status(told))
 }
