@@ -24,8 +24,9 @@ FAULTS := "tests/refuse --every 50 $(PROGRAM)/out/sno $(FAILING)" "tests/failing
 PARTS = $(foreach crate,$(shell tools/below $(1) 2>/dev/null),$(foreach part,src specs proofs,crates/$(crate)/$(part)))
 SOURCES := $(shell find crates.txt $(wildcard $(call PARTS,sno)) 2>/dev/null)
 LISTER_SOURCES := $(shell find crates.txt $(wildcard $(call PARTS,sno_list)) 2>/dev/null)
+PAGE_SOURCES := $(shell find crates.txt $(wildcard $(call PARTS,page)) 2>/dev/null)
 
-.PHONY: help run try sno list install uninstall release test decks pages bound ways load refuse failing damage deep wrong time check bench compare variants random fmt clean page toolchain program deck input
+.PHONY: help run try sno list install uninstall release test decks pages bound ways load refuse failing damage deep wrong time check bench compare variants random fmt clean page site browse toolchain program deck input
 .DEFAULT_GOAL := help
 
 help: ## list the targets
@@ -77,8 +78,18 @@ build/sno_list: $(LISTER_SOURCES) | program
 	@(cd $(LISTER) && echo END | ../../tools/progress "$(RT) run") >&2 || { echo "list: not proved, or not built" >&2; exit 1; }
 	@cp $(LISTER)/out/sno_list build/sno_list.new && mv build/sno_list.new build/sno_list
 
-page: toolchain ## leave the compiler and the machine, for a browser, at build/page.html
-	@tools/page build/page.html
+page: build/page.wasm ## leave the compiler and the machine, in one file that a browser opens, at build/page.html
+	@tools/page build/page.wasm build/page.html
+
+site: build/page.wasm ## leave the pages of docs/, with their decks runnable in place, at build/site/index.html
+	@tools/site build/page.wasm build/site
+
+build/page.wasm: $(PAGE_SOURCES) $(wildcard page/*.c) tools/wasm | toolchain
+	@echo "page: proving crates/page and building it for a browser (all lines go to build/log)" >&2
+	@tools/progress "tools/wasm build/page.wasm" >&2 || { echo "page: not proved, or not built" >&2; exit 1; }
+
+browse: build/sno page site ## decks on the page, in node, and the page and the site in the browsers that are installed
+	@tests/page build/sno build/page.wasm build/page.html build/site
 
 install: $(SNO) $(LIST) ## [PREFIX=folder]: put the proved programs, manual pages and completion there (/usr/local if none is told)
 	@tools/install "$(DESTDIR)$(PREFIX)" $(SNO) $(LIST) && echo "install: in $(DESTDIR)$(PREFIX)"

@@ -10,14 +10,22 @@
 //! from the page's side.
 #![tactic(auto)]
 
+mod given;
+mod hooks;
+mod pieces;
 mod putting;
 mod running;
+mod watched;
 
 ghost use Rattle.page.specs.Shown.{IsPage};
 
+use crate::given::GivenUnits;
+use crate::pieces::{Pieces, run_in_pieces};
 use crate::putting::put;
 use crate::running::{exit_status, run};
-use driver::{Told, report};
+use driver::{Refusal, Told, report};
+pub use given::Given;
+pub use hooks::{page_went, page_wrote};
 use listing::{Style, list};
 use model::Status;
 use std::alloc::Global;
@@ -73,6 +81,47 @@ pub extern "C" fn page_run(
             shown.told = put(&lines, told);
         }
     }
+}
+
+/// Compiles a deck and runs it, at most so many steps, of which the page hears as they are made: first so many, and then
+/// in pieces. The units are those that are given, with the records of their parts of what was typed; what is written goes
+/// to the page. What `sno` would write on standard error goes to `told`, and `shown.printed` has how many steps the run
+/// had made when its last piece began.
+#[unsafe(no_mangle)]
+pub extern "C" fn page_watch(
+    alloc: Global,
+    deck: &[u8],
+    typed: &[u8],
+    given: &[Given],
+    steps: u64,
+    first: u64,
+    further: u64,
+    told: &mut [u8],
+    shown: &mut Shown,
+) {
+    let bound = steps;
+    let pieces = Pieces {
+        bound,
+        first,
+        further,
+    };
+    let outcome = match GivenUnits::new(alloc, typed, given) {
+        Ok(mut units) => run_in_pieces(alloc, deck, &mut units, pieces),
+        Err(_) => Err(Refusal::Memory),
+    };
+    let (lines, status, made) = match outcome {
+        Ok(outcome) => {
+            let (lines, status) = lines_of(alloc, &Told::Ran(outcome.ran));
+            (lines, status, outcome.made)
+        }
+        Err(refusal) => {
+            let (lines, status) = lines_of(alloc, &Told::Refused(refusal));
+            (lines, status, 0)
+        }
+    };
+    shown.status = u64::from(status);
+    shown.printed = made;
+    shown.told = put(&lines, told);
 }
 
 /// Lists a deck, in lines of some width, with its instructions where they are wanted.

@@ -8,6 +8,7 @@ ghost use Rattle.statement_machine.specs.Stopped.{ending_of};
 ghost use Rattle.driver.specs.Compiled.{IsRefusalOf};
 ghost use Rattle.page.specs.Shown.{IsShown, inputs_of};
 
+use crate::watched::Watched;
 use driver::{Ran, Refusal, run_deck};
 use model::{Ending, Status, UnitFault};
 use std::alloc::Global;
@@ -50,11 +51,12 @@ pub(crate) fn run(alloc: Global, deck: &[u8], input: &[u8], steps: u64) -> Resul
     ensures refused { IfErr result (IsRefusalOf deck.now) }
     ensures shown { IfOk result (λ run. IsShown deck.now input.now run.ran.status run.printed.items) }
 {
-    let Ok(mut units) = units(alloc, input) else {
+    let Ok(units) = units(alloc, input) else {
         return Err(Refusal::Memory);
     };
-    let ran = run_deck(alloc, deck, &mut units, steps)?;
-    match printed_on(alloc, &units) {
+    let mut watched = Watched { units };
+    let ran = run_deck(alloc, deck, &mut watched, steps)?;
+    match printed_on(alloc, &watched.units) {
         Ok(printed) => Ok(Outcome { ran, printed }),
         Err(_) => Err(Refusal::Memory),
     }
