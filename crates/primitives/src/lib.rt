@@ -31,7 +31,7 @@ mod pure;
 mod units;
 
 pub use call::call_prim;
-pub use functions::replace_strings;
+pub use functions::{integers_remainder, replace_strings};
 pub use outcome::Outcome;
 pub use patterns::call_one;
 pub use predicates::{holds, integers_compare, integers_hold, is_test};

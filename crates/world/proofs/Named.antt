@@ -147,24 +147,54 @@ module _ (h : WorldView) (os : List (Object Value)) (io : Io) (k : ℕ) (vs : Li
       go (Some (TableOf es)) a t = absurd (t refl)
       go (Some (RecordOf f fs es)) a t = refl
 
--- an element that has a place by its only subscript
-pub placed_item : (h : WorldView) (os : List (Object Value)) (io : Io) (k : ℕ) (same : os ≡ h.objects) (z : ℤ) (i : ℕ) → place_in (z ∷ []) (slice_get os k) ≡ Some i → element_op (Obj k) (Int z ∷ []) (world_of h io) ≡ Gives (Element k i) (world_of h io)
-placed_item h os io k same z i e = asked h os io k (Int z ∷ []) same ∙ go (slice_get os k) e
+-- as many subscripts have a place as there are dimensions
+as_many : (j : ℕ) (bs : List Bounds) (zs : List ℤ) (i : ℕ) → place_from j bs zs ≡ Some i → length bs ≡ length zs
+as_many j [] [] i e = refl
+as_many j [] (z ∷ zs) i e = absurd (cc)
+as_many j (b ∷ bs) [] i e = absurd (cc)
+as_many j (b ∷ bs) (z ∷ zs) i e = by (int_le b.low z && int_lt z (b.low +ℤ pos b.count)) (as_many (j * b.count + nat_abs (z -ℤ b.low)) bs zs i) e
   where
-    outside : (j : ℕ) (c : Bounds) (bs : List Bounds) (t : Bool) → (if t then place_from j (c ∷ bs) [] else None) ≡ Some i → ⊥
-    outside j c bs true e = cc
-    outside j c bs false e = cc
+    by : (t : Bool) → (place_from (j * b.count + nat_abs (z -ℤ b.low)) bs zs ≡ Some i → length bs ≡ length zs) → (if t then place_from (j * b.count + nat_abs (z -ℤ b.low)) bs zs else None) ≡ Some i → length (b ∷ bs) ≡ length (z ∷ zs)
+    by true others e = ap suc (others e)
+    by false others e = absurd (cc)
 
-    of_bounds : (bs : List Bounds) (es : List MVal) → place_from 0 bs (z ∷ []) ≡ Some i → element_in k (Some (ArrayOf bs es)) (Int z ∷ []) (world_of h io) ≡ Gives (Element k i) (world_of h io)
-    of_bounds [] es e = absurd (cc)
-    of_bounds (b ∷ []) es e = ap (λ place. named_element k place (world_of h io)) e
-    of_bounds (b ∷ c ∷ bs) es e = absurd (outside (0 * b.count + nat_abs (z -ℤ b.low)) c bs (int_le b.low z && int_lt z (b.low +ℤ pos b.count)) e)
+-- values convert to as many integers
+converted_many : (vs : List MVal) (zs : List ℤ) → all_integers vs ≡ Got zs → length vs ≡ length zs
+converted_many [] zs e = let same : [] ≡ zs = cc in ap length same
+converted_many (v ∷ vs) zs e = go (to_integer v) (all_integers vs) (converted_many vs) refl e
+  where
+    go : (c : Conv ℤ) (d : Conv (List ℤ)) → ((ys : List ℤ) → all_integers vs ≡ Got ys → length vs ≡ length ys) → all_integers vs ≡ d → then_conv c (λ y. then_conv d (λ ys. Got (y ∷ ys))) ≡ Got zs → length (v ∷ vs) ≡ length zs
+    go (Bad x) d others q e = absurd (cc)
+    go (Got y) (Bad x) others q e = absurd (cc)
+    go (Got y) (Got ys) others q e = let same : y ∷ ys ≡ zs = cc in ap suc (others ys q) ∙ ap length same
 
-    go : (o : Option (Object Value)) → place_in (z ∷ []) o ≡ Some i → element_in k (option_map (object_map value_of) o) (Int z ∷ []) (world_of h io) ≡ Gives (Element k i) (world_of h io)
+-- an element that has a place by what its subscripts convert to
+pub placed_by : (h : WorldView) (os : List (Object Value)) (io : Io) (k : ℕ) (same : os ≡ h.objects) (zs : List ℤ) (vs : List MVal) (i : ℕ) → all_integers vs ≡ Got zs → place_in zs (slice_get os k) ≡ Some i → element_op (Obj k) vs (world_of h io) ≡ Gives (Element k i) (world_of h io)
+placed_by h os io k same zs vs i all e = asked h os io k vs same ∙ go (slice_get os k) e
+  where
+    of_bounds : (bs : List Bounds) (es : List MVal) → place_from 0 bs zs ≡ Some i → element_in k (Some (ArrayOf bs es)) vs (world_of h io) ≡ Gives (Element k i) (world_of h io)
+    of_bounds bs es e =
+        let long : length vs ≡ length bs = converted_many vs zs all ∙ sym (as_many 0 bs zs i e) in
+        let is : nat_eq (length vs) (length bs) ≡ true = grind (arith, long) in
+        ap (λ b. if b then conv (all_integers vs) (world_of h io) (λ ys. named_element k (place_from 0 bs ys) (world_of h io)) else Faults error.BadArray (world_of h io)) is
+        ∙ ap (λ c. conv c (world_of h io) (λ ys. named_element k (place_from 0 bs ys) (world_of h io))) all
+        ∙ ap (λ place. named_element k place (world_of h io)) e
+
+    go : (o : Option (Object Value)) → place_in zs o ≡ Some i → element_in k (option_map (object_map value_of) o) vs (world_of h io) ≡ Gives (Element k i) (world_of h io)
     go None e = absurd (cc)
     go (Some (ArrayOf bs es)) e = of_bounds bs (map value_of es) e
     go (Some (TableOf es)) e = absurd (cc)
     go (Some (RecordOf f fs es)) e = absurd (cc)
+
+-- so has each list of values that converts to them
+pub placed_for : (h : WorldView) (os : List (Object Value)) (k : ℕ) (same : os ≡ h.objects) (zs : List ℤ) (r : Option ℕ) → r ≡ place_in zs (slice_get os k)
+    → IfSome r (λ i. (vs : List MVal) → all_integers vs ≡ Got zs → (io : Io) → element_op (Obj k) vs (world_of h io) ≡ Gives (Element k i) (world_of h io))
+placed_for h os k same zs None e = tt
+placed_for h os k same zs (Some i) e = λ vs all io. placed_by h os io k same zs vs i all (sym e)
+
+-- an element that has a place by its only subscript
+pub placed_item : (h : WorldView) (os : List (Object Value)) (io : Io) (k : ℕ) (same : os ≡ h.objects) (z : ℤ) (i : ℕ) → place_in (z ∷ []) (slice_get os k) ≡ Some i → element_op (Obj k) (Int z ∷ []) (world_of h io) ≡ Gives (Element k i) (world_of h io)
+placed_item h os io k same z i e = placed_by h os io k same (z ∷ []) (Int z ∷ []) i refl e
 
 -- an element that has no place by its only subscript
 pub outside_item : (h : WorldView) (os : List (Object Value)) (io : Io) (k : ℕ) (same : os ≡ h.objects) (z : ℤ) → dimensions_in (slice_get os k) ≡ 1 → place_in (z ∷ []) (slice_get os k) ≡ None

@@ -1,13 +1,14 @@
 //! Elements of arrays, values of tables and fields of records.
 
-ghost use Rattle.std.specs.Prelude.{◌≡◌, ◌∷◌, [], slice_get, option_map, true, false, IfSome, OnErr};
+ghost use Rattle.std.specs.Prelude.{◌≡◌, ◌∷◌, [], List, slice_get, option_map, true, false, IfSome, OnErr};
 ghost use Rattle.model.specs.Language.Io.{Io};
 ghost use Rattle.model.specs.Deck.Target as target;
 ghost use Rattle.model.specs.Deck.Target.{Element};
 ghost use Rattle.model.specs.Language.Values.{Int, Obj, Str};
 ghost use Rattle.model.specs.Language.Operators.{there, assign_op, entry_of, fetch_op, put_object};
-ghost use Rattle.model.specs.Language.Aggregates.{element_op};
-ghost use Rattle.model.specs.Language.Conversions.{Gives, Refuses};
+ghost use Rattle.model.specs.Language.Aggregates.{all_integers, element_op};
+ghost use Rattle.model.specs.Language.Conversions.{Gives, Got, Refuses};
+ghost use Rattle.model.specs.Machine.Steps.{MVal};
 ghost use Rattle.model.specs.declared.run.Stop.TheVariants.{NoMemory};
 ghost use Rattle.aggregates.specs.Keys.{key_of};
 ghost use Rattle.aggregates.specs.Objects.{stored_at};
@@ -34,6 +35,16 @@ impl World {
             ≡ Gives (Element object index) (world_of self.now io)) }
     {
         self.heap.place_of_one(object, subscript)
+    }
+
+    /// The place of an array's element, by what its subscripts convert to; what isn't an array has none here.
+    #[inline]
+    pub fn place_by(&self, object: usize, subscripts: &[i64]) -> Option<usize>
+        ensures { IfSome result (λ index. (vs : List MVal) → all_integers vs ≡ Got subscripts.now → (io : Io)
+            → element_op (Obj object) vs (world_of self.now io)
+            ≡ Gives (Element object index) (world_of self.now io)) }
+    {
+        self.heap.place(object, subscripts)
     }
 
     /// Whether an array of one dimension has no element for a subscript.
