@@ -20,6 +20,7 @@ pub mod Joining
 pub mod Keys
 pub mod Operations
 pub mod Parts
+pub mod Bringing
 pub mod Matching
 pub mod Running
 pub mod Seeing
@@ -39,4 +40,3 @@ pub mod Needles
 pub mod Preparing
 pub mod AtOnce
 pub mod BaseCases
-pub mod Upon

@@ -20,4 +20,3 @@ pub mod Openings
 pub mod Prepared
 pub mod Straight
 pub mod Taking
-pub mod Upon

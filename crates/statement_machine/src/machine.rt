@@ -19,6 +19,7 @@ use crate::run::Run;
 use crate::status::Halt;
 use loader::Module;
 use model::{Status, Stop};
+use parts::{Parts, parts_of};
 use segments::{Form, form_of};
 use std::alloc::{AllocError, Global};
 use std::marker::Model;
@@ -29,12 +30,14 @@ use unit_io::Units;
 pub struct Machine<'m, 'a> {
     program: &'m Module<'a>,
     form: Form,
+    parts: Parts,
     prepared: Vec<Option<Box<Prepared>>>,
     run: Run,
     halt: Option<Halt>,
 }
 
 impl<'m, 'a> Model for Machine<'m, 'a> {
+    ghost use Rattle.parts.specs.Parts.{IsParts};
     ghost use Rattle.segments.specs.Leading.{IsRunnable};
     ghost use Rattle.segments.specs.Segments.{IsForm};
     ghost use Rattle.statement_machine.specs.Prepared.{ArePrepared};
@@ -47,7 +50,8 @@ impl<'m, 'a> Model for Machine<'m, 'a> {
     ghost invariant = { λ m.
         IsRunnable m.program.now × IsGoing m.halt (LacksNothing m.program.now m.run)
         × ArePrepared m.program.now m.prepared.items
-        × IsForm m.program.now m.run.state.world.names m.form };
+        × IsForm m.program.now m.run.state.world.names m.form
+        × IsParts m.program.now m.run.state.world.names m.parts };
 }
 
 impl<'m, 'a> Machine<'m, 'a> {
@@ -64,10 +68,12 @@ impl<'m, 'a> Machine<'m, 'a> {
         run.state.enter_variables(program)?;
         run.state.world.keep_slots()?;
         let form = form_of(alloc, program, &run.state.world)?;
+        let parts = parts_of(alloc, program, &run.state.world)?;
         let prepared = prepared_of(alloc, program)?;
         Ok(Machine {
             program,
             form,
+            parts,
             prepared,
             run,
             halt: None,
@@ -95,10 +101,14 @@ impl<'m, 'a> Machine<'m, 'a> {
             return halt.status();
         }
         let prepared = self.prepared.as_mut_slice();
-        match self
-            .run
-            .make_steps(self.program, &self.form, prepared, units, bound)
-        {
+        match self.run.make_steps(
+            self.program,
+            &self.form,
+            &self.parts,
+            prepared,
+            units,
+            bound,
+        ) {
             Ok(()) => Status::Running,
             Err(halt) => {
                 self.halt = Some(halt);

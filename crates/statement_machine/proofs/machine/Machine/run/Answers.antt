@@ -1,4 +1,5 @@
 use Rattle.std.proofs.Common.{sym, ap, ◌∙◌, subst}
+use Rattle.parts.specs.Parts.{IsParts}
 use Rattle.segments.specs.Segments.{IsForm}
 use Rattle.statement_machine.specs.Prepared.{ArePrepared}
 use Rattle.statement_machine.specs.Runs.{MachineView}
@@ -32,6 +33,7 @@ invariant_of-self g c =
       goes_on it.halt _ c.in-Ok.ensures.sound,
       subst (ArePrepared im) (sym (whole_again it.prepared.items c.make_steps.new.prepared it.prepared.len (c.make_steps.ensures.prepared ∙ c.as_mut_slice-prepared.ensures.value) it.prepared.ok.0)) c.self.invariant.2,
       subst (λ ns. IsForm im ns it.form) (sym c.make_steps.ensures.names) c.self.invariant.3,
+      subst (λ ns. IsParts im ns it.parts) (sym c.make_steps.ensures.names) c.self.invariant.4,
     )
 
 pub invariant_of-self-in-Err : goal.invariant_of-self-in-Err
@@ -42,6 +44,7 @@ invariant_of-self-in-Err g c =
       tt,
       subst (ArePrepared im) (sym (whole_again it.prepared.items c.make_steps.new.prepared it.prepared.len (c.make_steps.ensures.prepared ∙ c.as_mut_slice-prepared.ensures.value) it.prepared.ok.0)) c.self.invariant.2,
       subst (λ ns. IsForm im ns it.form) (sym c.make_steps.ensures.names) c.self.invariant.3,
+      subst (λ ns. IsParts im ns it.parts) (sym c.make_steps.ensures.names) c.self.invariant.4,
     )
 
 pub returns-in-Err-clause-stops : goal.returns-in-Err-clause-stops
