@@ -191,6 +191,8 @@ def trees():
     yield Case("operators of each grade before each of 64 brackets", *printed(before * 64 + "1" + ")" * 64, "12"))
     row = " ".join(["A"] * 1_990)
     yield Case("1,990 names in a row", " A = 'B'\n" + on_cards(" OUTPUT = " + row), "B" * 1_990 + "\n")
+    kept = on_cards(" P = *(" + row + ")").replace("END\n", " DUPL('B',1990) P :F(END)\n OUTPUT = 'FOUND'\nEND\n")
+    yield Case("1,990 names in a row that stay unevaluated", " A = 'B'\n" + kept, "FOUND\n")
     deepest = ("-" * 16 + "(") * 64 + " ".join(["A"] * 1_400) + ")" * 64
     yield Case("1,400 names in a row within 64 brackets with marks", *printed(deepest, "0"))
     yield Case("a row of names that isn't closed", on_cards(" OUTPUT = (" + row), told="statement 1 P1\n", status=3)
@@ -209,7 +211,7 @@ def trees():
     yield Case("a deck that is too large", "\n" * (DECK_BYTES - 3) + "END\n", told="card 0 C5\n", status=3)
     faults = " X = #\n" * 500_000 + "END\n"
     told = "".join(f"statement {n} L1\n" for n in range(1, 500_001))
-    yield Case("500,000 faulty statements", faults, told=told, status=3)
+    yield Case("500,000 faulty statements", faults, told=told, status=3, megabytes=100)
 
 
 CASES = (calling, values, patterns, trees)
@@ -241,10 +243,11 @@ def of_case(program, case, folder):
 
 # Statements of large decks, and how many megabytes half a million of them take at most.
 LARGE = {
-    "assignments of a string": (lambda n: " X = 'AAAAAAAAAAAAAAAAAAAAAAAA'\n", 320),
-    "labels and gotos": (lambda n: f"L{n:06} A{n:06} = B :(L{n:06})\n", 500),
-    "names of their own": (lambda n: f" NAME{n:06} = .OTHER{n:06} N\n", 560),
-    "patterns": (lambda n: f" X ('A' | B{n:06} . C) LEN(1)\n", 800),
+    "assignments of a string": (lambda n: " X = 'AAAAAAAAAAAAAAAAAAAAAAAA'\n", 130),
+    "labels and gotos": (lambda n: f"L{n:06} A{n:06} = B :(L{n:06})\n", 250),
+    "names of their own": (lambda n: f" NAME{n:06} = .OTHER{n:06} N\n", 260),
+    "patterns": (lambda n: f" X ('A' | B{n:06} . C) LEN(1)\n", 280),
+    "brackets": (lambda n: " X = (((A + 1) * (B + 2)) - (C + 3))\n", 280),
 }
 
 

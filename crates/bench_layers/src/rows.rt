@@ -32,6 +32,17 @@ pub enum Cards {
     Statements,
 }
 
+/// The statements of a deck, all alike.
+#[derive(Clone, Copy)]
+pub enum Decks {
+    /// Assignments of a string.
+    Assignments,
+    /// Matches with alternatives and a name.
+    Patterns,
+    /// Sums in brackets.
+    Brackets,
+}
+
 /// A call that is measured.
 #[derive(Clone, Copy)]
 pub enum Call {
@@ -41,7 +52,7 @@ pub enum Call {
     Tokens,
     /// On the module of the deck.
     Load,
-    Compile,
+    Compile(Decks),
     Match(Pattern),
 }
 
@@ -50,7 +61,7 @@ impl Call {
     pub fn measured(self, count: u64, bytes: usize) -> u64 {
         match self {
             Call::Text(_) | Call::Match(_) => count,
-            Call::Cards(_) | Call::Tokens | Call::Load | Call::Compile => bytes as u64,
+            Call::Cards(_) | Call::Tokens | Call::Load | Call::Compile(_) => bytes as u64,
         }
     }
 
@@ -80,7 +91,7 @@ pub struct Row {
 }
 
 /// The calls, layer by layer.
-pub const CALLS: [Call; 14] = [
+pub const CALLS: [Call; 16] = [
     Call::Text(TextCall::Concat),
     Call::Text(TextCall::Sub),
     Call::Text(TextCall::SpanEnd),
@@ -91,7 +102,9 @@ pub const CALLS: [Call; 14] = [
     Call::Cards(Cards::Statements),
     Call::Tokens,
     Call::Load,
-    Call::Compile,
+    Call::Compile(Decks::Assignments),
+    Call::Compile(Decks::Patterns),
+    Call::Compile(Decks::Brackets),
     Call::Match(Pattern::Arb),
     Call::Match(Pattern::Alternation),
     Call::Match(Pattern::Span),
@@ -152,18 +165,29 @@ fn tokens() -> Row {
     }
 }
 
-fn deck(layer: &'static str, name: &'static str, call: Call) -> Row {
+fn deck(layer: &'static str, name: &'static str, call: Call, again: &'static str) -> Row {
     Row {
         layer,
         name,
         call,
         first: "",
-        again: " OUTPUT = 'A record of a deck'\n",
+        again,
         last: "END\n",
         few: 10,
         many: 33_000,
         counted: "bytes",
     }
+}
+
+const ASSIGNED: &str = " OUTPUT = 'A record of a deck'\n";
+
+fn compiled(kind: Decks) -> Row {
+    let (name, again) = match kind {
+        Decks::Assignments => ("assignments", ASSIGNED),
+        Decks::Patterns => ("patterns", " X ('A' | B . C) LEN(1)\n"),
+        Decks::Brackets => ("brackets", " X = (((A + 1) * (B + 2)) - (C + 3))\n"),
+    };
+    deck("decks", name, Call::Compile(kind), again)
 }
 
 fn search(pattern: Pattern) -> Row {
@@ -191,8 +215,8 @@ pub fn row_of(call: Call) -> Row {
         Call::Text(call) => text(call),
         Call::Cards(kind) => of_cards(kind),
         Call::Tokens => tokens(),
-        Call::Load => deck("modules", "load", call),
-        Call::Compile => deck("decks", "compile", call),
+        Call::Load => deck("modules", "load", call, ASSIGNED),
+        Call::Compile(kind) => compiled(kind),
         Call::Match(pattern) => search(pattern),
     }
 }

@@ -107,7 +107,7 @@ pub fn done(alloc: Global, call: Call, bytes: &[u8]) -> Option<u64> {
             let _module = load(alloc, bytes).ok()?;
             Some(bytes.len() as u64)
         }
-        Call::Compile => Some(compile_deck(alloc, bytes).ok()?.len() as u64),
+        Call::Compile(_) => Some(compile_deck(alloc, bytes).ok()?.len() as u64),
         Call::Match(pattern) => steps(alloc, pattern, bytes).ok(),
     }
 }

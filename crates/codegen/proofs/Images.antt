@@ -3,27 +3,23 @@ use Rattle.std.proofs.Common.{◌≡◌, ℕ, suc, ◌+◌, ◌<◌, ◌≤◌, 
 use Rattle.std.specs.List.{AllByRecursion}
 use Rattle.model.specs.declared.image.Level.TheVariants as levels
 use Rattle.model.specs.declared.image.Label as image
-use Rattle.model.specs.declared.trees.Stmt.{Stmt as Statement}
+use Rattle.std.specs.Borrow.{Bor}
 use Rattle.model.specs.Module.Images.{code_size}
 use Rattle.model.specs.Language.Programs.{labelled_from, entry_label, entry_in}
 use Rattle.model.specs.Deck.Trees.{Bytes, Stmt, Plain, End}
-use Rattle.model.specs.Deck.TreeViews.{stmt_of}
 use Rattle.model.specs.Deck.Weights as weights
 use Rattle.expr_codegen.specs.Texts.{number_of_text, with_texts}
-use Rattle.expr_codegen.specs.Emitting.{Gen, Emits, Longer, Countable, Extends, Numbered, size}
-use Rattle.expr_codegen.proofs.Extensions.{extends_same, extends_trans}
+use Rattle.expr_codegen.specs.Emitting.{Gen, Emits, Longer, Countable, Numbered, size}
 use Rattle.expr_codegen.proofs.Joins.{both, longer_trans, longer_texts}
 use Rattle.expr_codegen.proofs.TextPlaces.{place_stays}
 use Rattle.codegen.specs.Countable.{Fits}
-use Rattle.codegen.specs.Labels.{own_label, entry_by}
-use Rattle.codegen.specs.Laying.{Laid, left, retaken}
+use Rattle.codegen.specs.Labels.{but_end, entry_by, name_of, own_label}
+use Rattle.codegen.specs.Building.{IsNamed, own_entries, own_texts}
+use Rattle.codegen.specs.Laying.{Laid, empty, left, retaken}
 use Rattle.codegen.specs.Layout as layout
 use Rattle.codegen.specs.Layout.{joined_parts, program_parts, expressions_of, code_of, texts_of, generated_image, label_texts}
 use Rattle.codegen.proofs.Laying.{still_put, next}
 use Rattle.codegen.proofs.Unevaluated.{statements_later}
-
-abbrev pub empty : Gen
-empty = record { code = []; texts = []; waiting = []; taken = 0 }
 
 pub size_empty : size empty ≡ 0
 unfolding size
@@ -43,81 +39,85 @@ left_weight ss f os g0 g1 begin laid taken fits = subst (λ l. weights.total wei
 
 -- ---- labels
 
-abbrev pub Kept : List Statement → ℕ → ℕ → List image.Label → Gen → Gen → Type 0
+abbrev Name : Type 0
+Name = Option (Bor (List ℕ))
+
+abbrev owns : List Name → List (Option Bytes)
+owns xs = map but_end (map name_of xs)
+
+abbrev pub Kept : List Name → ℕ → ℕ → List image.Label → Gen → Gen → Type 0
 Kept xs i n done g h =
     (n ≡ 1 + i)
     × (h.code ≡ g.code)
-    × (with_texts (label_texts (map stmt_of (drop i xs))) h.texts ≡ with_texts (label_texts (map stmt_of xs)) g.texts)
-    × ((texts : List Bytes) → Longer h.texts texts → layout.label_entries texts 1 (map stmt_of xs) ≡ done ++ layout.label_entries texts n (map stmt_of (drop i xs)))
+    × (with_texts (own_texts (owns (drop i xs))) h.texts ≡ with_texts (own_texts (owns xs)) g.texts)
+    × ((texts : List Bytes) → Longer h.texts texts → own_entries texts 1 (owns xs) ≡ done ++ own_entries texts n (owns (drop i xs)))
     × (size h + length (drop i xs) ≤ size g + length xs)
-    × Extends g h
 
-pub begins : (xs : List Statement) (g : Gen) → Kept xs 0 1 [] g g
-begins xs g = (refl, refl, refl, (λ texts l. refl), omega arith, extends_same g g refl)
+pub begins : (xs : List Name) (g : Gen) → Kept xs 0 1 [] g g
+begins xs g = (refl, refl, refl, (λ texts l. refl), omega arith)
 
 abbrev entry_for : List Bytes → ℕ → Bytes → image.Label
 entry_for texts n l = record { string = number_of_text l texts; statement = n }
 
-with_own : (s : Stmt) (l : Bytes) (ss : List Stmt) → own_label s ≡ Some l → label_texts (s ∷ ss) ≡ l ∷ label_texts ss
-with_own (Plain None b g) l ss h = cc
-with_own (Plain (Some m) b g) l ss h = let z : m ≡ l = cc in ap (λ m. m ∷ label_texts ss) z
-with_own (End e) l ss h = cc
-
-labels_own : (texts : List Bytes) (n : ℕ) (s : Stmt) (l : Bytes) (ss : List Stmt) → own_label s ≡ Some l → layout.label_entries texts n (s ∷ ss) ≡ entry_for texts n l ∷ layout.label_entries texts (suc n) ss
-labels_own texts n (Plain None b g) l ss h = cc
-labels_own texts n (Plain (Some m) b g) l ss h = let z : m ≡ l = cc in ap (λ m. entry_for texts n m ∷ layout.label_entries texts (suc n) ss) z
-labels_own texts n (End e) l ss h = cc
-
-without_own : (s : Stmt) (ss : List Stmt) → own_label s ≡ None → label_texts (s ∷ ss) ≡ label_texts ss
-without_own (Plain None b g) ss h = refl
-without_own (Plain (Some m) b g) ss h = cc
-without_own (End e) ss h = refl
-
-labels_none : (texts : List Bytes) (n : ℕ) (s : Stmt) (ss : List Stmt) → own_label s ≡ None → layout.label_entries texts n (s ∷ ss) ≡ layout.label_entries texts (suc n) ss
-labels_none texts n (Plain None b g) ss h = refl
-labels_none texts n (Plain (Some m) b g) ss h = cc
-labels_none texts n (End e) ss h = refl
-
-pub step_own : (xs : List Statement) (i n m k : ℕ) (x : Statement) (l : Bytes) (done now : List image.Label) (g h j : Gen) → i < length xs → x ≡ get_or xs i x → m ≡ n + 1 → own_label (stmt_of x) ≡ Some l
-    → Numbered l k h j → size j ≤ size h + 1 → Extends h j → now ≡ done ++ record { string = k; statement = n } ∷ [] → Kept xs i n done g h → Kept xs (i + 1) m now g j
-step_own xs i n m k x l done now g h j less is number own numbered s more_put put (counted, code, texts, all, room, stands) =
-    let rest : List Statement = drop (i + 1) xs in
-    let more : drop i xs ≡ x ∷ rest = next (λ l. None) xs i x less is in
+step_own : (xs : List Name) (i n m k : ℕ) (x : Name) (l : Bytes) (done now : List image.Label) (g h j : Gen) → i < length xs → x ≡ get_or xs i x → m ≡ n + 1 → but_end (name_of x) ≡ Some l
+    → Numbered l k h j → size j ≤ size h + 1 → now ≡ done ++ record { string = k; statement = n } ∷ [] → Kept xs i n done g h → Kept xs (i + 1) m now g j
+step_own xs i n m k x l done now g h j less is number own numbered s put (counted, code, texts, all, room) =
+    let rest : List Name = drop (i + 1) xs in
+    let more : drop i xs ≡ x ∷ rest = next xs i x less is in
     let m1 : suc n ≡ m = omega (arith, number) in
     let len = ap length more in (
       omega (arith, counted, number),
       numbered.code ∙ code,
-      ap (with_texts (label_texts (map stmt_of rest))) numbered.texts ∙ ap (λ t. with_texts t h.texts) (sym (ap (λ r. label_texts (map stmt_of r)) more ∙ with_own (stmt_of x) l (map stmt_of rest) own)) ∙ texts,
+      ap (with_texts (own_texts (owns rest))) numbered.texts ∙ ap (λ t. with_texts t h.texts) (sym (ap (λ r. own_texts (owns r)) more ∙ ap (λ o. own_texts (o ∷ owns rest)) own)) ∙ texts,
       (λ t longer.
           let place : number_of_text l t ≡ k = ap (number_of_text l) (longer.1 ∙ ap (λ z. z ++ longer.0) numbered.texts) ∙ place_stays l h.texts longer.0 ∙ ap (number_of_text l) (sym numbered.texts) ∙ sym numbered.at in
           let before : Longer h.texts t = longer_trans h.texts j.texts t (subst (λ z. Longer h.texts z) (sym numbered.texts) (longer_texts (l ∷ []) h.texts)) longer in
-          all t before ∙ ap (λ r. done ++ layout.label_entries t n (map stmt_of r)) more ∙ ap (λ r. done ++ r) (labels_own t n (stmt_of x) l (map stmt_of rest) own)
-          ∙ ap (λ p. done ++ record { string = p; statement = n } ∷ layout.label_entries t (suc n) (map stmt_of rest)) place
-          ∙ ap (λ q. done ++ record { string = k; statement = n } ∷ layout.label_entries t q (map stmt_of rest)) m1
-          ∙ sym (ap (λ d. d ++ layout.label_entries t m (map stmt_of rest)) put ∙ append_assoc done (record { string = k; statement = n } ∷ []) (layout.label_entries t m (map stmt_of rest)))),
+          all t before ∙ ap (λ r. done ++ own_entries t n (owns r)) more ∙ ap (λ o. done ++ own_entries t n (o ∷ owns rest)) own
+          ∙ ap (λ p. done ++ record { string = p; statement = n } ∷ own_entries t (suc n) (owns rest)) place
+          ∙ ap (λ q. done ++ record { string = k; statement = n } ∷ own_entries t q (owns rest)) m1
+          ∙ sym (ap (λ d. d ++ own_entries t m (owns rest)) put ∙ append_assoc done (record { string = k; statement = n } ∷ []) (own_entries t m (owns rest)))),
       omega (arith, room, len, s),
-      extends_trans stands more_put,
     )
 
-pub step_none : (xs : List Statement) (i n m : ℕ) (x : Statement) (done : List image.Label) (g h : Gen) → i < length xs → x ≡ get_or xs i x → m ≡ n + 1 → own_label (stmt_of x) ≡ None → Kept xs i n done g h → Kept xs (i + 1) m done g h
-step_none xs i n m x done g h less is number own (counted, code, texts, all, room, stands) =
-    let rest : List Statement = drop (i + 1) xs in
-    let more : drop i xs ≡ x ∷ rest = next (λ l. None) xs i x less is in
+step_none : (xs : List Name) (i n m : ℕ) (x : Name) (done now : List image.Label) (g h j : Gen) → i < length xs → x ≡ get_or xs i x → m ≡ n + 1 → but_end (name_of x) ≡ None → now ≡ done → j ≡ h → Kept xs i n done g h → Kept xs (i + 1) m now g j
+step_none xs i n m x done now g h j less is number own same still (counted, code, texts, all, room) =
+    let rest : List Name = drop (i + 1) xs in
+    let more : drop i xs ≡ x ∷ rest = next xs i x less is in
     let m1 : suc n ≡ m = omega (arith, number) in
-    let len = ap length more in (
+    let len = ap length more in
+    subst (λ j. Kept xs (i + 1) m now g j) (sym still) (subst (λ d. Kept xs (i + 1) m d g h) (sym same) (
       omega (arith, counted, number),
       code,
-      ap (λ t. with_texts t h.texts) (sym (ap (λ r. label_texts (map stmt_of r)) more ∙ without_own (stmt_of x) (map stmt_of rest) own)) ∙ texts,
-      (λ t longer. all t longer ∙ ap (λ r. done ++ layout.label_entries t n (map stmt_of r)) more ∙ ap (λ r. done ++ r) (labels_none t n (stmt_of x) (map stmt_of rest) own) ∙ ap (λ q. done ++ layout.label_entries t q (map stmt_of rest)) m1),
+      ap (λ t. with_texts t h.texts) (sym (ap (λ r. own_texts (owns r)) more ∙ ap (λ o. own_texts (o ∷ owns rest)) own)) ∙ texts,
+      (λ t longer. all t longer ∙ ap (λ r. done ++ own_entries t n (owns r)) more ∙ ap (λ o. done ++ own_entries t n (o ∷ owns rest)) own ∙ ap (λ q. done ++ own_entries t q (owns rest)) m1),
       omega (arith, room, len),
-      stands,
-    )
+    ))
 
-pub ends_texts : (xs : List Statement) (i n : ℕ) (done : List image.Label) (g h : Gen) → drop i xs ≡ [] → Kept xs i n done g h → h.texts ≡ with_texts (label_texts (map stmt_of xs)) g.texts
-ends_texts xs i n done g h none (counted, code, texts, all, room, stands) = ap (λ r. with_texts (label_texts (map stmt_of r)) h.texts) (sym none) ∙ texts
+pub step : (xs : List Name) (i n m : ℕ) (x : Name) (done now : List image.Label) (g h j : Gen) → i < length xs → x ≡ get_or xs i x → m ≡ n + 1 → IsNamed (but_end (name_of x)) n done now h j → Kept xs i n done g h → Kept xs (i + 1) m now g j
+step xs i n m x done now g h j less is number named kept = by (but_end (name_of x)) refl named
+  where
+    by : (o : Option Bytes) → but_end (name_of x) ≡ o → IsNamed o n done now h j → Kept xs (i + 1) m now g j
+    by None own p = step_none xs i n m x done now g h j less is number own p.0 p.1 kept
+    by (Some l) own p = step_own xs i n m p.0 x l done now g h j less is number own p.2 p.3 p.1 kept
 
-pub ends_labels : (xs : List Statement) (i n : ℕ) (done : List image.Label) (g h : Gen) → drop i xs ≡ [] → Kept xs i n done g h → done ≡ layout.label_entries h.texts 1 (map stmt_of xs)
-ends_labels xs i n done g h none (counted, code, texts, all, room, stands) = sym (all h.texts ([], sym (append-nil h.texts)) ∙ ap (λ r. done ++ layout.label_entries h.texts n (map stmt_of r)) none ∙ append-nil done)
+pub ends_texts : (xs : List Name) (i n : ℕ) (done : List image.Label) (g h : Gen) → drop i xs ≡ [] → Kept xs i n done g h → h.texts ≡ with_texts (own_texts (owns xs)) g.texts
+ends_texts xs i n done g h none (counted, code, texts, all, room) = ap (λ r. with_texts (own_texts (owns r)) h.texts) (sym none) ∙ texts
+
+pub ends_labels : (xs : List Name) (i n : ℕ) (done : List image.Label) (g h : Gen) → drop i xs ≡ [] → Kept xs i n done g h → done ≡ own_entries h.texts 1 (owns xs)
+ends_labels xs i n done g h none (counted, code, texts, all, room) = sym (all h.texts ([], sym (append-nil h.texts)) ∙ ap (λ r. done ++ own_entries h.texts n (owns r)) none ∙ append-nil done)
+
+-- by the statements
+pub own_texts_are : (ss : List Stmt) → own_texts (map own_label ss) ≡ label_texts ss
+own_texts_are [] = refl
+own_texts_are (Plain None b g ∷ ss) = own_texts_are ss
+own_texts_are (Plain (Some l) b g ∷ ss) = ap (λ ts. l ∷ ts) (own_texts_are ss)
+own_texts_are (End e ∷ ss) = own_texts_are ss
+
+pub own_entries_are : (texts : List Bytes) (n : ℕ) (ss : List Stmt) → own_entries texts n (map own_label ss) ≡ layout.label_entries texts n ss
+own_entries_are texts n [] = refl
+own_entries_are texts n (Plain None b g ∷ ss) = own_entries_are texts (suc n) ss
+own_entries_are texts n (Plain (Some l) b g ∷ ss) = ap (λ es. entry_for texts n l ∷ es) (own_entries_are texts (suc n) ss)
+own_entries_are texts n (End e ∷ ss) = own_entries_are texts (suc n) ss
 
 -- ---- the image
 

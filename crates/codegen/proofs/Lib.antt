@@ -4,3 +4,4 @@ pub mod Laying
 pub mod Unevaluated
 pub mod Queue
 pub mod Images
+pub mod BuiltImages

@@ -1,10 +1,14 @@
 -- Parts that were put one behind the other, with their offsets.
-use Rattle.std.specs.Prelude.{◌≡◌, ℕ, List, length, drop}
+use Rattle.std.specs.Prelude.{◌≡◌, ℕ, List, [], length, drop}
 use Rattle.model.specs.Module.Images.{code_size}
 use Rattle.model.specs.Deck.Trees.{Bytes, Expr}
 use Rattle.expr_codegen.specs.Code.{Part}
 use Rattle.expr_codegen.specs.Emitting.{Gen, Emits, Longer}
 use Rattle.codegen.specs.Layout.{joined_parts, offsets}
+
+-- nothing is put
+abbrev pub empty : Gen
+empty = record { code = []; texts = []; waiting = []; taken = 0 }
 
 -- with so many expressions taken
 abbrev pub retaken : ℕ → Gen → Gen

@@ -2,3 +2,4 @@ pub mod Layout
 pub mod Labels
 pub mod Countable
 pub mod Laying
+pub mod Building

@@ -17,7 +17,7 @@ use model::{Goto, Instr, Place, ReturnKind};
 use std::alloc::{AllocError, Global};
 
 // The instruction that goes to a label.
-fn to_label(labels: &Labels, label: &[u8]) -> Instr
+fn to_label(labels: &Labels<'_>, label: &[u8]) -> Instr
     ensures { result ≡ layout.goto_label (calls.return_of label.now)
         (number_in labels.now label.now) }
 {
@@ -31,11 +31,11 @@ fn to_label(labels: &Labels, label: &[u8]) -> Instr
 }
 
 /// Puts the code that goes to a place.
-pub fn place<'a>(
+pub fn place(
     alloc: Global,
-    g: &mut Generator<'a>,
-    labels: &Labels,
-    p: &'a Place,
+    g: &mut Generator,
+    labels: &Labels<'_>,
+    p: &Place,
 ) -> Result<(), AllocError>
     requires countable { CountablePlace (place_of p.now) }
     requires room { size (gen_of g.old) + 9 * weights.of_place (place_of p.now) < 2 ^ 31 }
@@ -56,12 +56,12 @@ pub fn place<'a>(
 }
 
 /// Puts the code behind a statement's body, up to where a failed statement goes on.
-pub fn after_success<'a>(
+pub fn after_success(
     alloc: Global,
-    g: &mut Generator<'a>,
-    labels: &Labels,
+    g: &mut Generator,
+    labels: &Labels<'_>,
     number: u32,
-    goto: &'a Goto,
+    goto: &Goto,
 ) -> Result<(), AllocError>
     requires few { number < 2 ^ 31 }
     requires countable { CountableGoto (goto_of goto.now) }
@@ -84,11 +84,11 @@ pub fn after_success<'a>(
 }
 
 /// Puts the code with which a failed statement goes on.
-pub fn after_failure<'a>(
+pub fn after_failure(
     alloc: Global,
-    g: &mut Generator<'a>,
-    labels: &Labels,
-    goto: &'a Goto,
+    g: &mut Generator,
+    labels: &Labels<'_>,
+    goto: &Goto,
 ) -> Result<(), AllocError>
     requires countable { CountableGoto (goto_of goto.now) }
     requires room { size (gen_of g.old) + 9 * countables.of_failure (goto_of goto.now) < 2 ^ 31 }

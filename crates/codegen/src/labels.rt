@@ -1,10 +1,9 @@
 //! The table of labels.
 
-ghost use Rattle.std.specs.Prelude.{◌≡◌, ◌<◌, ◌^◌, List, [], ℕ, map, length, option_map, OnOk, OnErr, IfOk};
-ghost use Rattle.model.specs.Language.Programs as programs;
+ghost use Rattle.std.specs.Prelude.{◌≡◌, ◌≤◌, ◌<◌, ◌^◌, List, [], ℕ, map, length, option_map, OnOk, OnErr, IfOk};
 ghost use Rattle.model.specs.Deck.TreeViews.{stmt_of};
-ghost use Rattle.codegen.specs.Labels.{entry_by, entry_of, number_in, with_label};
-ghost use Rattle.codegen.specs.Labels as labels;
+ghost use Rattle.codegen.specs.Labels.{but_end, entry_by, entry_of, entry_with, name_of, number_in};
+ghost use Rattle.codegen.specs.Labels.{number_among, with_label, with_name};
 
 use indexmap::IndexMap;
 use model::Stmt;
@@ -12,25 +11,25 @@ use std::alloc::{AllocError, Global};
 use std::marker::Model;
 
 /// Labels with the numbers of their statements.
-pub struct Labels {
-    numbers: IndexMap<Vec<u8>, u32>,
+pub struct Labels<'a> {
+    numbers: IndexMap<&'a [u8], u32>,
 }
 
-impl Drop for Labels {
+impl<'a> Drop for Labels<'a> {
     fn drop(self) {
         let Labels { numbers: _ } = self;
     }
 }
 
-impl Model for Labels {
+impl<'a> Model for Labels<'a> {
     ghost Value = { List (List ℕ × ℕ) };
 
     ghost view = { λ s. map entry_of s.numbers.entries };
 }
 
-impl Labels {
+impl<'a> Labels<'a> {
     /// No labels.
-    pub fn new(alloc: Global) -> Labels
+    pub fn new(alloc: Global) -> Labels<'a>
         ensures { result ≡ [] }
     {
         Labels {
@@ -46,75 +45,79 @@ impl Labels {
     }
 
     /// Notes the number of a label's statement, unless the label has one.
-    pub fn note(&mut self, alloc: Global, label: &[u8], number: u32) -> Result<(), AllocError>
+    pub fn note(&mut self, label: &'a [u8], number: u32) -> Result<(), AllocError>
         ensures noted { OnOk result (self.new ≡ with_label label.now number self.old) }
         ensures refused { OnErr result (self.new ≡ self.old) }
     {
         if self.find(label).is_some() {
             return Ok(());
         }
-        let label = Vec::from_slice(alloc, label)?;
         self.numbers.insert(label, number)?;
         Ok(())
     }
-}
 
-/// The label that a statement gives, but for END.
-pub fn own_label(statement: &Stmt) -> Option<&[u8]>
-    ensures { option_map (λ l. l.now) result ≡ labels.own_label (stmt_of statement.now) }
-{
-    match statement {
-        Stmt::Plain { label, .. } => label.as_deref(),
-        Stmt::End { .. } => None,
-    }
-}
-
-// The label that END gives as the entry.
-fn entry_label(statements: &[Stmt]) -> Option<&[u8]>
-    ensures { option_map (λ l. l.now) result ≡ programs.entry_label (map stmt_of statements.now) }
-{
-    for statement in statements {
-        if let Stmt::End { entry } = statement {
-            return entry.as_deref();
+    // The same of a label that a statement may give.
+    fn note_given(&mut self, label: Option<&'a [u8]>, number: u32) -> Result<(), AllocError>
+        ensures { OnOk result (self.new ≡ with_name (name_of label.entry) number self.old) }
+    {
+        match label {
+            Some(label) => self.note(label, number),
+            None => Ok(()),
         }
     }
-    None
 }
 
-/// The number of the first statement to run.
-pub fn entry_number(labels: &Labels, statements: &[Stmt]) -> u32
-    ensures { result ≡ entry_by (number_in labels.now)
-        (programs.entry_label (map stmt_of statements.now)) }
+const END: [u8; 3] = *b"END";
+
+/// The label that a statement gives, unless it is END.
+pub(crate) fn own_label(label: Option<&[u8]>) -> Option<&[u8]>
+    ensures { name_of result ≡ but_end (name_of label.entry) }
 {
-    match entry_label(statements) {
+    match label {
+        Some(name) => {
+            if name == END.as_slice() {
+                None
+            } else {
+                Some(name)
+            }
+        }
+        None => None,
+    }
+}
+
+// The number of the first statement to run, where END names this label or none.
+fn entry_number(labels: &Labels<'_>, label: Option<&[u8]>) -> u32
+    ensures { result ≡ entry_by (number_in labels.now) (name_of label.entry) }
+{
+    match label {
         Some(label) => labels.find(label).unwrap_or(1),
         None => 1,
     }
 }
 
-// The label that a statement gives.
-fn label_of(statement: &Stmt) -> Option<&[u8]>
-    ensures { option_map (λ l. l.now) result ≡ programs.label_of_stmt (stmt_of statement.now) }
+/// The number of the first statement to run, as far as it is known, with one statement more.
+pub(crate) fn entry_after(labels: &Labels<'_>, entry: Option<u32>, s: &Stmt) -> Option<u32>
+    ensures { result ≡ entry_with (number_in labels.now) entry (stmt_of s.now) }
 {
-    match statement {
-        Stmt::Plain { label, .. } => label.as_deref(),
-        Stmt::End { .. } => Some(b"END"),
+    match entry {
+        Some(number) => Some(number),
+        None => match s {
+            Stmt::Plain { .. } => None,
+            Stmt::End { entry } => Some(entry_number(labels, entry.as_deref())),
+        },
     }
 }
 
-/// The labels of a program's statements.
-pub fn labels_of(alloc: Global, statements: &[Stmt]) -> Result<Labels, AllocError>
-    requires { length statements.now < 2 ^ 31 }
+/// The labels of a program's statements, by the label that each gives.
+pub fn labels_of<'a>(alloc: Global, names: &[Option<&'a [u8]>]) -> Result<Labels<'a>, AllocError>
+    requires { length names.now < 2 ^ 31 }
     ensures { IfOk result (λ labels.
-        (l : List ℕ) → number_in labels l
-        ≡ programs.labelled_from 1 (map stmt_of statements.now) l) }
+        (l : List ℕ) → number_in labels l ≡ number_among 1 (map name_of names.now) l) }
 {
     let mut labels = Labels::new(alloc);
     let mut number = 1;
-    for statement in statements {
-        if let Some(label) = label_of(statement) {
-            labels.note(alloc, label, number)?;
-        }
+    for name in names {
+        labels.note_given(*name, number)?;
         number += 1;
     }
     Ok(labels)

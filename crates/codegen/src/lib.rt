@@ -1,9 +1,10 @@
 //! Code of programs: labels, statements, bodies and gotos, on top of `expr_codegen`.
 //!
-//! `generate(alloc, &program)` gives the image of a program.
+//! An `ImageBuilder` takes the statements of a program one by one, once the labels that they give are known.
 //!
-//!     let program = parse_deck(alloc, &deck)?;
-//!     let image = generate(alloc, &program)?;
+//!     let mut builder = ImageBuilder::new(alloc, &names)?;
+//!     builder.put(alloc, &statement)?;
+//!     let image = builder.finish(alloc, &names, cards)?;
 //!
 //! Promised: exactly the image that the definitions give the program, for the whole language; it is refused by want of
 //! memory alone. It asks that the program's counts fit (`Fits`), as those of each accepted deck do. That such an image
@@ -11,13 +12,13 @@
 #![tactic(auto)]
 
 mod bodies;
-mod generating;
+mod building;
 mod gotos;
 mod labels;
 mod statements;
 
 pub use bodies::body;
-pub use generating::generate;
+pub use building::ImageBuilder;
 pub use gotos::{after_failure, after_success, place};
 pub use labels::{Labels, labels_of};
 pub use statements::statement;

@@ -18,13 +18,13 @@ use model::{Body, Goto, Instr, Stmt};
 use std::alloc::{AllocError, Global};
 
 // Puts the code of a statement that isn't END.
-fn plain<'a>(
+fn plain(
     alloc: Global,
-    g: &mut Generator<'a>,
-    labels: &Labels,
+    g: &mut Generator,
+    labels: &Labels<'_>,
     number: u32,
-    b: &'a Body,
-    goto: &'a Goto,
+    b: &Body,
+    goto: &Goto,
 ) -> Result<(), AllocError>
     requires few { number < 2 ^ 31 }
     requires body { CountableBody (body_of b.now) }
@@ -51,12 +51,12 @@ fn plain<'a>(
 }
 
 /// Puts the code of a statement.
-pub fn statement<'a>(
+pub fn statement(
     alloc: Global,
-    g: &mut Generator<'a>,
-    labels: &Labels,
+    g: &mut Generator,
+    labels: &Labels<'_>,
     number: u32,
-    s: &'a Stmt,
+    s: &Stmt,
 ) -> Result<(), AllocError>
     requires few { number < 2 ^ 31 }
     requires countable { CountableStmt (stmt_of s.now) }

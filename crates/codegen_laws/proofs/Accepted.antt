@@ -35,7 +35,7 @@ known_key : (o : Option KeyId) → is_some o ≡ true → (k : KeyId) × (o ≡ 
 known_key None h = absurd (cc)
 known_key (Some k) h = (k, refl)
 
-few_args : (args : Args) → count args ≤ of_args args
+pub few_args : (args : Args) → count args ≤ of_args args
 few_args Nil = omega arith
 few_args (More arg args) = let h = few_args args in omega (arith, h)
 

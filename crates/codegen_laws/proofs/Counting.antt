@@ -11,7 +11,7 @@ use Rattle.codegen.specs.Countable.{CountableObject, CountableBody, CountablePla
 use Rattle.codegen_laws.specs.Fit.{Fit, FitArgs, FitObject, FitBody, FitPlace, FitGoto, FitStmt}
 use Rattle.codegen_laws.proofs.Limits.{few_args}
 
-few_counted : (o : Option PrimId) (n : ℕ) → at_most o n ≡ true → n < 2 ^ 16 → n ≤ most_counted o
+pub few_counted : (o : Option PrimId) (n : ℕ) → at_most o n ≡ true → n < 2 ^ 16 → n ≤ most_counted o
 few_counted None n a b = omega (arith, b)
 few_counted (Some p) n a b = let x : n ≤ most_args p = grind (arith, nat_tests, a) in let y = few_args p in omega (arith, x, y)
 

@@ -17,3 +17,4 @@ pub mod SpeltTrees
 pub mod Accepted
 pub mod Counting
 pub mod Images
+pub mod Light

@@ -1,3 +1,4 @@
+pub mod CompiledDecks
 pub mod WholeDecks
 pub mod WholeRuns
 pub mod Upgrades

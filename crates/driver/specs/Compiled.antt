@@ -18,6 +18,12 @@ use Rattle.driver.specs.declared.refusal.Refusal.TheVariants as refusal
 
 -- ---- decks that are accepted
 
+-- the image is that of the deck's statements, with the card where each begins
+pub record IsImageOf (deck : List ℕ) (image : Image) : Type 0 where
+  pub statements : List Stmt
+  pub trees : verdict deck ≡ Accepted statements
+  pub generated : image ≡ generated_image (first_cards deck) statements
+
 -- the bytes are the module of the deck: they spell its image, of level 2 and with the card where each statement begins.
 -- It is well-formed, and does what the deck's statements mean, and ends and prints in as many steps as the step bound says
 pub record IsModuleOf (deck bytes : List ℕ) : Type 0 where

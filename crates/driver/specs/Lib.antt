@@ -3,3 +3,4 @@ pub mod Whole
 pub mod Cards
 pub mod Exits
 pub mod Upgraded
+pub mod Reading

@@ -1,19 +1,21 @@
 //! From a deck to a module.
 
-ghost use Rattle.std.specs.Prelude.{◌≡◌, List, IfOk, IfErr, OnOk};
-ghost use Rattle.model.specs.Deck.Cards.{first_cards};
+ghost use Rattle.std.specs.Prelude.{◌≡◌, ◌<◌, ◌+◌, ℕ, List, Option, Ok, IfOk, IfErr, OnOk, get_or, length};
+ghost use Rattle.model.specs.declared.cards.Statement.{Statement};
+ghost use Rattle.model.specs.Deck.Cards as spec;
+ghost use Rattle.model.specs.Deck.Trees.{Bytes};
+ghost use Rattle.driver.specs.Reading.{Kept};
 ghost use Rattle.model.specs.Deck.Faults.{verdict, Accepted};
 ghost use Rattle.model.specs.Deck.Trees as tree;
-ghost use Rattle.model.specs.Deck.TreeViews.{program_of};
-ghost use Rattle.driver.specs.Compiled.{IsModuleOf, IsRefusalOf, OfCards, OfStatements};
+ghost use Rattle.driver.specs.Compiled.{IsImageOf, IsModuleOf, IsRefusalOf, OfCards, OfStatements};
 
 use crate::refusal::Refusal;
 use card_reader::read_deck;
-use codegen::generate;
-use model::{CardFault, CardRule, DeckFault, Program};
+use codegen::ImageBuilder;
+use model::{CardFault, CardRule, DeckFault, Image, Statement, decks_fit, trees_fit};
 use module_format::write_image;
-use parser::{let_go, parse_deck};
-use std::alloc::Global;
+use parser::{Reader, cards_of, labels_of};
+use std::alloc::{AllocError, Global};
 
 impl From<CardFault> for Refusal {
     ghost from_gives = { OfCards };
@@ -37,15 +39,47 @@ impl From<DeckFault> for Refusal {
     }
 }
 
-// The trees of a deck without faults, and the cards where its statements begin.
-fn read_program(alloc: Global, deck: &[u8]) -> Result<Program, Refusal>
-    ensures trees { IfOk result (λ p. verdict deck.now ≡ Accepted (program_of p)) }
-    ensures cards { IfOk result (λ p. p.cards ≡ first_cards deck.now) }
+// Reads the next statement of a deck, and puts its tree unless it is faulty.
+fn put_next<'a>(
+    alloc: Global,
+    reader: &mut Reader<'a>,
+    builder: &mut ImageBuilder<'_>,
+    statement: &'a Statement,
+) -> Result<(), AllocError>
+    requires { (text : List ℕ) × (names : List (Option Bytes)) × (ss : List Statement) × (i : ℕ)
+        × (spec.deck text ≡ Ok ss) × (i < length ss) × (statement.now ≡ get_or ss i statement.now)
+        × Kept names ss i reader.old builder.old }
+    ensures { OnOk result ((names : List (Option Bytes)) (ss : List Statement) (i : ℕ)
+        → i < length ss → statement.now ≡ get_or ss i statement.now
+        → Kept names ss i reader.old builder.old → Kept names ss (i + 1) reader.new builder.new) }
+{
+    decks_fit();
+    trees_fit();
+    let given = reader.read(alloc, statement)?;
+    if let Some(tree) = given {
+        builder.put(alloc, &tree.statement)?;
+    }
+    Ok(())
+}
+
+// The image of a deck without faults, made statement by statement: the tree of each goes before the next is read.
+fn image_of(alloc: Global, deck: &[u8]) -> Result<Image, Refusal>
+    ensures image { IfOk result (IsImageOf deck.now) }
     ensures refused { IfErr result (IsRefusalOf deck.now) }
 {
+    decks_fit();
     let deck = read_deck(alloc, deck)?;
-    let program = parse_deck(alloc, &deck)?;
-    Ok(program)
+    let statements = deck.statements.as_slice();
+    let labels = labels_of(alloc, statements)?;
+    let mut builder = ImageBuilder::new(alloc, &labels)?;
+    let mut reader = Reader::new(alloc);
+    for statement in statements {
+        put_next(alloc, &mut reader, &mut builder, statement)?;
+    }
+    reader.finish(alloc)?;
+    let cards = cards_of(alloc, statements)?;
+    let image = builder.finish(alloc, &labels, cards)?;
+    Ok(image)
 }
 
 /// The module of a deck, or why the deck is refused.
@@ -57,9 +91,7 @@ pub fn compile_deck(alloc: Global, deck: &[u8]) -> Result<Vec<u8>, Refusal>
     // A deck is refused by exactly its faults; want of memory says nothing of the deck.
     ensures refused { IfErr result (IsRefusalOf deck.now) }
 {
-    let program = read_program(alloc, deck)?;
-    let image = generate(alloc, &program)?;
-    let_go(alloc, program);
+    let image = image_of(alloc, deck)?;
     let module = write_image(alloc, &image)?;
     Ok(module)
 }

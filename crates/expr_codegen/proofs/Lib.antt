@@ -3,3 +3,4 @@ pub mod Joins
 pub mod Constructs
 pub mod Arguments
 pub mod Extensions
+pub mod CopiedParts

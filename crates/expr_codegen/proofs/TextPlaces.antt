@@ -1,6 +1,8 @@
 -- The table of strings puts and finds texts as the definitions do.
-use Rattle.std.proofs.Common.{◌≡◌, ℕ, suc, List, [], ◌∷◌, ◌++◌, map, Bool, true, false, not, refl, ap, nat_eq, bytes_eq, if◌then◌else◌, ◌||◌, ◌≤◌, ◌+◌, ◌*◌, append_assoc, length, arith, slice_get, Some, rules, sym, ◌∙◌}
+use Rattle.std.proofs.Common.{◌≡◌, ℕ, suc, List, [], ◌∷◌, ◌++◌, map, Bool, true, false, not, refl, ap, nat_eq, bytes_eq, if◌then◌else◌, ◌||◌, ◌≤◌, ◌+◌, ◌*◌, append_assoc, length, arith, slice_get, Some, rules, sym, ◌∙◌, ◌<◌, nat_lt, cond, None}
 use Rattle.std.specs.Cmp.Lexicographic.{pointwise}
+use Rattle.std.proofs.lemmas.List.{length-map}
+use Rattle.std.specs.Prelude.{position}
 use Rattle.std.specs.List.{list_any, position_or_len, prefix_len}
 use Rattle.std.specs.declared.vec.Vec.{Vec}
 use Rattle.std.specs.declared.alloc.Global.{Global}
@@ -56,3 +58,28 @@ few_more t (s ∷ ss) = elim (bytes_eq t s) as (λ b. length (if b then s ∷ ss
   | true ↦ omega arith
   | false ↦ let h = few_more t ss in omega (arith, h)
 ]
+
+-- ---- a text that is there
+
+place_of : (t : List ℕ) (ks : List Text) → position_or_len (λ v. pointwise nat_eq t v.items) ks ≡ number_of_text t (map items ks)
+place_of t [] = refl
+place_of t (x ∷ ks) = not_then (pointwise nat_eq t x.items) (position_or_len (λ v. pointwise nat_eq t v.items) ks) (number_of_text t (map items ks)) (place_of t ks)
+
+stays_there : (t : List ℕ) (ss : List (List ℕ)) → number_of_text t ss < length ss → with_text t ss ≡ ss
+stays_there t [] h = absurd (omega (arith, h))
+stays_there t (s ∷ ss) h = elim (bytes_eq t s) as (λ b. (if b then 0 else suc (number_of_text t ss)) < length (s ∷ ss) → (if b then s ∷ ss else s ∷ with_text t ss) ≡ s ∷ ss) [
+  | true ↦ λ _. refl
+  | false ↦ λ less. ap (λ l. s ∷ l) (stays_there t ss (omega (arith, less)))
+] h
+
+there_by : (t : List ℕ) (ks : List Text) (k p : ℕ) (b : Bool) → p ≡ number_of_text t (map items ks) → nat_lt p (length ks) ≡ b → cond b (Some p) None ≡ Some k → (with_text t (map items ks) ≡ map items ks) × (k ≡ number_of_text t (map items ks))
+there_by t ks k p true place less e =
+    let k_is : p ≡ k = cc in
+    let count = length-map ks items in
+    let within : number_of_text t (map items ks) < length (map items ks) = grind (arith, less, place, count) in
+    (stays_there t (map items ks) within, sym k_is ∙ place)
+there_by t ks k p false place less e = absurd (cc)
+
+pub found_there : (t : List ℕ) (ks : List Text) (k : ℕ) → position (λ v. pointwise nat_eq t v.items) ks ≡ Some k → (with_text t (map items ks) ≡ map items ks) × (k ≡ number_of_text t (map items ks))
+found_there t ks k h =
+    there_by t ks k (position_or_len (λ v. pointwise nat_eq t v.items) ks) (nat_lt (position_or_len (λ v. pointwise nat_eq t v.items) ks) (length ks)) (place_of t ks) refl h

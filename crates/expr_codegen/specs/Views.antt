@@ -13,7 +13,7 @@ use Rattle.expr_codegen.specs.Emitting.{Gen}
 use Rattle.expr_codegen.specs.declared.generator.Generator.{Generator}
 
 abbrev pub gen_of : Generator → Gen
-gen_of g = record { code = g.code.items; texts = g.strings; waiting = map (λ e. expr_of e.now) g.waiting.items; taken = g.taken }
+gen_of g = record { code = g.code.items; texts = g.strings; waiting = map (λ e. expr_of e.value.expr) g.waiting.items; taken = g.taken }
 
 -- whether the right operand is a target
 abbrev pub takes_target : Binary → Bool

@@ -18,7 +18,7 @@ use std::alloc::{AllocError, Global};
 
 /// Puts the code for the value of an expression.
 #[cycle(tree)]
-pub fn value<'a>(alloc: Global, g: &mut Generator<'a>, e: &'a Expr) -> Result<(), AllocError>
+pub fn value(alloc: Global, g: &mut Generator, e: &Expr) -> Result<(), AllocError>
     requires countable { Countable (expr_of e.now) }
     requires room { size (gen_of g.old) + 9 * of_expr (expr_of e.now) < 2 ^ 31 }
     ensures emits { OnOk result (Emits (code.value (expr_of e.now)) (gen_of g.old) (gen_of g.new)) }
@@ -40,7 +40,7 @@ pub fn value<'a>(alloc: Global, g: &mut Generator<'a>, e: &'a Expr) -> Result<()
 
 /// Puts the code for the name that an expression gives; what is no target has none.
 #[cycle(tree)]
-pub fn name<'a>(alloc: Global, g: &mut Generator<'a>, e: &'a Expr) -> Result<(), AllocError>
+pub fn name(alloc: Global, g: &mut Generator, e: &Expr) -> Result<(), AllocError>
     requires countable { Countable (expr_of e.now) }
     requires room { size (gen_of g.old) + 9 * of_expr (expr_of e.now) < 2 ^ 31 }
     ensures emits { OnOk result (Emits (code.name (expr_of e.now)) (gen_of g.old) (gen_of g.new)) }
@@ -59,7 +59,7 @@ pub fn name<'a>(alloc: Global, g: &mut Generator<'a>, e: &'a Expr) -> Result<(),
 
 // Puts the code for a variable's value.
 #[inline(never)]
-fn fetched<'a>(alloc: Global, g: &mut Generator<'a>, x: &'a [u8]) -> Result<(), AllocError>
+fn fetched(alloc: Global, g: &mut Generator, x: &[u8]) -> Result<(), AllocError>
     requires { size (gen_of g.old) + 7 < 2 ^ 31 }
     ensures emits { OnOk result
         (Emits (views.fetched x.now) (gen_of g.old) (gen_of g.new)) }
@@ -73,11 +73,11 @@ fn fetched<'a>(alloc: Global, g: &mut Generator<'a>, x: &'a [u8]) -> Result<(), 
 // Puts the code for the value of a reference.
 #[cycle(tree)]
 #[inline(never)]
-fn fetched_element<'a>(
+fn fetched_element(
     alloc: Global,
-    g: &mut Generator<'a>,
-    x: &'a [u8],
-    args: &'a [Argument],
+    g: &mut Generator,
+    x: &[u8],
+    args: &[Argument],
 ) -> Result<(), AllocError>
     requires countable { AllCountable (args_of args.now) }
     requires few { length args.now ≤ 65535 }
@@ -96,12 +96,7 @@ fn fetched_element<'a>(
 // Puts the code for the name that a unary operator and its operand give.
 #[cycle(tree)]
 #[inline(never)]
-fn applied_name<'a>(
-    alloc: Global,
-    g: &mut Generator<'a>,
-    op: Unary,
-    x: &'a Expr,
-) -> Result<(), AllocError>
+fn applied_name(alloc: Global, g: &mut Generator, op: Unary, x: &Expr) -> Result<(), AllocError>
     requires countable { Countable (expr_of x.now) }
     requires room { size (gen_of g.old) + 9 * of_expr (expr_of x.now) + 9 < 2 ^ 31 }
     ensures emits { OnOk result
@@ -122,12 +117,7 @@ fn applied_name<'a>(
 // Puts the code for the value of a unary operator and its operand.
 #[cycle(tree)]
 #[inline(never)]
-fn applied<'a>(
-    alloc: Global,
-    g: &mut Generator<'a>,
-    op: Unary,
-    x: &'a Expr,
-) -> Result<(), AllocError>
+fn applied(alloc: Global, g: &mut Generator, op: Unary, x: &Expr) -> Result<(), AllocError>
     requires countable { Countable (expr_of x.now) }
     requires room { size (gen_of g.old) + 9 * of_expr (expr_of x.now) + 9 < 2 ^ 31 }
     ensures emits { OnOk result
@@ -146,7 +136,7 @@ fn applied<'a>(
             g.put(Instr::Cursor)
         }
         Unary::Indirect => indirect(alloc, g, x),
-        Unary::Unevaluated => g.defer(x),
+        Unary::Unevaluated => g.defer(alloc, x),
         Unary::Plus => {
             value(alloc, g, x)?;
             g.put(Instr::Sign(SignOp::Plus))
@@ -163,7 +153,7 @@ fn applied<'a>(
 // Puts the code for the value of `$` and its operand.
 #[cycle(tree)]
 #[inline(never)]
-fn indirect<'a>(alloc: Global, g: &mut Generator<'a>, x: &'a Expr) -> Result<(), AllocError>
+fn indirect(alloc: Global, g: &mut Generator, x: &Expr) -> Result<(), AllocError>
     requires countable { Countable (expr_of x.now) }
     requires room { size (gen_of g.old) + 9 * of_expr (expr_of x.now) + 9 < 2 ^ 31 }
     ensures emits { OnOk result
@@ -180,7 +170,7 @@ fn indirect<'a>(alloc: Global, g: &mut Generator<'a>, x: &'a Expr) -> Result<(),
 // Puts the code for the value of `?` and its operand.
 #[cycle(tree)]
 #[inline(never)]
-fn interrogated<'a>(alloc: Global, g: &mut Generator<'a>, x: &'a Expr) -> Result<(), AllocError>
+fn interrogated(alloc: Global, g: &mut Generator, x: &Expr) -> Result<(), AllocError>
     requires countable { Countable (expr_of x.now) }
     requires room { size (gen_of g.old) + 9 * of_expr (expr_of x.now) + 9 < 2 ^ 31 }
     ensures emits { OnOk result
@@ -197,7 +187,7 @@ fn interrogated<'a>(alloc: Global, g: &mut Generator<'a>, x: &'a Expr) -> Result
 // Puts the code for the value of `~` and its operand.
 #[cycle(tree)]
 #[inline(never)]
-fn negated<'a>(alloc: Global, g: &mut Generator<'a>, x: &'a Expr) -> Result<(), AllocError>
+fn negated(alloc: Global, g: &mut Generator, x: &Expr) -> Result<(), AllocError>
     requires countable { Countable (expr_of x.now) }
     requires room { size (gen_of g.old) + 9 * of_expr (expr_of x.now) + 9 < 2 ^ 31 }
     ensures emits { OnOk result
@@ -221,12 +211,12 @@ fn negated<'a>(alloc: Global, g: &mut Generator<'a>, x: &'a Expr) -> Result<(), 
 // Puts the code for the value of a binary operator and its operands.
 #[cycle(tree)]
 #[inline(never)]
-fn combined<'a>(
+fn combined(
     alloc: Global,
-    g: &mut Generator<'a>,
+    g: &mut Generator,
     op: Binary,
-    x: &'a Expr,
-    y: &'a Expr,
+    x: &Expr,
+    y: &Expr,
 ) -> Result<(), AllocError>
     requires left { Countable (expr_of x.now) }
     requires right { Countable (expr_of y.now) }
@@ -248,12 +238,7 @@ fn combined<'a>(
 
 // Puts the code for the name or for the value of an expression.
 #[cycle(tree)]
-fn wanted<'a>(
-    alloc: Global,
-    g: &mut Generator<'a>,
-    wants_name: bool,
-    e: &'a Expr,
-) -> Result<(), AllocError>
+fn wanted(alloc: Global, g: &mut Generator, wants_name: bool, e: &Expr) -> Result<(), AllocError>
     requires countable { Countable (expr_of e.now) }
     requires room { size (gen_of g.old) + 9 * of_expr (expr_of e.now) < 2 ^ 31 }
     ensures emits { OnOk result
@@ -272,11 +257,11 @@ fn wanted<'a>(
 // Puts the code of a call.
 #[cycle(tree)]
 #[inline(never)]
-fn called<'a>(
+fn called(
     alloc: Global,
-    g: &mut Generator<'a>,
-    f: &'a [u8],
-    args: &'a [Argument],
+    g: &mut Generator,
+    f: &[u8],
+    args: &[Argument],
     wants_name: bool,
 ) -> Result<(), AllocError>
     requires countable { AllCountable (args_of args.now) }
@@ -297,12 +282,7 @@ fn called<'a>(
 // Puts the code for the name of a reference.
 #[cycle(tree)]
 #[inline(never)]
-fn element<'a>(
-    alloc: Global,
-    g: &mut Generator<'a>,
-    x: &'a [u8],
-    args: &'a [Argument],
-) -> Result<(), AllocError>
+fn element(alloc: Global, g: &mut Generator, x: &[u8], args: &[Argument]) -> Result<(), AllocError>
     requires countable { AllCountable (args_of args.now) }
     requires few { length args.now ≤ 65535 }
     requires room { size (gen_of g.old) + 9 * of_args (args_of args.now) + 10 < 2 ^ 31 }
@@ -323,11 +303,7 @@ fn element<'a>(
 // Puts the code of arguments, one after another.
 #[cycle(tree)]
 #[inline(never)]
-fn arguments<'a>(
-    alloc: Global,
-    g: &mut Generator<'a>,
-    args: &'a [Argument],
-) -> Result<(), AllocError>
+fn arguments(alloc: Global, g: &mut Generator, args: &[Argument]) -> Result<(), AllocError>
     requires countable { AllCountable (args_of args.now) }
     requires room { size (gen_of g.old) + 9 * of_args (args_of args.now) < 2 ^ 31 }
     ensures emits { OnOk result

@@ -7,22 +7,25 @@ ghost use Rattle.model.specs.Deck.Weights.{of_expr};
 ghost use Rattle.expr_codegen.specs.Emitting.{AddsAtMost, size};
 ghost use Rattle.model.specs.declared.instr.Instr.{Instr};
 
+use crate::copies::kept_copy;
 use crate::strings::Strings;
 use model::{Bytes, Expr, Instr, Seq};
 use std::alloc::{AllocError, Global};
+use std::rc::Rc;
+use tree_drops::ExprTree;
 
 /// The code so far and its tables.
-pub struct Generator<'a> {
+pub struct Generator {
     code: Vec<Instr>,
     at: u32,
     strings: Strings,
-    waiting: Vec<&'a Expr>,
+    waiting: Vec<Rc<ExprTree>>,
     taken: usize,
     ghost counted: { at ≡ code_size code.items },
     ghost within: { taken ≤ length waiting.items },
 }
 
-impl<'a> Drop for Generator<'a> {
+impl Drop for Generator {
     fn drop(self) {
         let Generator {
             code: _,
@@ -34,7 +37,7 @@ impl<'a> Drop for Generator<'a> {
     }
 }
 
-impl<'a> Generator<'a> {
+impl Generator {
     ghost use Rattle.expr_codegen.specs.Views.{gen_of};
     ghost use Rattle.expr_codegen.specs.Emitting as spec;
 
@@ -93,9 +96,10 @@ impl<'a> Generator<'a> {
         self.strings.number(alloc, text)
     }
 
-    /// Puts the number of an expression that stays unevaluated.
+    /// Puts the number of an expression that stays unevaluated, and keeps a copy of it.
+    #[inline(never)]
     #[tactic(auto, unfolding(crate::specs::Emitting::size))]
-    pub fn defer(&mut self, x: &'a Expr) -> Result<(), AllocError>
+    pub fn defer(&mut self, alloc: Global, x: &Expr) -> Result<(), AllocError>
         requires { size (gen_of self.old) + 9 * of_expr (expr_of x.now) + 7 < 2 ^ 31 }
         ensures put { OnOk result
             (gen_of self.new ≡ spec.with_waiting (expr_of x.now)
@@ -104,45 +108,42 @@ impl<'a> Generator<'a> {
             (size (gen_of self.new) ≡ size (gen_of self.old) + 9 * of_expr (expr_of x.now) + 7) }
         ensures extends { spec.Extends (gen_of self.old) (gen_of self.new) }
     {
+        let kept = kept_copy(alloc, x)?;
         let number = self.waiting.len() as u32;
         self.put(Instr::Expr(number))?;
-        self.waiting.push(x)?;
+        self.waiting.push(kept)?;
         Ok(())
     }
 
     /// Takes the next unevaluated expression.
-    pub fn take(&mut self) -> Option<&'a Expr>
-        ensures { spec.Takes (option_map (λ e. expr_of e.now) result) (gen_of self.old)
-            (gen_of self.new) }
+    pub fn take(&mut self) -> Result<Option<Rc<ExprTree>>, AllocError>
+        ensures taken { IfOk result (λ next.
+            spec.Takes (option_map (λ e. expr_of e.value.expr) next) (gen_of self.old)
+            (gen_of self.new)) }
+        ensures refused { OnErr result (gen_of self.new ≡ gen_of self.old) }
     {
-        match self.waiting.get(self.taken) {
-            Some(next) => {
-                self.taken += 1;
-                Some(*next)
-            }
-            None => None,
-        }
+        let Some(next) = self.waiting.as_slice().get(self.taken) else {
+            return Ok(None);
+        };
+        let next = next.clone()?;
+        self.taken += 1;
+        Ok(Some(next))
     }
 
-    /// The strings by number.
-    pub fn strings(&self, alloc: Global) -> Result<Seq<Bytes>, AllocError>
-        ensures { IfOk result (λ s. s ≡ (gen_of self.now).texts) }
-    {
-        self.strings.to_seq(alloc)
-    }
-
-    /// The code.
-    pub fn into_code(self) -> Seq<Instr>
-        ensures { result ≡ (gen_of self.entry).code }
+    /// The code, and the strings by number.
+    pub fn into_parts(self, alloc: Global) -> Result<(Seq<Instr>, Seq<Bytes>), AllocError>
+        ensures code { IfOk result (λ parts. parts.0 ≡ (gen_of self).code) }
+        ensures strings { IfOk result (λ parts. parts.1 ≡ (gen_of self).texts) }
     {
         let Generator {
             code,
             at: _,
-            strings: _,
+            strings,
             waiting: _,
             taken: _,
         } = self;
-        Seq::from_vec(code)
+        let strings = strings.into_seq(alloc)?;
+        Ok((Seq::from_vec(code), strings))
     }
 
     /// Changes instruction number `n` to one of the same length.

@@ -5,12 +5,13 @@
 //!
 //!     let mut generator = Generator::new(alloc);
 //!     value(alloc, &mut generator, &expr)?;
-//!     let code = generator.into_code();
+//!     let (code, strings) = generator.into_parts(alloc)?;
 //!
 //! Promised: exactly the instructions, strings and unevaluated expressions that the definitions give the expression,
 //! behind those that were there; refused by want of memory alone. Room for them in the limits is asked for.
 #![tactic(auto)]
 
+mod copies;
 mod expr;
 mod generator;
 mod single;

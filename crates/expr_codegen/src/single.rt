@@ -13,7 +13,7 @@ use std::alloc::{AllocError, Global};
 
 /// Puts a variable's name.
 #[inline(never)]
-pub fn variable<'a>(alloc: Global, g: &mut Generator<'a>, name: &[u8]) -> Result<(), AllocError>
+pub fn variable(alloc: Global, g: &mut Generator, name: &[u8]) -> Result<(), AllocError>
     requires { size (gen_of g.old) + 6 < 2 ^ 31 }
     ensures emits { OnOk result
         (Emits (with_string (λ k. Instr.Var k) name.now) (gen_of g.old) (gen_of g.new)) }
@@ -26,7 +26,7 @@ pub fn variable<'a>(alloc: Global, g: &mut Generator<'a>, name: &[u8]) -> Result
 
 /// Puts a literal.
 #[inline(never)]
-pub fn literal<'a>(alloc: Global, g: &mut Generator<'a>, text: &[u8]) -> Result<(), AllocError>
+pub fn literal(alloc: Global, g: &mut Generator, text: &[u8]) -> Result<(), AllocError>
     requires { size (gen_of g.old) + 6 < 2 ^ 31 }
     ensures emits { OnOk result
         (Emits (with_string (λ k. Instr.Str k) text.now) (gen_of g.old) (gen_of g.new)) }
@@ -39,7 +39,7 @@ pub fn literal<'a>(alloc: Global, g: &mut Generator<'a>, text: &[u8]) -> Result<
 
 /// Puts a keyword's value.
 #[inline(never)]
-pub fn keyword<'a>(g: &mut Generator<'a>, name: &[u8]) -> Result<(), AllocError>
+pub fn keyword(g: &mut Generator, name: &[u8]) -> Result<(), AllocError>
     requires { size (gen_of g.old) + 2 < 2 ^ 31 }
     ensures emits { OnOk result
         (Emits (with_key (λ k. Instr.KeyGet k) (key_named name.now)) (gen_of g.old)
@@ -77,9 +77,9 @@ fn own_call(wants_name: bool, name: u32, count: u16) -> Instr
 }
 
 /// Puts the call of a function behind its arguments, for a name or for a value.
-pub fn call<'a>(
+pub fn call(
     alloc: Global,
-    g: &mut Generator<'a>,
+    g: &mut Generator,
     function: &[u8],
     count: usize,
     wants_name: bool,

@@ -44,21 +44,23 @@ impl Strings {
         ensures few { OnOk result (length self.new ≤ length self.old + 1) }
         ensures refused { OnErr result (self.new ≡ self.old) }
     {
+        if let Some(index) = self.set.get_index_of(text) {
+            return Ok(index as u32);
+        }
         let text = Vec::from_slice(alloc, text)?;
         let (index, _) = self.set.insert_full(text)?;
         Ok(index as u32)
     }
 
     /// The strings in order.
-    pub fn to_seq(&self, alloc: Global) -> Result<Seq<Bytes>, AllocError>
-        ensures { IfOk result (λ s. s ≡ self.now) }
+    pub fn into_seq(self, alloc: Global) -> Result<Seq<Bytes>, AllocError>
+        ensures { IfOk result (λ s. s ≡ self) }
     {
-        let texts = self.set.as_slice();
-        let mut strings = Seq::new(alloc);
-        for text in texts {
-            let bytes = Vec::from_slice(alloc, text.as_slice())?;
-            strings.push(Bytes::from_vec(bytes))?;
+        let Strings { set } = self;
+        let mut strings = Vec::with_capacity(alloc, set.len())?;
+        for text in set {
+            strings.push(Bytes::from_vec(text))?;
         }
-        Ok(strings)
+        Ok(Seq::from_vec(strings))
     }
 }

@@ -1,6 +1,7 @@
 -- The tokens of a text, with their places in it.
-use Rattle.std.specs.Prelude.{◌≡◌, ◌<◌, ℕ, List, [], ◌∷◌, length, map, slice_range}
+use Rattle.std.specs.Prelude.{◌≡◌, ◌<◌, ℕ, List, [], ◌∷◌, length, map, slice_range, Option, Some, None}
 use Rattle.model.specs.declared.tokens.Token.{Token}
+use Rattle.model.specs.declared.tokens.TokenKind.TheVariants as kind
 use Rattle.model.specs.Deck.Cut as cut
 use Rattle.model.specs.Deck.Cut.{Piece, least_lexical}
 use Rattle.model.specs.Deck.Pieces.{pieces}
@@ -12,6 +13,11 @@ piece_of t = cut.Token t.kind t.text.now
 
 abbrev pub pieces_of : List Token → List Piece
 pieces_of tokens = map piece_of tokens
+
+-- the name that pieces begin with
+abbrev pub name_in_front : List Piece → Option (List ℕ)
+name_in_front (cut.Token kind.Name w ∷ ps) = Some w
+name_in_front ps = None
 
 -- each token's text is the slice of its span, and the spans follow on one another from n to m
 abbrev pub Spans : ℕ → ℕ → List ℕ → List Token → Type 0

@@ -2,6 +2,7 @@
 use Rattle.std.specs.Prelude.{◌≡◌, ◌<◌, ◌≤◌, ℕ, List, [], ◌∷◌, length, take, drop, Option, Some, None}
 use Rattle.model.specs.Deck.Cut.{Class, Piece, Token, Stray, Unclosed}
 use Rattle.model.specs.Deck.Cut as cut
+use Rattle.model.specs.declared.tokens.TokenKind.TheVariants as kind
 use Rattle.model.specs.Deck.Pieces.{FirstPiece, found, first_piece}
 use Rattle.lexer.specs.declared.class.Class as declared
 use Rattle.lexer.specs.declared.class.Class.TheVariants as c
@@ -39,3 +40,8 @@ IsScanned [] None = Unit {0}
 IsScanned [] (Some p) = ⊥
 IsScanned (b ∷ bs) None = ⊥
 IsScanned (b ∷ bs) (Some p) = IsFound (b ∷ bs) p (first_piece b bs)
+
+-- the name that this piece in front of a text is
+abbrev pub name_found : List ℕ → Scanned → Option (List ℕ)
+name_found text (s.Token kind.Name n) = Some (take n text)
+name_found text _ = None

@@ -4,17 +4,20 @@
 //!
 //!     let tokens = lex(alloc, b"N = N + 1")?;
 //!
+//! `first_name(text)` gives the name that a text begins with, without the tokens behind it.
+//!
 //! Promised: they are the one cut of the text (`Cut` of `model`), blanks among them; a text is refused exactly where
 //! its pieces break one of L1 to L5, by the least, or for want of memory. The tokens are such as the parser asks for
 //! (`Lexed`).
 #![tactic(auto)]
 
-ghost use Rattle.std.specs.Prelude.{◌≡◌, ◌≢◌, length, IfOk, IfErr, OnOk, None, Some};
+ghost use Rattle.std.specs.Prelude.{◌≡◌, ◌≢◌, ◌≤◌, length, option_map, IfOk, IfErr, OnOk, None, Some};
 ghost use Rattle.model.specs.declared.causes.Cause.TheVariants as cause;
 ghost use Rattle.model.specs.Deck.Cut.{Cut, least_lexical};
 ghost use Rattle.model.specs.Deck.Lexed.{Lexed};
 ghost use Rattle.model.specs.Deck.Pieces.{pieces};
-ghost use Rattle.lexer.specs.Lexed.{AreTokens, pieces_of, Spans};
+ghost use Rattle.lexer.specs.Lexed.{AreTokens, name_in_front, pieces_of, Spans};
+ghost use Rattle.lexer.specs.Scans.{fits, name_found};
 
 mod class;
 mod limits;
@@ -22,7 +25,7 @@ mod scan;
 
 use crate::limits::Limits;
 use crate::scan::{Scanned, scan};
-use model::{Cause, Token};
+use model::{Cause, Token, TokenKind};
 use std::alloc::Global;
 
 // The tokens of the text, and what they break of L3 to L5.
@@ -70,5 +73,26 @@ pub fn lex(alloc: Global, text: &[u8]) -> Result<Vec<Token<'_>>, Cause>
     match limits.least() {
         Some(cause) => Err(cause),
         None => Ok(tokens),
+    }
+}
+
+// The name that this piece in front of a text is.
+fn name_of(text: &[u8], found: Scanned) -> Option<&[u8]>
+    requires { fits text.now found }
+    ensures { option_map (λ name. name.now) result ≡ name_found text.now found }
+{
+    match found {
+        Scanned::Token(TokenKind::Name, len) => Some(&text[..len]),
+        _ => None,
+    }
+}
+
+/// The name that a text begins with, if it begins with one.
+pub fn first_name(text: &[u8]) -> Option<&[u8]>
+    ensures { option_map (λ name. name.now) result ≡ name_in_front (pieces text.now) }
+{
+    match scan(text) {
+        Some(found) => name_of(text, found),
+        None => None,
     }
 }

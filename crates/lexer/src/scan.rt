@@ -10,6 +10,7 @@ use memchr::memchr;
 use model::{Mark, TokenKind};
 
 /// The first piece of a text: a token of so many bytes, or none.
+#[derive(Drop)]
 pub(crate) enum Scanned {
     Token(TokenKind, usize),
     /// A byte that begins no token.

@@ -8,10 +8,8 @@ use Rattle.std.specs.declared.alloc.AllocError.{AllocError}
 use Rattle.std.proofs.lemmas.List.{map-append}
 use Rattle.std.proofs.lemmas.Slice.Eq.{bytes_eq-Decides}
 use Rattle.std.proofs.Math.Bool.{or-false, or_assoc}
-use Rattle.model.specs.declared.causes.Cause.{Cause}
-use Rattle.model.specs.Deck.Faults.{is_one_of, is_taken, entry_given, rule_broken, cause_of, returns, label_given, throughout, call_fits, keyword_known, targets_fit}
-use Rattle.model.specs.declared.causes.Cause.TheVariants as cause
-use Rattle.model.specs.Deck.Trees.{Bytes, Stmt, Plain, End}
+use Rattle.model.specs.Deck.Faults.{is_one_of, is_taken, returns}
+use Rattle.model.specs.Deck.Trees.{Bytes}
 use Rattle.parser.specs.Labels.{AreSame, with_label}
 
 abbrev pub texts : List (Bor Bytes) → List Bytes
@@ -55,24 +53,6 @@ pub is_put : (r : Result Unit AllocError) (new old : List Bytes) (l : Bytes) (gi
 is_put (Ok u) new old l given e g = λ ls same. rw (e, sym g) (put_same l old ls same)
 is_put (Err x) new old l given e g = tt
 
-taken_same : (old ls : List Bytes) → AreSame old ls → (given : List Bytes) → is_taken old given ≡ is_taken ls given
+pub taken_same : (old ls : List Bytes) → AreSame old ls → (given : List Bytes) → is_taken old given ≡ is_taken ls given
 taken_same old ls same [] = refl
 taken_same old ls same (l ∷ more) = ap (λ b. is_one_of l returns || b) (same l)
-
-entry_same : (old ls : List Bytes) → AreSame old ls → (s : Stmt) → entry_given old s ≡ entry_given ls s
-entry_same old ls same (Plain l b g) = refl
-entry_same old ls same (End None) = refl
-entry_same old ls same (End (Some l)) = same l
-
-rule_same : (earlier before all labels : List Bytes) → AreSame earlier before → AreSame all labels → (s : Stmt) → rule_broken earlier all s ≡ rule_broken before labels s
-rule_same earlier before all labels e a s =
-    ap₂ (λ taken given.
-    if taken then Some cause.LabelTaken
-    else (if not (throughout call_fits s) then Some cause.TooManyArguments
-    else (if not (throughout keyword_known s) then Some cause.UnknownKeyword
-    else (if not (targets_fit s) then Some cause.NotATarget
-    else (if not given then Some cause.EntryMissing else None))))) (taken_same earlier before e (label_given s)) (entry_same all labels a s)
-
-pub cause_same : (earlier before all labels : List Bytes) → AreSame earlier before → AreSame all labels → (r : Result Stmt Cause) → cause_of earlier all r ≡ cause_of before labels r
-cause_same earlier before all labels e a (Ok s) = rule_same earlier before all labels e a s
-cause_same earlier before all labels e a (Err c) = refl

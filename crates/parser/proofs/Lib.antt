@@ -1,3 +1,5 @@
 pub mod Arguments
 pub mod LabelSets
-pub mod ReadLists
+pub mod Naming
+pub mod Noting
+pub mod ReadTexts

@@ -1,3 +1,4 @@
+pub mod Heads
 pub mod Labels
 pub mod Reads
 pub mod Refusals

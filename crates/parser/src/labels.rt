@@ -5,10 +5,9 @@ ghost use Rattle.model.specs.Deck.Faults as faults;
 ghost use Rattle.model.specs.Deck.Trees.{Bytes};
 ghost use Rattle.model.specs.Deck.TreeViews.{stmt_of};
 ghost use Rattle.parser.specs.Labels.{AreSame, with_label};
-ghost use Rattle.parser.specs.Reads.{result_of};
 
 use indexmap::IndexSet;
-use model::{Cause, Stmt};
+use model::Stmt;
 use std::alloc::{AllocError, Global};
 use std::marker::Model;
 
@@ -62,18 +61,14 @@ impl<'a> Labels<'a> {
         Ok(())
     }
 
-    /// Puts the label that a statement with a tree gives.
-    pub(crate) fn insert_given(&mut self, tree: &'a Result<Stmt, Cause>) -> Result<(), AllocError>
-        ensures { OnOk result
-            ((ls : List Bytes) → AreSame self.old ls
-            → AreSame self.new (ls ++ faults.labels_of_read (result_of tree.now))) }
+    /// Puts the label that a statement gives, if it gives one.
+    pub(crate) fn insert_given(&mut self, label: Option<&'a [u8]>) -> Result<(), AllocError>
+        ensures { OnOk result ((ls : List Bytes) → AreSame self.old ls
+            → AreSame self.new (ls ++ option_to_list (option_map (λ l. l.now) label.entry))) }
     {
-        match tree {
-            Ok(statement) => match label_given(statement) {
-                Some(label) => self.insert(label),
-                None => Ok(()),
-            },
-            Err(_) => Ok(()),
+        match label {
+            Some(label) => self.insert(label),
+            None => Ok(()),
         }
     }
 

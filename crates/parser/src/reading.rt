@@ -1,84 +1,231 @@
 //! Statements as they are read, one by one.
 
-ghost use Rattle.std.specs.Prelude.{◌≡◌, map, IfOk};
-ghost use Rattle.model.specs.Deck.Faults as faults;
+ghost use Rattle.std.specs.Prelude.{◌≡◌, ◌++◌, [], ◌∷◌, List, IfErr, IfOk, OnOk, Ok, option_map, option_to_list};
+ghost use Rattle.model.specs.Deck.Faults as spec;
+ghost use Rattle.model.specs.Deck.Trees.{Bytes};
 ghost use Rattle.model.specs.Deck.TreeViews.{stmt_of};
-ghost use Rattle.parser.specs.Reads.{IsRead, numbered, result_read, trees_of};
+ghost use Rattle.model.specs.declared.cards.Statement.{Statement};
+ghost use Rattle.parser.specs.Reads.{HasRead, IsGiven, IsRead, entry_asked, entry_rule, missing};
+ghost use Rattle.parser.specs.Reads.{noted_fault, noted_faults, result_of};
+ghost use Rattle.parser.specs.Refusals.{IsRefusal};
 
-use lexer::lex;
-use model::{Cause, Seq, Statement, Stmt};
+use crate::labels::Labels;
+use crate::statements::rule_broken;
+use lexer::{first_name, lex};
+use model::{Cause, DeckFault, Seq, Statement, Stmt, StmtFault};
 use std::alloc::{AllocError, Global};
-use stmt_parser::{let_go, parse_statement};
+use stmt_parser::parse_statement;
+use tree_drops::StmtTree;
 
-/// What is read of a statement.
-#[derive(Drop)]
-pub(crate) struct Read {
-    pub(crate) number: u32,
-    /// Its tree, or the cause for which it has none.
-    pub(crate) tree: Result<Stmt, Cause>,
+/// What is noted of a statement.
+pub(crate) enum Noted {
+    /// It is faulty.
+    Faulty(StmtFault),
+    /// The statement of this number is faulty if no statement gives this label, where it says that execution begins.
+    Entry(u32, Vec<u8>),
+}
+
+impl Drop for Noted {
+    fn drop(self) {
+        match self {
+            Noted::Faulty(_) => {}
+            Noted::Entry(_, _) => {}
+        }
+    }
+}
+
+/// A reader of statements: it gives the tree of each, and in the end what is wrong with them.
+pub struct Reader<'a> {
+    /// The labels that statements with a tree gave.
+    labels: Labels<'a>,
+    noted: Vec<Noted>,
+}
+
+impl<'a> Drop for Reader<'a> {
+    fn drop(self) {
+        let Reader {
+            labels: _,
+            noted: _,
+        } = self;
+    }
 }
 
 // The tree of a text, or the cause for which it has none. Keeps no tokens.
 fn tree(alloc: Global, text: &[u8]) -> Result<Stmt, Cause>
-    ensures { IsRead (faults.read text.now) result }
+    ensures { IsRead (spec.read text.now) result }
 {
     let tokens = lex(alloc, text)?;
     parse_statement(alloc, &tokens)
 }
 
-fn read_statement(alloc: Global, statement: &Statement) -> Result<Read, AllocError>
-    ensures { IfOk result (λ r. result_read r ≡ numbered statement.now) }
+// The same where memory runs out apart.
+fn tree_or_cause(alloc: Global, text: &[u8]) -> Result<Result<Stmt, Cause>, AllocError>
+    ensures { IfOk result (λ found. result_of found ≡ spec.read text.now) }
 {
-    let number = statement.number;
-    match tree(alloc, statement.text.as_slice()) {
+    match tree(alloc, text) {
         Err(Cause::Memory) => Err(AllocError),
-        tree => Ok(Read { number, tree }),
+        found => Ok(found),
     }
 }
 
-/// Reads each statement.
-pub(crate) fn read_all(alloc: Global, statements: &[Statement]) -> Result<Vec<Read>, AllocError>
-    ensures { IfOk result (λ rs. map result_read rs.items ≡ map numbered statements.now) }
+// The label where a statement says that execution begins.
+fn entry_asked(tree: &Stmt) -> Option<&[u8]>
+    ensures { option_map (λ l. l.now) result ≡ entry_asked (stmt_of tree.now) }
 {
-    let mut reads = Vec::new(alloc);
-    for statement in statements {
-        let read = read_statement(alloc, statement)?;
-        reads.push(read)?;
+    match tree {
+        Stmt::End { entry } => entry.as_deref(),
+        Stmt::Plain { .. } => None,
     }
-    Ok(reads)
 }
 
-/// Lets go of what was read.
-pub(crate) fn let_reads_go(alloc: Global, reads: Vec<Read>) {
-    for read in reads {
-        if let Ok(tree) = read.tree {
-            let_go(alloc, tree);
+// Notes that the statement of a number asks for a label.
+fn note_label(
+    noted: &mut Vec<Noted>,
+    alloc: Global,
+    number: u32,
+    label: &[u8],
+) -> Result<(), AllocError>
+    ensures { OnOk result ((all : List Bytes) → noted_faults all noted.new.items
+        ≡ noted_faults all noted.old.items ++ spec.fault_of number (missing all label.now)) }
+{
+    let label = Vec::from_slice(alloc, label)?;
+    noted.push(Noted::Entry(number, label))?;
+    Ok(())
+}
+
+// Notes the label where a statement says that execution begins, if it does.
+fn note_entry(
+    noted: &mut Vec<Noted>,
+    alloc: Global,
+    number: u32,
+    tree: &Stmt,
+) -> Result<(), AllocError>
+    ensures { OnOk result ((all : List Bytes) → noted_faults all noted.new.items
+        ≡ noted_faults all noted.old.items ++ spec.fault_of number (entry_rule all (stmt_of tree.now))) }
+{
+    match entry_asked(tree) {
+        Some(label) => note_label(noted, alloc, number, label),
+        None => Ok(()),
+    }
+}
+
+// What is wrong with a statement that asks for a label, where all statements give these.
+fn lacking(number: u32, label: &[u8], all: &Labels<'_>) -> Option<StmtFault>
+    ensures { option_to_list result ≡ spec.fault_of number (missing all.now label.now) }
+{
+    if all.contains(label) {
+        return None;
+    }
+    Some(StmtFault {
+        number,
+        cause: Cause::EntryMissing,
+    })
+}
+
+// What is wrong with a statement, where all statements give these labels.
+fn told(noted: &Noted, all: &Labels<'_>) -> Option<StmtFault>
+    ensures { option_to_list result ≡ noted_fault all.now noted.now }
+{
+    match noted {
+        Noted::Faulty(fault) => Some(*fault),
+        Noted::Entry(number, label) => lacking(*number, label, all),
+    }
+}
+
+fn tell(faults: &mut Seq<StmtFault>, fault: Option<StmtFault>) -> Result<(), AllocError>
+    ensures { OnOk result (faults.new ≡ faults.old ++ option_to_list fault) }
+{
+    match fault {
+        Some(fault) => faults.push(fault),
+        None => Ok(()),
+    }
+}
+
+// What is wrong with all that is noted, in order.
+fn faults(alloc: Global, noted: &[Noted], all: &Labels<'_>) -> Result<Seq<StmtFault>, AllocError>
+    ensures { IfOk result (λ fs. fs ≡ noted_faults all.now noted.now) }
+{
+    let mut faults = Seq::new(alloc);
+    for one in noted {
+        tell(&mut faults, told(one, all))?;
+    }
+    Ok(faults)
+}
+
+impl<'a> Reader<'a> {
+    /// Nothing is read.
+    pub fn new(alloc: Global) -> Reader<'a>
+        ensures { HasRead [] result }
+    {
+        Reader {
+            labels: Labels::new(alloc),
+            noted: Vec::new(alloc),
         }
     }
-}
 
-/// The trees of those that have one, read anew.
-pub(crate) fn trees(alloc: Global, statements: &[Statement]) -> Result<Vec<Stmt>, AllocError>
-    ensures { IfOk result (λ ts. map stmt_of ts.items ≡ trees_of (map numbered statements.now)) }
-{
-    let mut trees = Vec::with_capacity(alloc, statements.len())?;
-    for statement in statements {
-        let read = read_statement(alloc, statement)?;
-        let Ok(tree) = read.tree else {
-            continue;
+    // Notes what a statement with this text and this tree breaks, and the label that it gives. The tree, unless the
+    // statement is faulty whatever labels later ones give.
+    fn judge(
+        &mut self,
+        alloc: Global,
+        statement: &'a Statement,
+        tree: StmtTree,
+    ) -> Result<Option<StmtTree>, AllocError>
+        requires { spec.read statement.now.text ≡ Ok (stmt_of tree.statement) }
+        ensures read { OnOk result ((ss : List Statement) → HasRead ss self.old
+            → HasRead (ss ++ statement.now ∷ []) self.new) }
+        ensures given { IfOk result (IsGiven statement.now self.old) }
+    {
+        let cause = rule_broken(&tree.statement, &self.labels);
+        self.labels
+            .insert_given(first_name(statement.text.as_slice()))?;
+        let number = statement.number;
+        match cause {
+            Some(cause) => {
+                self.noted.push(Noted::Faulty(StmtFault { number, cause }))?;
+                Ok(None)
+            }
+            None => {
+                note_entry(&mut self.noted, alloc, number, &tree.statement)?;
+                Ok(Some(tree))
+            }
+        }
+    }
+
+    /// Reads the next statement: its tree, unless the statement is faulty whatever labels later ones give.
+    pub fn read(
+        &mut self,
+        alloc: Global,
+        statement: &'a Statement,
+    ) -> Result<Option<StmtTree>, AllocError>
+        ensures read { OnOk result ((ss : List Statement) → HasRead ss self.old
+            → HasRead (ss ++ statement.now ∷ []) self.new) }
+        ensures given { IfOk result (IsGiven statement.now self.old) }
+    {
+        let found = tree_or_cause(alloc, statement.text.as_slice())?;
+        match found {
+            Ok(tree) => self.judge(alloc, statement, StmtTree::new(alloc, tree)),
+            Err(cause) => {
+                let number = statement.number;
+                self.noted.push(Noted::Faulty(StmtFault { number, cause }))?;
+                Ok(None)
+            }
+        }
+    }
+
+    /// Whether what was read has no faulty statement, where these are all statements; else the faulty ones in order.
+    pub fn finish(self, alloc: Global) -> Result<(), DeckFault>
+        ensures faultless { OnOk result ((ss : List Statement) → HasRead ss self.entry → spec.faults ss ≡ []) }
+        ensures refused { IfErr result (λ f.
+            (ss : List Statement) → HasRead ss self.entry → IsRefusal (spec.faults ss) f) }
+    {
+        let Ok(found) = faults(alloc, self.noted.as_slice(), &self.labels) else {
+            return Err(DeckFault::Memory);
         };
-        trees.push(tree)?;
+        if found.as_slice().is_empty() {
+            Ok(())
+        } else {
+            Err(DeckFault::Faulty(found))
+        }
     }
-    Ok(trees)
-}
-
-/// The card where each statement begins.
-pub(crate) fn cards(alloc: Global, statements: &[Statement]) -> Result<Seq<u32>, AllocError>
-    ensures { IfOk result (λ cs. cs ≡ map (λ s. s.card) statements.now) }
-{
-    let mut cards = Vec::with_capacity(alloc, statements.len())?;
-    for statement in statements {
-        cards.push(statement.card)?;
-    }
-    Ok(Seq::from_vec(cards))
 }

@@ -4,6 +4,7 @@ ghost use Rattle.std.specs.Prelude.{◌≡◌, option_map, option_to_list};
 ghost use Rattle.model.specs.Deck.Faults as faults;
 ghost use Rattle.model.specs.Language.Names.{key_named};
 ghost use Rattle.model.specs.Deck.TreeViews.{body_of, goto_of, object_of, place_of, stmt_of};
+ghost use Rattle.parser.specs.Reads.{early_rule};
 ghost use Rattle.parser.specs.Rules.{AreKept};
 
 use crate::labels::{Labels, label_given};
@@ -112,19 +113,10 @@ fn is_taken(label: Option<&[u8]>, earlier: &Labels<'_>) -> bool
     }
 }
 
-// Whether a statement gives the label where execution begins.
-fn entry_given(statement: &Stmt, all: &Labels<'_>) -> bool
-    ensures { result ≡ faults.entry_given all.now (stmt_of statement.now) }
-{
-    match statement {
-        Stmt::End { entry: Some(entry) } => all.contains(entry),
-        _ => true,
-    }
-}
-
-/// The least rule that a statement breaks, where the earlier statements and all statements give these labels.
-pub(crate) fn rule_broken(statement: &Stmt, earlier: &Labels<'_>, all: &Labels<'_>) -> Option<Cause>
-    ensures { result ≡ faults.rule_broken earlier.now all.now (stmt_of statement.now) }
+/// The least rule that a statement breaks, where the earlier statements give these labels, but for the one that asks for
+/// the labels of later ones.
+pub(crate) fn rule_broken(statement: &Stmt, earlier: &Labels<'_>) -> Option<Cause>
+    ensures { result ≡ early_rule earlier.now (stmt_of statement.now) }
 {
     let kept = statement_keeps(statement);
     if is_taken(label_given(statement), earlier) {
@@ -135,8 +127,6 @@ pub(crate) fn rule_broken(statement: &Stmt, earlier: &Labels<'_>, all: &Labels<'
         Some(Cause::UnknownKeyword)
     } else if !targets_fit(statement, kept) {
         Some(Cause::NotATarget)
-    } else if !entry_given(statement, all) {
-        Some(Cause::EntryMissing)
     } else {
         None
     }

@@ -7,10 +7,10 @@ ghost use Rattle.stmt_parser.specs.Views.{Reads};
 
 use crate::cursor::Cursor;
 use crate::expressions::{element, whole};
-use crate::letting_go::let_expression_go;
 use crate::stop::Stop;
 use model::{Body, Expr, Mark};
 use std::alloc::Global;
+use tree_drops::drop_expression;
 
 /// `[B subject [B pattern] [B = [B object]]]`
 #[tactic(auto, unfolding(model::specs::Deck::ParseStatements::body_parser, model::specs::Deck::Parse::bind))]
@@ -38,7 +38,7 @@ fn after_subject(
         return match object(alloc, cursor, depth) {
             Ok(object) => Ok(Body::Assign(subject, object)),
             Err(stop) => {
-                let_expression_go(alloc, subject);
+                drop_expression(alloc, subject);
                 Err(stop)
             }
         };
@@ -49,7 +49,7 @@ fn after_subject(
     match whole(alloc, cursor, depth) {
         Ok(pattern) => after_pattern(alloc, cursor, depth, subject, pattern),
         Err(stop) => {
-            let_expression_go(alloc, subject);
+            drop_expression(alloc, subject);
             Err(stop)
         }
     }
@@ -73,8 +73,8 @@ fn after_pattern(
     match object(alloc, cursor, depth) {
         Ok(object) => Ok(Body::Replace(subject, pattern, object)),
         Err(stop) => {
-            let_expression_go(alloc, subject);
-            let_expression_go(alloc, pattern);
+            drop_expression(alloc, subject);
+            drop_expression(alloc, pattern);
             Err(stop)
         }
     }

@@ -11,12 +11,12 @@ ghost use Rattle.model.specs.Deck.TreeViews.{arg_of, expr_of};
 ghost use Rattle.stmt_parser.specs.Views.{Reads, Unprefixed, arguments_of, boxed_of};
 
 use crate::cursor::Cursor;
-use crate::letting_go::let_boxed_go;
 use crate::marks::{Role, role_of};
 use crate::parts::{applied, binary, given, integer, node, power, shown, unquoted};
 use crate::stop::Stop;
 use model::{Argument, Expr, Mark, Token, TokenKind};
 use std::alloc::{AllocError, Global};
+use tree_drops::drop_boxed;
 
 /// A whole expression; brackets and unary operators are nested less deep than the number.
 pub(crate) fn whole(alloc: Global, cursor: &mut Cursor<'_>, depth: usize) -> Result<Expr, Stop>
@@ -101,7 +101,7 @@ fn lefts(
         match graded(alloc, cursor, depth, grade - 1) {
             Ok(right) => found = binary(alloc, op, found, right)?,
             Err(stop) => {
-                let_boxed_go(alloc, found);
+                drop_boxed(alloc, found);
                 return Err(stop);
             }
         }
@@ -213,7 +213,7 @@ fn bracketed(alloc: Global, cursor: &mut Cursor<'_>, depth: usize) -> Result<Box
     if cursor.eat(Mark::Close) {
         Ok(inner)
     } else {
-        let_boxed_go(alloc, inner);
+        drop_boxed(alloc, inner);
         Err(Stop::NoTree)
     }
 }

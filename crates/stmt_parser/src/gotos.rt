@@ -7,10 +7,10 @@ ghost use Rattle.stmt_parser.specs.Views.{Reads, other_place_of};
 
 use crate::cursor::Cursor;
 use crate::expressions::element;
-use crate::letting_go::let_place_go;
 use crate::stop::Stop;
 use model::{Goto, Mark, Place, Token, TokenKind};
 use std::alloc::Global;
+use tree_drops::drop_place;
 
 /// `[B goto]`
 #[tactic(auto, unfolding(model::specs::Deck::ParseStatements::goto))]
@@ -35,7 +35,7 @@ fn exits(alloc: Global, cursor: &mut Cursor<'_>, depth: usize) -> Result<Goto, S
             Ok(None) => Ok(Goto::OnSuccess(success)),
             Ok(Some(failure)) => Ok(Goto::Both(success, failure)),
             Err(stop) => {
-                let_place_go(alloc, success);
+                drop_place(alloc, success);
                 Err(stop)
             }
         };
@@ -46,7 +46,7 @@ fn exits(alloc: Global, cursor: &mut Cursor<'_>, depth: usize) -> Result<Goto, S
             Ok(None) => Ok(Goto::OnFailure(failure)),
             Ok(Some(success)) => Ok(Goto::Both(success, failure)),
             Err(stop) => {
-                let_place_go(alloc, failure);
+                drop_place(alloc, failure);
                 Err(stop)
             }
         };
@@ -84,7 +84,7 @@ fn in_brackets(alloc: Global, cursor: &mut Cursor<'_>, depth: usize) -> Result<P
     if cursor.eat(Mark::Close) {
         Ok(place)
     } else {
-        let_place_go(alloc, place);
+        drop_place(alloc, place);
         Err(Stop::NoTree)
     }
 }

@@ -12,10 +12,10 @@ ghost use Rattle.stmt_parser.specs.Views.{Parses, Reads};
 use crate::bodies::body;
 use crate::cursor::Cursor;
 use crate::gotos::goto;
-use crate::letting_go::{let_body_go, let_go};
 use crate::stop::Stop;
 use model::{Cause, Stmt, Token, TokenKind};
 use std::alloc::Global;
+use tree_drops::{drop_body, drop_statement};
 
 /// The one statement that has these tokens.
 pub fn parse_statement(alloc: Global, tokens: &[Token<'_>]) -> Result<Stmt, Cause>
@@ -42,7 +42,7 @@ fn all(alloc: Global, tokens: &[Token<'_>]) -> Result<Stmt, Stop>
     match cursor.take() {
         None => Ok(found),
         Some(_) => {
-            let_go(alloc, found);
+            drop_statement(alloc, found);
             Err(Stop::NoTree)
         }
     }
@@ -75,7 +75,7 @@ fn after_label(
             Ok(Stmt::Plain { label, body, goto })
         }
         Err(stop) => {
-            let_body_go(alloc, body);
+            drop_body(alloc, body);
             Err(stop)
         }
     }

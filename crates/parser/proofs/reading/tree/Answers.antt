@@ -1,5 +1,5 @@
 use Rattle.std.proofs.lemmas.Result.{err_from_is_err_and}
-use Rattle.parser.proofs.ReadLists.{is_cause, parsed}
+use Rattle.parser.proofs.ReadTexts.{is_cause, parsed}
 use Rattle.parser.proofs.reading.tree.Goals as goal
 
 pub returns-in_err-tokens : goal.returns-in_err-tokens

@@ -8,7 +8,7 @@ use Rattle.expr_codegen.proofs.generator.Generator.defer.Goals as goal
 pub returns-clause-size : goal.returns-clause-size
 returns-clause-size c =
     let items = c.put.new.self.waiting.items in
-    let within : c.put.new.self.taken ≤ length (map (λ e. expr_of e.now) items) = subst (λ n. c.put.new.self.taken ≤ n) (sym (length-map items (λ e. expr_of e.now))) c.put.new.self.within in
-    let w = size_waiting (expr_of c.args.x.now) (gen_of c.put.new.self) _ within (ap (map (λ e. expr_of e.now)) c.in_ok-push.ensures.items ∙ map_snoc (λ e. expr_of e.now) items c.args.x) in
+    let within : c.put.new.self.taken ≤ length (map (λ e. expr_of e.value.expr) items) = subst (λ n. c.put.new.self.taken ≤ n) (sym (length-map items (λ e. expr_of e.value.expr))) c.put.new.self.within in
+    let w = size_waiting (expr_of c.args.x.now) (gen_of c.put.new.self) _ within (ap (map (λ e. expr_of e.value.expr)) c.in_ok-push.ensures.items ∙ map_snoc (λ e. expr_of e.value.expr) items c.in_ok-kept.kept ∙ ap (λ e. map (λ e. expr_of e.value.expr) items ++ e ∷ []) c.in_ok-kept.ensures) in
     let p = c.in_ok-put.ensures.size in
     omega (arith, w, p)

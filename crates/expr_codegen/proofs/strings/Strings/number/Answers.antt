@@ -1,6 +1,6 @@
 use Rattle.std.proofs.Common.{◌≡◌, ◌∙◌, sym, ap, subst, map, length, ◌≤◌, ◌+◌}
 use Rattle.expr_codegen.specs.Texts.{number_of_text, with_text}
-use Rattle.expr_codegen.proofs.TextPlaces.{items, same, put_key, place_key, place_put, few_more}
+use Rattle.expr_codegen.proofs.TextPlaces.{items, same, put_key, place_key, place_put, few_more, found_there}
 use Rattle.expr_codegen.proofs.strings.Strings.number.Goals as goal
 
 pub returns-clause-put : goal.returns-clause-put
@@ -16,3 +16,13 @@ returns-clause-place c =
 
 pub returns-clause-few : goal.returns-clause-few
 returns-clause-few c = subst (λ l. length l ≤ length c.args.self.now + 1) (sym (returns-clause-put c)) (few_more c.args.text.now c.args.self.now)
+
+pub returns-in-Some-clause-put : goal.returns-in-Some-clause-put
+returns-in-Some-clause-put c =
+    let there = found_there c.args.text.now c.self.inside.set.keys c.in-Some.index (sym c.get_index_of.ensures.index ∙ c.in-Some.is) in
+    sym (subst (λ l. with_text c.args.text.now l ≡ l) c.self.view_is there.0)
+
+pub returns-in-Some-clause-place : goal.returns-in-Some-clause-place
+returns-in-Some-clause-place c =
+    let there = found_there c.args.text.now c.self.inside.set.keys c.in-Some.index (sym c.get_index_of.ensures.index ∙ c.in-Some.is) in
+    there.1 ∙ ap (number_of_text c.args.text.now) c.self.view_is

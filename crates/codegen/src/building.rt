@@ -1,0 +1,199 @@
+//! The image of a program, statement by statement.
+
+ghost use Rattle.std.specs.Prelude.{◌≡◌, ◌<◌, ◌≤◌, ◌+◌, ◌*◌, ◌^◌, ℕ, List, [], ◌∷◌, ◌++◌, Option};
+ghost use Rattle.std.specs.Prelude.{map, length, OnOk, IfOk};
+ghost use Rattle.std.specs.List.{AllByRecursion};
+ghost use Rattle.model.specs.Deck.TreeViews.{stmt_of};
+ghost use Rattle.model.specs.Deck.Trees as trees;
+ghost use Rattle.model.specs.Deck.Weights as weights;
+ghost use Rattle.model.specs.Language.Programs.{number_or};
+ghost use Rattle.expr_codegen.specs.Emitting.{Countable, size};
+ghost use Rattle.expr_codegen.specs.Texts.{with_texts};
+ghost use Rattle.expr_codegen.specs.Views.{gen_of};
+ghost use Rattle.codegen.specs.Building.{HasPut, IsNamed, own_entries, own_texts};
+ghost use Rattle.codegen.specs.Countable.{CountableStmt, Fits};
+ghost use Rattle.codegen.specs.Labels.{AreNames, but_end, name_of};
+ghost use Rattle.codegen.specs.Laying.{Laid, left};
+ghost use Rattle.codegen.specs.Layout as layout;
+
+use crate::labels::{Labels, entry_after, labels_of, own_label};
+use crate::statements::statement;
+use expr_codegen::{Generator, value};
+use model::{Image, Instr, Label, Level, Seq, Stmt};
+use std::alloc::{AllocError, Global};
+
+/// An image that is made statement by statement.
+pub struct ImageBuilder<'a> {
+    labels: Labels<'a>,
+    generator: Generator,
+    /// Where the statements so far begin.
+    offsets: Vec<u32>,
+    /// The number of the first statement to run, once END is put.
+    entry: Option<u32>,
+}
+
+impl<'a> Drop for ImageBuilder<'a> {
+    fn drop(self) {
+        let ImageBuilder {
+            labels: _,
+            generator: _,
+            offsets: _,
+            entry: _,
+        } = self;
+    }
+}
+
+// Puts the code of each unevaluated expression; the offsets.
+fn put_expressions(alloc: Global, g: &mut Generator) -> Result<Vec<u32>, AllocError>
+    requires countable { AllByRecursion Countable (left (gen_of g.old)) }
+    requires room { size (gen_of g.old) < 2 ^ 31 }
+    ensures laid { IfOk result (λ os.
+        (fuel : ℕ) → weights.total weights.of_expr (left (gen_of g.old)) ≤ fuel
+        → Laid (layout.expressions fuel (left (gen_of g.old))) os.items (gen_of g.old)
+        (gen_of g.new)) }
+    ensures size { OnOk result (size (gen_of g.new) ≤ size (gen_of g.old)) }
+{
+    let mut offsets = Vec::new(alloc);
+    while let Some(e) = g.take()? {
+        offsets.push(g.at())?;
+        value(alloc, g, &e.as_ref().expr)?;
+        g.put(Instr::Ret)?;
+    }
+    Ok(offsets)
+}
+
+// Notes the label of a statement as a string, unless it is END, and where the statement is.
+fn put_label(
+    alloc: Global,
+    g: &mut Generator,
+    labels: &mut Vec<Label>,
+    name: Option<&[u8]>,
+    number: u32,
+) -> Result<(), AllocError>
+    requires { size (gen_of g.old) < 2 ^ 31 }
+    ensures { OnOk result (IsNamed (but_end (name_of name.entry)) number labels.old.items
+        labels.new.items (gen_of g.old) (gen_of g.new)) }
+{
+    match own_label(name) {
+        Some(label) => {
+            let string = g.string(alloc, label)?;
+            labels.push(Label {
+                string,
+                statement: number,
+            })?;
+            Ok(())
+        }
+        None => Ok(()),
+    }
+}
+
+// Notes the labels but END as strings, and where their statements are.
+fn put_labels(
+    alloc: Global,
+    g: &mut Generator,
+    names: &[Option<&[u8]>],
+) -> Result<Vec<Label>, AllocError>
+    requires few { length names.now < 2 ^ 30 }
+    requires room { size (gen_of g.old) + length names.now < 2 ^ 31 }
+    ensures texts { OnOk result ((gen_of g.new).texts
+        ≡ with_texts (own_texts (map but_end (map name_of names.now))) (gen_of g.old).texts) }
+    ensures code { OnOk result ((gen_of g.new).code ≡ (gen_of g.old).code) }
+    ensures labels { IfOk result (λ ls. ls.items
+        ≡ own_entries (gen_of g.new).texts 1 (map but_end (map name_of names.now))) }
+{
+    let mut labels = Vec::new(alloc);
+    let mut number = 1;
+    for name in names {
+        put_label(alloc, g, &mut labels, *name, number)?;
+        number += 1;
+    }
+    Ok(labels)
+}
+
+// The entry, or the first statement.
+fn entry_or_first(entry: Option<u32>) -> u32
+    ensures { result ≡ number_or 1 entry }
+{
+    match entry {
+        Some(number) => number,
+        None => 1,
+    }
+}
+
+// The number of the statement after those that begin here.
+fn next_number(offsets: &[u32]) -> u32
+    requires { length offsets.now < 16777216 }
+    ensures { result ≡ length offsets.now + 1 }
+{
+    offsets.len() as u32 + 1
+}
+
+impl<'a> ImageBuilder<'a> {
+    /// No statement is put, of a program whose statements give these labels.
+    pub fn new(alloc: Global, names: &[Option<&'a [u8]>]) -> Result<ImageBuilder<'a>, AllocError>
+        requires { length names.now ≤ 16777216 }
+        ensures { IfOk result (HasPut (map name_of names.now) []) }
+    {
+        let labels = labels_of(alloc, names)?;
+        Ok(ImageBuilder {
+            labels,
+            generator: Generator::new(alloc),
+            offsets: Vec::new(alloc),
+            entry: None,
+        })
+    }
+
+    /// Puts the next statement.
+    pub fn put(&mut self, alloc: Global, s: &Stmt) -> Result<(), AllocError>
+        requires countable { CountableStmt (stmt_of s.now) }
+        requires room { (names : List (Option trees.Bytes)) × (ss : List trees.Stmt) × HasPut names ss self.old
+            × (weights.total weights.weight ss + weights.weight (stmt_of s.now) ≤ 16777216)
+            × (length ss < 16777216) }
+        ensures { OnOk result ((names : List (Option trees.Bytes)) (ss : List trees.Stmt)
+            → HasPut names ss self.old → HasPut names (ss ++ stmt_of s.now ∷ []) self.new) }
+    {
+        let number = next_number(self.offsets.as_slice());
+        let at = self.generator.at();
+        self.offsets.push(at)?;
+        statement(alloc, &mut self.generator, &self.labels, number, s)?;
+        self.entry = entry_after(&self.labels, self.entry, s);
+        Ok(())
+    }
+
+    /// The image of the program, whose statements give these labels and begin at these cards.
+    pub fn finish(
+        self,
+        alloc: Global,
+        names: &[Option<&[u8]>],
+        cards: Seq<u32>,
+    ) -> Result<Image, AllocError>
+        requires few { length names.now ≤ 16777216 }
+        requires put { (ss : List trees.Stmt) × HasPut (map name_of names.now) ss self × Fits ss }
+        ensures { IfOk result (λ image. (ss : List trees.Stmt)
+            → HasPut (map name_of names.now) ss self.entry
+            → Fits ss → AreNames (map name_of names.now) ss
+            → image ≡ layout.generated_image cards ss) }
+    {
+        let ImageBuilder {
+            labels: _,
+            generator,
+            offsets,
+            entry,
+        } = self;
+        let mut g = generator;
+        let expressions = put_expressions(alloc, &mut g)?;
+        let named = put_labels(alloc, &mut g, names)?;
+        let (code, strings) = g.into_parts(alloc)?;
+        Ok(Image {
+            level: Level::Two,
+            entry: entry_or_first(entry),
+            strings,
+            labels: Seq::from_vec(named),
+            statements: Seq::from_vec(offsets),
+            cards,
+            expressions: Seq::from_vec(expressions),
+            patterns: Seq::new(alloc),
+            code,
+        })
+    }
+}

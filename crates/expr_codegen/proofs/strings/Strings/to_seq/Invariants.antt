@@ -1,6 +1,0 @@
-use Rattle.std.proofs.Common.{◌≡◌, map, take}
-use Rattle.expr_codegen.proofs.TextPlaces.{items}
-use Rattle.expr_codegen.proofs.strings.Strings.to_seq.Given as goal
-
-abbrev pub invariant-loop-text : goal.invariant-loop-text
-invariant-loop-text l = l.strings ≡ map items (take l.text-index l.texts)

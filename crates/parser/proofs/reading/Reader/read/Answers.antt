@@ -1,0 +1,14 @@
+use Rattle.std.proofs.Common.{refl}
+use Rattle.parser.proofs.Noting.{cause_is, none_given, none_more, tree_of}
+use Rattle.parser.proofs.reading.Reader.read.Goals as goal
+
+pub judge-requires : goal.judge-requires
+judge-requires c = tree_of c.args.statement.now.text c.as_slice.result.now c.in_ok-found.found c.in-Ok.tree c.new.result c.as_slice.ensures c.in_ok-found.ensures c.in-Ok.is c.new.ensures
+
+pub returns-in_ok-push-in-Err : goal.returns-in_ok-push-in-Err
+returns-in_ok-push-in-Err c =
+    let e = cause_is c.args.statement.now.text c.as_slice.result.now c.in_ok-found.found c.in-Err.cause c.as_slice.ensures c.in_ok-found.ensures c.in-Err.is in
+    record {
+      read = λ ss h. none_more ss c.args.statement.now c.args.self.now _ c.in-Err.cause h e refl c.in_ok-push-in-Err.ensures.items;
+      given = none_given c.args.statement.now c.args.self.now c.in-Err.cause e;
+    }

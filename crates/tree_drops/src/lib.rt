@@ -1,0 +1,188 @@
+//! Trees that are dropped on a small stack, however deep they are: their parts wait in a list, and nothing is called
+//! within itself.
+//!
+//! A `StmtTree` and an `ExprTree` own a statement and an expression that go so. `drop_statement(alloc, statement)` and
+//! its like drop statements and their parts that way.
+//!
+//!     let tree = StmtTree::new(alloc, statement);
+//!     let statement = &tree.statement;
+//!
+//! Promised: a tree is the statement or the expression that it was made of. Where memory for the list is refused, a part
+//! is dropped as it is, which takes a stack as deep as the part.
+#![tactic(auto)]
+
+ghost use Rattle.std.specs.Prelude.{◌≡◌};
+
+use model::{Argument, Body, Expr, Goto, Place, Stmt};
+use std::alloc::Global;
+use std::mem;
+
+/// Moves an expression to those that wait. Where memory for it is refused it goes at once.
+fn put(waiting: &mut Vec<Expr>, expr: &mut Expr) {
+    let taken = mem::replace(expr, Expr::Integer(0));
+    let _ = waiting.push(taken);
+}
+
+/// Moves the expressions among arguments to those that wait.
+fn put_all(waiting: &mut Vec<Expr>, arguments: &mut [Argument]) {
+    for argument in arguments {
+        if let Argument::Given(expr) = argument {
+            put(waiting, expr);
+        }
+    }
+}
+
+/// Moves the operands and arguments of an expression to those that wait.
+fn put_parts(waiting: &mut Vec<Expr>, expr: &mut Expr) {
+    match expr {
+        Expr::Unary(_, operand) => put(waiting, operand),
+        Expr::Binary(_, left, right) => {
+            put(waiting, left);
+            put(waiting, right);
+        }
+        Expr::Call(_, arguments) | Expr::Reference(_, arguments) => put_all(waiting, arguments),
+        Expr::Name(_) | Expr::Integer(_) | Expr::Literal(_) | Expr::Keyword(_) => {}
+    }
+}
+
+/// Drops all that waits, each after its parts.
+fn drop_all(waiting: &mut Vec<Expr>) {
+    for _ in 0..u64::MAX {
+        let Some(mut expr) = waiting.pop() else {
+            return;
+        };
+        put_parts(waiting, &mut expr);
+    }
+}
+
+/// Drops an expression.
+pub fn drop_expression(alloc: Global, expr: Expr) {
+    let mut expr = expr;
+    let mut waiting = Vec::new(alloc);
+    put_parts(&mut waiting, &mut expr);
+    drop_all(&mut waiting);
+}
+
+/// Drops an expression behind a pointer.
+#[inline(never)]
+pub fn drop_boxed(alloc: Global, expr: Box<Expr>) {
+    drop_expression(alloc, Box::into_inner(expr));
+}
+
+fn put_place(waiting: &mut Vec<Expr>, place: &mut Place) {
+    if let Place::Computed(expr) = place {
+        put_parts(waiting, expr);
+    }
+}
+
+fn put_object(waiting: &mut Vec<Expr>, object: &mut Option<Expr>) {
+    if let Some(expr) = object {
+        put_parts(waiting, expr);
+    }
+}
+
+fn put_body(waiting: &mut Vec<Expr>, body: &mut Body) {
+    match body {
+        Body::Nothing => {}
+        Body::Evaluate(subject) => put_parts(waiting, subject),
+        Body::Match(subject, pattern) => {
+            put_parts(waiting, subject);
+            put_parts(waiting, pattern);
+        }
+        Body::Assign(subject, object) => {
+            put_parts(waiting, subject);
+            put_object(waiting, object);
+        }
+        Body::Replace(subject, pattern, object) => {
+            put_parts(waiting, subject);
+            put_parts(waiting, pattern);
+            put_object(waiting, object);
+        }
+    }
+}
+
+fn put_goto(waiting: &mut Vec<Expr>, goto: &mut Goto) {
+    match goto {
+        Goto::Next => {}
+        Goto::Always(place) | Goto::OnSuccess(place) | Goto::OnFailure(place) => {
+            put_place(waiting, place)
+        }
+        Goto::Both(success, failure) => {
+            put_place(waiting, success);
+            put_place(waiting, failure);
+        }
+    }
+}
+
+/// Drops a place.
+pub fn drop_place(alloc: Global, place: Place) {
+    let mut place = place;
+    let mut waiting = Vec::new(alloc);
+    put_place(&mut waiting, &mut place);
+    drop_all(&mut waiting);
+}
+
+/// Drops what a statement does.
+pub fn drop_body(alloc: Global, body: Body) {
+    let mut body = body;
+    let mut waiting = Vec::new(alloc);
+    put_body(&mut waiting, &mut body);
+    drop_all(&mut waiting);
+}
+
+/// Drops a statement.
+pub fn drop_statement(alloc: Global, statement: Stmt) {
+    let mut statement = statement;
+    let mut waiting = Vec::new(alloc);
+    if let Stmt::Plain { body, goto, .. } = &mut statement {
+        put_body(&mut waiting, body);
+        put_goto(&mut waiting, goto);
+    }
+    drop_all(&mut waiting);
+}
+
+/// A statement's tree, which is dropped on a small stack.
+pub struct StmtTree {
+    /// The statement.
+    pub statement: Stmt,
+    alloc: Global,
+}
+
+impl Drop for StmtTree {
+    fn drop(self) {
+        let StmtTree { statement, alloc } = self;
+        drop_statement(alloc, statement);
+    }
+}
+
+impl StmtTree {
+    /// The tree of a statement.
+    pub fn new(alloc: Global, statement: Stmt) -> StmtTree
+        ensures { result.statement ≡ statement }
+    {
+        StmtTree { statement, alloc }
+    }
+}
+
+/// An expression's tree, which is dropped on a small stack.
+pub struct ExprTree {
+    /// The expression.
+    pub expr: Expr,
+    alloc: Global,
+}
+
+impl Drop for ExprTree {
+    fn drop(self) {
+        let ExprTree { expr, alloc } = self;
+        drop_expression(alloc, expr);
+    }
+}
+
+impl ExprTree {
+    /// The tree of an expression.
+    pub fn new(alloc: Global, expr: Expr) -> ExprTree
+        ensures { result.expr ≡ expr }
+    {
+        ExprTree { expr, alloc }
+    }
+}
