@@ -9,13 +9,17 @@ SEED ?=
 # What `install` puts into PREFIX.
 SNO ?= build/sno
 LIST ?= build/sno_list
+SNOBOL ?= build/snobol
 
 PROGRAM := crates/sno
 LISTER := crates/sno_list
+FOR_PEOPLE := crates/snobol
 BENCHES := $(wildcard crates/bench_*)
 export RT
 # The program as the gate leaves it: as LLVM built it, and as Rattle's own compiler did.
 BUILT := $(PROGRAM)/out/sno $(PROGRAM)/out/sno.by-rattle
+# The same of the program snobol.
+BUILT_FOR_PEOPLE := $(FOR_PEOPLE)/out/snobol $(FOR_PEOPLE)/out/snobol.by-rattle
 FAILING := crates/tests_failing/out/tests_failing
 # A part of the faults that `make refuse`, `failing`, `damage` and `deep` run whole.
 FAULTS := "tests/refuse --every 50 $(PROGRAM)/out/sno $(FAILING)" "tests/failing $(PROGRAM)/out/sno $(FAILING)" \
@@ -23,10 +27,11 @@ FAULTS := "tests/refuse --every 50 $(PROGRAM)/out/sno $(FAILING)" "tests/failing
 # What a proof of the program reads, folders too, so that a file that goes is noticed.
 PARTS = $(foreach crate,$(shell tools/below $(1) 2>/dev/null),$(foreach part,src specs proofs,crates/$(crate)/$(part)))
 SOURCES := $(shell find crates.txt $(wildcard $(call PARTS,sno)) 2>/dev/null)
+SNOBOL_SOURCES := $(shell find crates.txt $(wildcard $(call PARTS,snobol)) 2>/dev/null)
 LISTER_SOURCES := $(shell find crates.txt $(wildcard $(call PARTS,sno_list)) 2>/dev/null)
 PAGE_SOURCES := $(shell find crates.txt $(wildcard $(call PARTS,page)) 2>/dev/null)
 
-.PHONY: help run try sno list install uninstall release test decks pages bound ways load refuse failing damage deep wrong time check bench compare variants random fmt clean page site browse toolchain program deck input
+.PHONY: help run try sno snobol list install deb uninstall release test decks pages bound ways load refuse failing damage deep wrong time check bench compare variants random fmt clean page site browse toolchain program deck input
 .DEFAULT_GOAL := help
 
 help: ## list the targets
@@ -91,8 +96,18 @@ build/page.wasm: $(PAGE_SOURCES) $(wildcard page/*.c) tools/wasm | toolchain
 browse: build/sno page site ## decks on the page, in node, and the page and the site in the browsers that are installed
 	@tests/page build/sno build/page.wasm build/page.html build/site
 
-install: $(SNO) $(LIST) ## [PREFIX=folder]: put the proved programs, manual pages and completion there (/usr/local if none is told)
-	@tools/install "$(DESTDIR)$(PREFIX)" $(SNO) $(LIST) && echo "install: in $(DESTDIR)$(PREFIX)"
+snobol: build/snobol ## leave the proved program for people at build/snobol
+
+build/snobol: $(SNOBOL_SOURCES) | program
+	@echo "snobol: proving and building the program snobol (all lines go to build/log)" >&2
+	@(cd $(FOR_PEOPLE) && echo END | ../../tools/progress "$(RT) run -- -") >&2 || { echo "snobol: not proved, or not built" >&2; exit 1; }
+	@cp $(FOR_PEOPLE)/out/snobol build/snobol.new && mv build/snobol.new build/snobol
+
+install: $(SNO) $(LIST) $(SNOBOL) ## [PREFIX=folder]: put the proved programs, manual pages and completion there (/usr/local if none is told)
+	@tools/install "$(DESTDIR)$(PREFIX)" $(SNO) $(LIST) $(SNOBOL) && echo "install: in $(DESTDIR)$(PREFIX)"
+
+deb: $(SNO) $(LIST) $(SNOBOL) ## a Debian package of the proved programs, at build/fizhdova.deb
+	@mkdir -p build && tools/deb build/fizhdova.deb $(SNO) $(LIST) $(SNOBOL) && echo "deb: build/fizhdova.deb"
 
 uninstall: ## [PREFIX=folder]: take away what install put there
 	@tools/install --remove "$(DESTDIR)$(PREFIX)" && echo "uninstall: from $(DESTDIR)$(PREFIX)"
@@ -104,14 +119,15 @@ release: build/sno build/sno_list ## leave programs, manual pages, the page and 
 test: toolchain ## the gate: every proof from nothing, must-fail edits, tests, programs, decks (last line 'N passed, M failed')
 	@echo "test: proving every crate from nothing; this takes many minutes (all lines go to build/log)"
 	@mkdir -p build && touch build/began
-	@RT_JOBS=$${RT_JOBS:-$$(tools/jobs)} tools/progress "$(RT) ci" "tools/wrong --texts" "tests/docs $(PROGRAM)/out/sno $(LISTER)/out/sno_list" "tests/run $(BUILT)" "tests/pipe $(PROGRAM)/out/sno --list $(LISTER)/out/sno_list" "tests/load $(PROGRAM)/out/sno" "tests/bound --decks 100 $(PROGRAM)/out/sno" "tests/ways $(BUILT)" $(FAULTS)
+	@RT_JOBS=$${RT_JOBS:-$$(tools/jobs)} tools/progress "$(RT) ci" "tools/wrong --texts" "tests/docs $(PROGRAM)/out/sno $(LISTER)/out/sno_list $(FOR_PEOPLE)/out/snobol" "tests/run $(BUILT)" "tests/run --commands snobol $(BUILT_FOR_PEOPLE)" "tests/terminal $(FOR_PEOPLE)/out/snobol" "tests/ported $(FOR_PEOPLE)/out/snobol" "tests/pipe $(PROGRAM)/out/sno --list $(LISTER)/out/sno_list" "tests/load $(PROGRAM)/out/sno" "tests/bound --decks 100 $(PROGRAM)/out/sno" "tests/ways $(BUILT)" $(FAULTS)
 	@cp $(PROGRAM)/out/sno build/sno.new && touch -r build/began build/sno.new && mv build/sno.new build/sno
 
-decks: build/sno ## the decks of tests/ alone, on the proved program
+decks: build/sno build/snobol ## the decks and commands of tests/ alone, on the proved programs
 	@tests/run build/sno && tests/pipe build/sno
+	@tests/run --commands snobol build/snobol && tests/terminal build/snobol && tests/ported build/snobol
 
-pages: build/sno build/sno_list ## what the pages name and show, on the proved program
-	@tests/docs build/sno build/sno_list
+pages: build/sno build/sno_list build/snobol ## what the pages name and show, on the proved programs
+	@tests/docs build/sno build/sno_list build/snobol
 
 bound: build/sno ## 2,000 random decks on the proved program and on the reference of tests/, with steps and rules
 	@tests/bound build/sno --decks 2000

@@ -16,6 +16,7 @@ from .command import ROOT, is_there, run
 
 GRAMMAR = ROOT / "editors" / "vscode" / "syntaxes" / "snobol4.tmLanguage.json"
 VIM = ROOT / "editors" / "vim"
+VSCODE = ROOT / "editors" / "vscode"
 # Decks of more bytes take too long.
 MOST = 20000
 # Which kind of token a scope, or a group of vim, stands for; any other is no token. The longest beginning counts.
@@ -295,8 +296,47 @@ def vim_checks():
         yield str(file.relative_to(ROOT)), f"the lexer's tokens by the syntax of vim: {found}", not found
 
 
+# Lines of `snobol`, and what is to be seen of each: file, card, column, kind and code, 0 where there is no column.
+MESSAGES = {
+    "a.sno:1:10: error L1: a byte that begins no token": ("a.sno", 1, 10, "e", "L1"),
+    "a.sno:3: error E3 in statement 2: a string that isn't an integer in range": ("a.sno", 3, 0, "e", "E3"),
+    "b.sno:2:6: warning case: the variable x differs in case alone from X": ("b.sno", 2, 6, "w", "case"),
+    "b.sno:4: note ported: tabs are blanks": ("b.sno", 4, 0, "n", "ported"),
+}
+
+
+def matcher_checks():
+    """The problem matcher of Visual Studio Code on lines of `snobol`."""
+    contributes = json.loads((VSCODE / "package.json").read_text(encoding="utf-8"))["contributes"]
+    pattern = contributes["problemMatchers"][0]["pattern"]
+    for line, wanted in MESSAGES.items():
+        found = re.fullmatch(pattern["regexp"], line)
+        groups = [found[pattern[name]] for name in ("file", "line", "column", "severity", "code")] if found else None
+        seen = (groups[0], int(groups[1]), int(groups[2] or 0), groups[3][0], groups[4]) if groups else None
+        yield "editors/vscode/package.json", f"the problem matcher on {line}: {seen}", seen == wanted
+
+
+def compiler_checks():
+    """The compiler file of vim on lines of `snobol`."""
+    with tempfile.TemporaryDirectory(prefix="sno-vim-") as name:
+        folder = pathlib.Path(name)
+        (folder / "told").write_text("".join(f"{line}\n" for line in MESSAGES), encoding="ascii")
+        rows = "map(getqflist(), {_, it -> [bufname(it.bufnr), it.lnum, it.col, it.type, it.text]})"
+        words = ["vim", "-u", "NONE", "-i", "NONE", "-n", "-es", "--cmd", "set nocompatible", "-c", f"set runtimepath^={VIM}"]
+        words += ["-c", "compiler snobol4", "-c", "cgetfile told"]
+        words += ["-c", f"call writefile([json_encode({rows})], 'seen')", "-c", "qall!"]
+        run(words, folder=folder)
+        file = folder / "seen"
+        seen = json.loads(file.read_text(encoding="utf-8")) if file.is_file() else []
+    for row, wanted in zip(seen + [None] * len(MESSAGES), MESSAGES.values()):
+        there = row and (*row[:4], row[4].partition(":")[0].partition(" ")[0]) == wanted
+        yield "editors/vim/compiler/snobol4.vim", f"a message in the list of errors: {row}", there
+
+
 def checks():
     """Both grammars."""
     yield from grammar_checks()
+    yield from matcher_checks()
     if is_there("vim", "the syntax of vim"):
         yield from vim_checks()
+        yield from compiler_checks()

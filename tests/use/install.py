@@ -9,6 +9,7 @@ from .command import ROOT, is_there, run
 PLACE = "Makefile: install"
 FILES = {
     "sno": ["bin/sno", "share/man/man1/sno.1", "share/bash-completion/completions/sno"],
+    "snobol": ["bin/snobol", "share/man/man1/snobol.1", "share/bash-completion/completions/snobol"],
     "sno_list": ["bin/sno_list", "share/man/man1/sno_list.1", "share/bash-completion/completions/sno_list"],
 }
 # What is typed, and what is offered, in a folder with the files a.sno and a.module.
@@ -20,6 +21,14 @@ COMPLETED = [
     ("sno", ["sno", "run", "a.module", "5", "=", "a.s"], ["a.sno"]),
     ("sno_list", ["sno_list", "--error", "E16"], ["E16"]),
     ("sno_list", ["sno_list", "--c"], ["--code"]),
+    ("snobol", ["snobol", "ch"], ["check"]),
+    ("snobol", ["snobol", "a"], ["a.sno", "a.module"]),
+    ("snobol", ["snobol", "check", "--w"], ["--warnings"]),
+    ("snobol", ["snobol", "check", "--warnings", "=", "e"], ["error"]),
+    ("snobol", ["snobol", "--messages", "="], ["text", "json", "codes"]),
+    ("snobol", ["snobol", "a.sno", "5", "=", "a.s"], ["a.sno"]),
+    ("snobol", ["snobol", "explain", "E16"], ["E16"]),
+    ("snobol", ["snobol", "explain", "beh"], ["behind-end"]),
 ]
 
 
@@ -30,8 +39,9 @@ def files_below(folder):
 
 def made(target, prefix, programs):
     """What `make` does for a target, with programs that are there already."""
-    sno, other = (program if program.exists() else "" for program in programs)
-    return run(["make", "-s", target, f"PREFIX={prefix}", f"SNO={sno}", f"LIST={other}"], folder=ROOT)
+    given = [program if program.exists() else "" for program in programs]
+    words = [f"{name}={program}" for name, program in zip(("SNO", "LIST", "SNOBOL"), given)]
+    return run(["make", "-s", target, f"PREFIX={prefix}", *words], folder=ROOT)
 
 
 def page_checks(prefix):
@@ -62,20 +72,38 @@ def completion_checks(file, folder):
         yield PLACE, f"completion of {' '.join(words)}: {got}", got == wanted
 
 
-def checks(sno, other):
+def package_checks(folder, programs):
+    """A Debian package, installed into a folder of its own and removed."""
+    file, root = folder / "fizhdova.deb", folder / "root"
+    ran = run([ROOT / "tools" / "deb", file, *programs])
+    yield PLACE, f"a Debian package: {ran[1].decode()}", file.is_file() and ran[2] == 0
+    (root / "var/lib/dpkg/updates").mkdir(parents=True)
+    (root / "var/lib/dpkg/info").mkdir()
+    (root / "var/lib/dpkg/status").write_bytes(b"")
+    dpkg = ["dpkg", "--root", root, "--force-not-root", "--force-depends", "--force-bad-path", "--log=/dev/null"]
+    ran = run([*dpkg, "--install", file])
+    yield PLACE, f"the package installed: {ran[1].decode()}", ran[2] == 0
+    out, _, status = run([root / "usr/bin/sno"], b" OUTPUT = 'HI'\nEND\n")
+    yield PLACE, "a program of the package that runs a deck", (out, status) == (b"HI\n", 0)
+    ran = run([*dpkg, "--purge", "fizhdova"])
+    yield PLACE, f"nothing left of the package: {files_below(root / 'usr')}", ran[2] == 0 and not files_below(root / "usr")
+
+
+def checks(sno, *others):
     """Installs into a new folder, looks at what is there, and takes it away again."""
     with tempfile.TemporaryDirectory(prefix="sno-install-") as name:
         folder = pathlib.Path(name)
-        programs = [folder / "built" / "sno", folder / "built" / "sno_list"]
+        programs = [folder / "built" / name for name in ("sno", "sno_list", "snobol")]
         programs[0].parent.mkdir()
-        for program, given in zip(programs, (sno, other)):
+        for program, given in zip(programs, (sno, *others)):
             if given:
                 shutil.copy(given, program)
         prefix = folder / "prefix"
         ran = made("install", prefix, programs)
         yield PLACE, f"an installation: {ran[1].decode()}", ran[2] == 0
         wanted = [file for program in programs if program.exists() for file in FILES[program.name]]
-        wanted = sorted([*wanted, "share/man/man7/snobol4.7"])
+        library = [f"share/snobol/{deck.name}" for deck in (ROOT / "share" / "snobol").glob("*.sno")]
+        wanted = sorted([*wanted, *library, "share/man/man7/snobol4.7"])
         yield PLACE, f"what is installed: {files_below(prefix)}", files_below(prefix) == wanted
         out, _, status = run([prefix / "bin/sno"], b" OUTPUT = 'HI'\nEND\n")
         yield PLACE, "an installed program that runs a deck", (out, status) == (b"HI\n", 0)
@@ -83,5 +111,7 @@ def checks(sno, other):
         completion = prefix / "share/bash-completion/completions/sno"
         (folder / "decks").mkdir()
         yield from completion_checks(completion, folder / "decks")
+        if is_there("dpkg-deb", "a Debian package"):
+            yield from package_checks(folder, [program for program in programs if program.exists()])
         ran = made("uninstall", prefix, programs)
         yield PLACE, "nothing left after `make uninstall`", ran[2] == 0 and not files_below(prefix)

@@ -1,10 +1,9 @@
 //! The cards of a deck with what is told of them.
 
 use crate::code::{Reached, statement};
-use crate::explained::{of_card, of_cause};
 use crate::lines::{Style, caret, loud, sentence, text};
-use crate::notes::Note;
-use crate::walk::next_line;
+use card_text::{Note, next_line};
+use codes::{card_code, cause_code};
 use model::{CardFault, Image, Statement};
 use std::io::{self, Write};
 
@@ -53,7 +52,7 @@ fn card_fault<W: Write>(
     loud(style, true, out)?;
     writeln!(out, "{:>16}{fault}", "")?;
     loud(style, false, out)?;
-    sentence(style, INDENT, of_card(fault.rule), out)
+    sentence(style, INDENT, card_code(fault.rule).help, out)
 }
 
 fn write_note<W: Write>(style: Style, note: Note, out: &mut W) -> io::Result<()> {
@@ -63,7 +62,7 @@ fn write_note<W: Write>(style: Style, note: Note, out: &mut W) -> io::Result<()>
     }
     writeln!(out, "{:>16}statement {} {}", "", note.number, note.cause)?;
     loud(style, false, out)?;
-    sentence(style, INDENT, of_cause(note.cause), out)
+    sentence(style, INDENT, cause_code(note.cause).help, out)
 }
 
 // Writes the notes of a card, which are the first of these, and gives the others.

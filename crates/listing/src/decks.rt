@@ -9,8 +9,8 @@ ghost use Rattle.model.specs.Deck.Faults.{verdict, Accepted};
 
 use crate::cards::{Known, cards};
 use crate::lines::Style;
-use crate::notes::notes;
 use card_reader::read_deck;
+use card_text::fault_notes;
 use driver::{Refusal, compile_deck};
 use model::{CardFault, StmtFault};
 use module_format::read_image;
@@ -71,7 +71,7 @@ fn of_faults<W: Write>(
     let Ok(deck) = read_deck(alloc, bytes) else {
         return Err(Trouble::Memory);
     };
-    let notes = notes(alloc, bytes, &deck, faults)?;
+    let notes = fault_notes(alloc, bytes, &deck, faults)?;
     let known = Known {
         statements: deck.statements.as_slice(),
         notes: notes.as_slice(),

@@ -1,9 +1,9 @@
 //! The program's words, its files and its exit status.
 
 use crate::decks::{Trouble, list};
-use crate::errors::{Explained, error};
 use crate::terminal::output_style;
 use crate::words::{Job, read_job};
+use codes::{Code, run_code_named};
 use std::alloc::AllocError;
 use std::env::{self, Env};
 use std::fs::{self, Files};
@@ -109,14 +109,14 @@ fn list_deck<'a, R: Env + Files + Input + Print + AllocGlobal>(
     }
 }
 
-fn print_error<R: Print>(rt: &R, error: Explained) -> io::Result<()> {
-    println!(rt; "{}: {}", error.name, error.meaning)?;
-    println!(rt; "\n{}\n", error.when)?;
+fn print_error<R: Print>(rt: &R, error: Code) -> io::Result<()> {
+    println!(rt; "{}: {}", error.name, error.text)?;
+    println!(rt; "\n{}\n", error.help)?;
     println!(rt; "A deck that ends so:\n\n{}", error.deck)
 }
 
 fn explain<'a, R: Print>(rt: &R, name: &'a str) -> Result<u8, Told<'a>> {
-    let Some(error) = error(name) else {
+    let Some(error) = run_code_named(name) else {
         return Err(Told::NoSuchError(name));
     };
     match print_error(rt, error) {

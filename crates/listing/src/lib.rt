@@ -13,18 +13,13 @@
 
 mod cards;
 mod code;
-mod cut;
 mod decks;
-mod errors;
-mod explained;
 mod files;
 mod lines;
-mod notes;
-mod places;
 mod terminal;
-mod walk;
 mod words;
 
 pub use decks::{Trouble, list};
 pub use files::run;
 pub use lines::Style;
+pub use terminal::output_style;

@@ -54,6 +54,6 @@ fn wants_none<R: Env>(rt: &R) -> bool {
 }
 
 /// How lines are written on standard output.
-pub(crate) fn output_style<R: Env + Files + AllocGlobal>(rt: &R) -> Style {
+pub fn output_style<R: Env + Files + AllocGlobal>(rt: &R) -> Style {
     Style::new(width(rt), is_terminal(rt) && !wants_none(rt))
 }

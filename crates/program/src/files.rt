@@ -97,7 +97,9 @@ fn write_over<R: Files + AllocGlobal>(
     write_beside(rt, path.as_str(), bytes, Some(metadata.permissions()))
 }
 
-fn write_whole<R: Files + AllocGlobal>(rt: &R, file: &str, bytes: &[u8]) -> io::Result<()> {
+/// Writes a file, whose old bytes go. Whenever the program is ended, a regular file has all of its old bytes, or all of
+/// the new.
+pub fn write_whole<R: Files + AllocGlobal>(rt: &R, file: &str, bytes: &[u8]) -> io::Result<()> {
     let mut how = OpenOptions::new();
     how.write(true);
     match how.open(rt, file) {
@@ -112,8 +114,7 @@ fn write_whole<R: Files + AllocGlobal>(rt: &R, file: &str, bytes: &[u8]) -> io::
     }
 }
 
-/// Writes a file, whose old bytes go. Whenever the program is ended, a regular file has all of its old bytes, or all of
-/// the new.
+/// Writes a file so, or says what is to be told.
 pub(crate) fn write_file<'a, R: Files + AllocGlobal>(
     rt: &R,
     file: &'a str,

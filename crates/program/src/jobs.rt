@@ -13,7 +13,7 @@ use std::io::{self, BufWriter, Input, Print, Write};
 use unit_io::FileUnits;
 
 /// How a run came out after what it kept back was written, but for the unit that is told.
-fn flushed(ran: Ran, written: Result<(), u8>) -> Ran {
+pub fn flushed(ran: Ran, written: Result<(), u8>) -> Ran {
     match (ran.status, written) {
         (Status::Stopped(_), _) | (_, Ok(())) => ran,
         (_, Err(unit)) => Ran {
@@ -27,7 +27,7 @@ fn flushed(ran: Ran, written: Result<(), u8>) -> Ran {
 }
 
 /// The system on which the units of a run open their files.
-fn system_of<'a, R: Files + AllocGlobal>(
+pub fn system_of<'a, R: Files + AllocGlobal>(
     rt: &'a R,
     files: &[UnitFile<'_>],
 ) -> Result<RunSystem<'a, R>, Told<'static>> {
@@ -38,7 +38,7 @@ fn system_of<'a, R: Files + AllocGlobal>(
 }
 
 /// Standard input and output, and the files that are given.
-fn units_of<'a, 'f: 'a, R: Files + Input + Print>(
+pub fn units_of<'a, 'f: 'a, R: Files + Input + Print>(
     alloc: Global,
     system: &'a R,
     files: &[UnitFile<'f>],

@@ -6,6 +6,8 @@
 //!
 //!     let status = run(&runtime, &runtime.stdin(), &runtime.stdout(), &mut errors);
 //!
+//! The program `snobol` too runs decks on the units that `units_of` gives, on the system of `system_of`.
+//!
 //! Nothing is proved of it but that it returns: what files and terminals hold and give isn't stated. Decks and commands
 //! of tests/ show the rest.
 #![tactic(auto)]
@@ -17,6 +19,8 @@ mod system;
 
 use crate::jobs::perform;
 use driver::{Told, read_words, report};
+pub use files::write_whole;
+pub use jobs::{flushed, system_of, units_of};
 use std::alloc::AllocError;
 use std::env::{self, Env};
 use std::fs::Files;
@@ -24,6 +28,7 @@ use std::io::{ErrorKind, Input, Print, Write};
 use std::os::fd::AsFd;
 use std::process::ExitCode;
 use streams::{Stream, Streams};
+pub use system::RunSystem;
 
 /// The exit status where nothing can be told, since standard error takes no line.
 const NOTHING_TOLD: u8 = 6;

@@ -25,7 +25,7 @@ enum Place {
 /// another byte is the last that is given. So a record is over `&MAXLNGTH` exactly where it was before it was cut, with
 /// and without its trailing blanks, and no more of it need be held.
 #[derive(Drop)]
-pub(crate) struct CutRecords<T: Drop> {
+pub struct CutRecords<T: Drop> {
     source: T,
     place: Place,
     shown: Option<[u8; 1]>,
@@ -55,7 +55,7 @@ fn first_other(bytes: &[u8]) -> Option<usize>
 
 impl<T: Drop> CutRecords<T> {
     /// Nothing is read yet.
-    pub(crate) fn new(source: T) -> CutRecords<T> {
+    pub fn new(source: T) -> CutRecords<T> {
         CutRecords {
             source,
             place: Place::Within(0),

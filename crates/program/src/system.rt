@@ -41,7 +41,7 @@ impl Opened {
 
 /// A system on which a run opens files for its units. No regular file is opened that a unit or a standard stream has
 /// open already, if one of them writes it; and long records are read as `CutRecords` are.
-pub(crate) struct RunSystem<'a, R> {
+pub struct RunSystem<'a, R> {
     rt: &'a R,
     opened: RefCell<Vec<Opened>>,
 }
@@ -65,7 +65,7 @@ const NO_UNIT: u8 = 255;
 
 impl<'a, R: Files + AllocGlobal> RunSystem<'a, R> {
     /// The system, for a run to which these files are given.
-    pub(crate) fn new(rt: &'a R, files: &[UnitFile<'_>]) -> Result<RunSystem<'a, R>, AllocError> {
+    pub fn new(rt: &'a R, files: &[UnitFile<'_>]) -> Result<RunSystem<'a, R>, AllocError> {
         let mut opened = Vec::new(rt.alloc());
         if !files.is_empty() {
             for (name, unit, is_written) in STREAMS {

@@ -1,0 +1,107 @@
+//! A statement's text cut into pieces, those of a faulty text too.
+
+use std::alloc::{AllocError, Global};
+
+/// The bytes that are marks.
+const MARKS: &[u8] = b"()<>,=:*/+-.$@?&|~";
+
+/// What a piece is.
+#[derive(Clone, Copy, Debug, PartialEq, Eq)]
+pub enum Kind {
+    Blank,
+    Word,
+    Digits,
+    Literal,
+    /// A literal without its closing quote.
+    Unclosed,
+    Mark,
+    /// A byte that begins no token.
+    Stray,
+}
+
+/// A piece of a text: what it is, its first byte, and where it stands.
+#[derive(Clone, Copy, Debug)]
+pub struct Piece {
+    pub kind: Kind,
+    pub first: u8,
+    pub start: usize,
+    pub end: usize,
+}
+
+impl Piece {
+    /// Its bytes in the text.
+    pub fn bytes<'a>(&self, text: &'a [u8]) -> &'a [u8] {
+        text.get(self.start..self.end).unwrap_or(&[])
+    }
+
+    /// Whether it is this mark of one byte.
+    pub fn is_mark(&self, mark: u8, text: &[u8]) -> bool {
+        self.kind == Kind::Mark && self.first == mark && self.bytes(text).len() == 1
+    }
+
+    // Whether a byte behind it belongs to it.
+    fn takes(&self, byte: u8, at: usize) -> bool {
+        match self.kind {
+            Kind::Blank => byte == b' ',
+            Kind::Word => byte.is_ascii_alphanumeric() || byte == b'.' || byte == b'_',
+            Kind::Digits => byte.is_ascii_digit(),
+            Kind::Unclosed => true,
+            Kind::Mark => {
+                self.first == b'*' && byte == b'*' && at == self.start.saturating_add(1)
+            }
+            Kind::Literal | Kind::Stray => false,
+        }
+    }
+
+    // The piece with one byte more.
+    fn grown(self, byte: u8, at: usize) -> Piece {
+        let is_closed = self.kind == Kind::Unclosed && byte == self.first;
+        let kind = if is_closed { Kind::Literal } else { self.kind };
+        Piece {
+            kind,
+            end: at.saturating_add(1),
+            ..self
+        }
+    }
+}
+
+// What a piece is that begins with this byte.
+fn kind_of(byte: u8) -> Kind {
+    match byte {
+        b' ' => Kind::Blank,
+        b'A'..=b'Z' | b'a'..=b'z' => Kind::Word,
+        b'0'..=b'9' => Kind::Digits,
+        b'\'' | b'"' => Kind::Unclosed,
+        _ if MARKS.contains(&byte) => Kind::Mark,
+        _ => Kind::Stray,
+    }
+}
+
+fn begun(byte: u8, at: usize) -> Piece {
+    Piece {
+        kind: kind_of(byte),
+        first: byte,
+        start: at,
+        end: at.saturating_add(1),
+    }
+}
+
+/// The pieces of a text, in order.
+pub fn cut_text(alloc: Global, text: &[u8]) -> Result<Vec<Piece>, AllocError> {
+    let mut pieces = Vec::new(alloc);
+    let mut open: Option<Piece> = None;
+    for (at, byte) in text.iter().copied().enumerate() {
+        open = match open {
+            Some(piece) if piece.takes(byte, at) => Some(piece.grown(byte, at)),
+            Some(piece) => {
+                pieces.push(piece)?;
+                Some(begun(byte, at))
+            }
+            None => Some(begun(byte, at)),
+        };
+    }
+    if let Some(piece) = open {
+        pieces.push(piece)?;
+    }
+    Ok(pieces)
+}

@@ -1,0 +1,21 @@
+//! Where on the cards of a deck something stands, those of a faulty deck too.
+//!
+//! `cut_text(alloc, text)` cuts a statement's text into pieces, `fault_notes(alloc, bytes, deck, faults)` finds the cards
+//! and columns of faulty statements, `mistake_notes` says too why a statement has no form that is
+//! permitted, as far as its pieces show it, and `Walk` goes over the bytes of cards as they are joined to statements.
+//!
+//!     let notes = fault_notes(alloc, bytes, &deck, &faults)?;
+//!
+//! Promised: each call returns. Cards and columns are tested.
+#![tactic(auto)]
+
+mod cut;
+mod mistakes;
+mod notes;
+mod places;
+mod walk;
+
+pub use cut::{Kind, Piece, cut_text};
+pub use mistakes::Mistake;
+pub use notes::{Note, fault_notes, mistake_notes};
+pub use walk::{Joined, Spot, Walk, columns, joining, next_line};

@@ -1,0 +1,147 @@
+//! What is done for each row of the table of words.
+
+use crate::files::{Outcome, read_decks, read_file, write_file};
+use crate::looking::{check, how_for, list_decks};
+use crate::porting::port_deck;
+use crate::reporting::{form_for, no_memory, report_alone, report_outcome, unwritten};
+use crate::running::{Asked, run_decks};
+use crate::statuses::{BAD_WORDS, DONE, FAILED};
+use codes::{Code, code_named};
+use driver::{ShowFault, Told, compile_deck, show};
+use messages::Form;
+use snobol_words::Job;
+use std::alloc::Global;
+use std::env::Env;
+use std::fs::Files;
+use std::io::{self, BufWriter, Input, IsTerminal, Print, Write};
+
+fn print_code<R: Print>(rt: &R, code: Code) -> io::Result<()> {
+    println!(rt; "{}: {}\n\n{}", code.name, code.text, code.help)?;
+    if code.deck.is_empty() {
+        return Ok(());
+    }
+    let how = if code.name.starts_with("E") {
+        "ends"
+    } else {
+        "is refused"
+    };
+    println!(rt; "\nA deck that {how} so:\n\n{}", code.deck)
+}
+
+fn explain<R: Files + Print + AllocGlobal, W: Write>(rt: &R, name: &str, errors: &mut W) -> u8 {
+    let Some(code) = code_named(name) else {
+        return match writeln!(errors, "error: no code '{name}'") {
+            Ok(()) => BAD_WORDS,
+            Err(_) => FAILED,
+        };
+    };
+    match print_code(rt, code) {
+        Ok(()) => DONE,
+        Err(_) => unwritten(rt, Form::Lines, errors),
+    }
+}
+
+fn compile<R: Files + Input + AllocGlobal, W: Write>(
+    rt: &R,
+    deck: &str,
+    module: &str,
+    form: Form,
+    errors: &mut W,
+) -> u8 {
+    let alloc = rt.alloc();
+    let sources = match read_decks(rt, &[deck]) {
+        Ok(sources) => sources,
+        Err(outcome) => return report_alone(alloc, form, &outcome, "", errors),
+    };
+    match compile_deck(alloc, sources.bytes()) {
+        Ok(spelling) => match write_file(rt, module, &spelling) {
+            Ok(()) => DONE,
+            Err(outcome) => report_alone(alloc, form, &outcome, module, errors),
+        },
+        Err(refusal) => {
+            let outcome = Outcome::from(Told::Refused(refusal));
+            report_outcome(alloc, form, &outcome, &sources, &[], module, errors)
+        }
+    }
+}
+
+// Writes a module's instructions.
+fn write_module<W: Write>(alloc: Global, bytes: &[u8], out: &mut W) -> Result<(), ShowFault> {
+    show(alloc, bytes, out)?;
+    out.flush()?;
+    Ok(())
+}
+
+fn show_module<R: Files + Input + Print + AllocGlobal, W: Write>(
+    rt: &R,
+    module: &str,
+    form: Form,
+    errors: &mut W,
+) -> u8 {
+    let alloc = rt.alloc();
+    let Ok(mut out) = BufWriter::new(alloc, io::writer(rt)) else {
+        return no_memory(rt, form, errors);
+    };
+    let bytes = match read_file(rt, module) {
+        Ok(bytes) => bytes,
+        Err(outcome) => return report_alone(alloc, form, &outcome, module, errors),
+    };
+    match write_module(alloc, &bytes, &mut out) {
+        Ok(()) => DONE,
+        Err(ShowFault::Module(fault)) => {
+            let outcome = Outcome::from(Told::BadModule(fault));
+            report_alone(alloc, form, &outcome, module, errors)
+        }
+        Err(ShowFault::Write(_)) => unwritten(rt, form, errors),
+    }
+}
+
+/// Does what it is asked to do, writes messages to `errors`, and gives the exit status.
+pub(crate) fn perform<R: Env + Files + Input + Print + AllocGlobal, W: Write + IsTerminal>(
+    rt: &R,
+    job: Job<'_>,
+    errors: &mut W,
+) -> u8 {
+    match job {
+        Job::Run {
+            given,
+            records,
+            steps,
+            port,
+            form,
+        } => {
+            let asked = Asked {
+                records: &records,
+                steps,
+                port,
+                form: form_for(form, &*errors),
+            };
+            run_decks(rt, &given, asked, errors)
+        }
+        Job::Check { decks, reporting } => {
+            let how = how_for(reporting, &*errors);
+            check(rt, &decks, how, errors)
+        }
+        Job::List {
+            decks,
+            has_code,
+            reporting,
+        } => {
+            let how = how_for(reporting, &*errors);
+            list_decks(rt, &decks, has_code, how, errors)
+        }
+        Job::Explain { code } => explain(rt, code, errors),
+        Job::Compile { deck, module, form } => {
+            let form = form_for(form, &*errors);
+            compile(rt, deck, module, form, errors)
+        }
+        Job::Port { deck, folds, form } => {
+            let form = form_for(form, &*errors);
+            port_deck(rt, deck, folds, form, errors)
+        }
+        Job::Show { module, form } => {
+            let form = form_for(form, &*errors);
+            show_module(rt, module, form, errors)
+        }
+    }
+}

@@ -1,0 +1,120 @@
+//! What is reported at the end, and the exit status.
+
+use crate::files::{Outcome, is_output_piped};
+use crate::statuses::{BAD_MODULE, BAD_WORDS, FAILED, REFUSED, status_of};
+use codes::Topic;
+use driver::{Refusal, Told, UnitFile, report};
+use fault_messages::{of_file, of_memory, of_module, of_refusal, of_run};
+use messages::{Form, Message, Sources, write_messages};
+use model::{FormatFault, FormatRule, LoadFault};
+use std::alloc::{AllocError, Global};
+use std::fs::Files;
+use std::io::{IsTerminal, Write};
+
+/// The form in which messages are written, where the words may say none.
+pub(crate) fn form_for<W: IsTerminal>(asked: Option<Form>, errors: &W) -> Form {
+    match asked {
+        Some(form) => form,
+        None if errors.is_terminal() => Form::Text,
+        None => Form::Lines,
+    }
+}
+
+// The messages of what is reported.
+fn messages_of(
+    alloc: Global,
+    outcome: &Outcome<'_>,
+    sources: &Sources<'_>,
+    files: &[UnitFile<'_>],
+    module: &str,
+) -> Result<Vec<Message>, AllocError> {
+    let reason = outcome.reason.as_ref();
+    let message = match &outcome.told {
+        Told::Refused(refusal) => return of_refusal(alloc, sources, refusal),
+        Told::BadModule(fault) => Some(of_module(alloc, module, *fault)?),
+        Told::Ran(ran) => of_run(alloc, sources, *ran, files, reason)?,
+        Told::CannotRead(file) => Some(of_file(alloc, file, Topic::CannotRead, reason)?),
+        Told::CannotWrite(file) => Some(of_file(alloc, file, Topic::CannotWrite, reason)?),
+        Told::NoMemory | Told::BadCommandLine => Some(of_memory(alloc, sources.last_name())?),
+    };
+    let mut messages = Vec::new(alloc);
+    if let Some(message) = message {
+        messages.push(message)?;
+    }
+    Ok(messages)
+}
+
+// The exit status of what is reported.
+fn exit_status(told: &Told<'_>) -> u8 {
+    match told {
+        Told::BadCommandLine => BAD_WORDS,
+        Told::Refused(Refusal::Memory) => FAILED,
+        Told::Refused(_) => REFUSED,
+        Told::BadModule(
+            LoadFault::Format(
+                FormatFault {
+                    rule: FormatRule::Memory,
+                    ..
+                },
+            ),
+        ) => FAILED,
+        Told::BadModule(_) => BAD_MODULE,
+        Told::Ran(ran) => status_of(ran.status),
+        Told::CannotRead(_) | Told::CannotWrite(_) | Told::NoMemory => FAILED,
+    }
+}
+
+/// Writes what is reported to `errors`, as far as that and memory permit, and gives the exit status.
+pub(crate) fn report_outcome<W: Write>(
+    alloc: Global,
+    form: Form,
+    outcome: &Outcome<'_>,
+    sources: &Sources<'_>,
+    files: &[UnitFile<'_>],
+    module: &str,
+    errors: &mut W,
+) -> u8 {
+    if form == Form::Codes {
+        return report(&outcome.told, errors).unwrap_or(FAILED);
+    }
+    let Ok(messages) = messages_of(alloc, outcome, sources, files, module) else {
+        return report(&Told::NoMemory, errors).unwrap_or(FAILED);
+    };
+    match write_messages(alloc, form, &messages, sources.bytes(), errors) {
+        Ok(()) => exit_status(&outcome.told),
+        Err(_) => FAILED,
+    }
+}
+
+/// The same where there is no deck and no unit.
+pub(crate) fn report_alone<W: Write>(
+    alloc: Global,
+    form: Form,
+    outcome: &Outcome<'_>,
+    module: &str,
+    errors: &mut W,
+) -> u8 {
+    let sources = Sources::new(alloc);
+    report_outcome(alloc, form, outcome, &sources, &[], module, errors)
+}
+
+/// What is reported where standard output took no line; nothing where nobody reads it.
+pub(crate) fn unwritten<R: Files + AllocGlobal, W: Write>(
+    rt: &R,
+    form: Form,
+    errors: &mut W,
+) -> u8 {
+    if is_output_piped(rt) {
+        return FAILED;
+    }
+    let alloc = rt.alloc();
+    let outcome = Outcome::from(Told::CannotWrite("standard output"));
+    report_alone(alloc, form, &outcome, "", errors)
+}
+
+/// What is reported where memory was refused.
+pub(crate) fn no_memory<R: AllocGlobal, W: Write>(rt: &R, form: Form, errors: &mut W) -> u8 {
+    let alloc = rt.alloc();
+    let outcome = Outcome::from(Told::NoMemory);
+    report_alone(alloc, form, &outcome, "", errors)
+}

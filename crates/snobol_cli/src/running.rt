@@ -1,0 +1,159 @@
+//! Runs of decks.
+
+use crate::files::{
+    Outcome, is_output_piped, read_decks, unreadable, why_not_read, why_not_written,
+};
+use crate::porting::{is_foreign, use_written, written_anew};
+use crate::reporting::{report_alone, report_outcome};
+use crate::statuses::FAILED;
+use crate::words_unit::WordsUnit;
+use driver::{Ran, Told, UnitFile, run_deck};
+use messages::{Form, Sources};
+use model::{Status, Stop, UnitFault};
+use program::{flushed, system_of, units_of};
+use snobol_words::{Given, Port};
+use std::fs::Files;
+use std::io::{self, Input, Print, Write};
+
+// A run that a unit stopped before it began.
+fn unread(unit: u8, reason: io::Error) -> Outcome<'static> {
+    let cause = UnitFault::ReadFailed;
+    Outcome {
+        told: Told::Ran(Ran {
+            status: Status::Stopped(Stop::Unit { unit, cause }),
+            card: 0,
+        }),
+        reason: Some(reason),
+    }
+}
+
+// The file that is given for a unit.
+fn file_of<'a>(unit: u8, files: &[UnitFile<'a>]) -> Option<&'a str> {
+    let given = files.iter().find(|given| given.unit == unit)?;
+    Some(given.file)
+}
+
+// Why a unit failed, if the system still says so.
+fn reason_of<R: Files>(rt: &R, ran: Ran, files: &[UnitFile<'_>]) -> Option<io::Error> {
+    let Status::Stopped(Stop::Unit { unit, cause }) = ran.status else {
+        return None;
+    };
+    let file = file_of(unit, files)?;
+    match cause {
+        UnitFault::ReadFailed => why_not_read(rt, file),
+        UnitFault::WriteFailed => why_not_written(rt, file),
+        UnitFault::NotOpen | UnitFault::Memory => None,
+    }
+}
+
+// Compiles a deck and runs its module on the units that are given.
+fn run_sources<R: Files + Input + Print + AllocGlobal>(
+    rt: &R,
+    sources: &Sources<'_>,
+    files: &[UnitFile<'_>],
+    records: &[&str],
+    steps: u64,
+) -> Result<Outcome<'static>, Outcome<'static>> {
+    if let Some((unit, reason)) = unreadable(rt, files) {
+        return Ok(unread(unit, reason));
+    }
+    let system = match system_of(rt, files) {
+        Ok(system) => system,
+        Err(told) => return Err(Outcome::from(told)),
+    };
+    let units = match units_of(rt.alloc(), &system, files) {
+        Ok(units) => units,
+        Err(told) => return Err(Outcome::from(told)),
+    };
+    let mut units = WordsUnit::new(rt.alloc(), records, units);
+    match run_deck(rt.alloc(), sources.bytes(), &mut units, steps) {
+        Ok(ran) => {
+            let ran = flushed(ran, units.into_units().flush());
+            Ok(Outcome {
+                told: Told::Ran(ran),
+                reason: reason_of(rt, ran, files),
+            })
+        }
+        Err(refusal) => Err(Outcome::from(Told::Refused(refusal))),
+    }
+}
+
+// Whether a run was stopped since nobody reads what it prints.
+fn is_unread<R: Files + AllocGlobal>(rt: &R, told: &Told<'_>, files: &[UnitFile<'_>]) -> bool {
+    match told {
+        Told::Ran(
+            Ran {
+                status: Status::Stopped(
+                    Stop::Unit {
+                        unit: 6,
+                        cause: UnitFault::WriteFailed,
+                    },
+                ),
+                ..
+            },
+        ) => file_of(6, files).is_none() && is_output_piped(rt),
+        _ => false,
+    }
+}
+
+// Runs decks, which are written anew if that is permitted and they are refused as they are, or call functions of the
+// library.
+fn run_as_asked<R: Files + Input + Print + AllocGlobal, W: Write>(
+    rt: &R,
+    sources: &mut Sources<'_>,
+    given: &Given<'_>,
+    asked: Asked<'_>,
+    errors: &mut W,
+) -> Result<Outcome<'static>, Outcome<'static>> {
+    let Port::Anew { folds } = asked.port else {
+        return run_sources(rt, sources, &given.files, asked.records, asked.steps);
+    };
+    let Ok(written) = written_anew(rt, sources, folds) else {
+        return Err(Outcome::from(Told::NoMemory));
+    };
+    if !written.has_functions() {
+        let ran = run_sources(rt, sources, &given.files, asked.records, asked.steps);
+        let is_refused = match &ran {
+            Err(outcome) => is_foreign(&outcome.told),
+            Ok(_) => false,
+        };
+        if !(is_refused && written.is_changed()) {
+            return ran;
+        }
+    }
+    match use_written(rt.alloc(), sources, written, asked.form, errors) {
+        Ok(()) => run_sources(rt, sources, &given.files, asked.records, asked.steps),
+        Err(told) => Err(Outcome::from(told)),
+    }
+}
+
+/// What is asked of a run but for its decks and files.
+#[derive(Clone, Copy)]
+pub(crate) struct Asked<'a> {
+    pub(crate) records: &'a [&'a str],
+    pub(crate) steps: u64,
+    pub(crate) port: Port,
+    pub(crate) form: Form,
+}
+
+/// Compiles decks as one, runs the module, and gives the exit status.
+pub(crate) fn run_decks<R: Files + Input + Print + AllocGlobal, W: Write>(
+    rt: &R,
+    given: &Given<'_>,
+    asked: Asked<'_>,
+    errors: &mut W,
+) -> u8 {
+    let (alloc, form) = (rt.alloc(), asked.form);
+    let mut sources = match read_decks(rt, &given.decks) {
+        Ok(sources) => sources,
+        Err(outcome) => return report_alone(alloc, form, &outcome, "", errors),
+    };
+    let outcome = match run_as_asked(rt, &mut sources, given, asked, errors) {
+        Ok(outcome) => outcome,
+        Err(outcome) => outcome,
+    };
+    if is_unread(rt, &outcome.told, &given.files) {
+        return FAILED;
+    }
+    report_outcome(alloc, form, &outcome, &sources, &given.files, "", errors)
+}

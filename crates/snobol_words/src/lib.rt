@@ -1,0 +1,17 @@
+//! The words of the program `snobol`.
+//!
+//! `read_words(alloc, words)` gives what the words after the program's name ask for, or why they ask for nothing.
+//!
+//!     let job = read_words(alloc, &["check", "deck.sno"])?;
+//!
+//! Promised: the call returns. Words and help are tested.
+#![tactic(auto)]
+
+mod commands;
+mod given;
+mod jobs;
+mod words;
+
+pub use given::{BadWord, Given, WORDS_UNIT};
+pub use jobs::{Job, NoJob, Port, Reporting, Warnings};
+pub use words::{VERSION, read_words};

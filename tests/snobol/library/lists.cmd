@@ -1,0 +1,1 @@
+lists.sno deck.sno

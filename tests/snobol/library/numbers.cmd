@@ -1,0 +1,1 @@
+numbers.sno deck.sno

@@ -1,0 +1,1 @@
+csv.sno deck.sno

@@ -1,0 +1,1 @@
+text.sno deck.sno

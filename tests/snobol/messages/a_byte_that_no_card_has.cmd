@@ -1,0 +1,3 @@
+check deck.sno
+--strict deck.sno
+check more.sno

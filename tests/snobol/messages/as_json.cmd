@@ -1,0 +1,2 @@
+check --messages=json deck.sno
+--messages=json more.sno

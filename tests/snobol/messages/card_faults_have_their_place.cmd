@@ -1,0 +1,3 @@
+check deck.sno
+check more.sno
+check - < /dev/null

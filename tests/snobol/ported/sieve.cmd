@@ -1,0 +1,3 @@
+port deck.sno > ported.sno
+--strict ported.sno
+deck.sno

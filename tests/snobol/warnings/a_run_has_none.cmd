@@ -1,0 +1,2 @@
+deck.sno
+compile deck.sno a.module

@@ -1,0 +1,1 @@
+check --messages=json deck.sno

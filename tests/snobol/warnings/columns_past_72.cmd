@@ -1,0 +1,3 @@
+check deck.sno
+check --warnings=error deck.sno
+check --warnings=none deck.sno

@@ -1,0 +1,1 @@
+deck.sno 9=a 12=b

@@ -1,0 +1,1 @@
+more.sno deck.sno

@@ -1,0 +1,2 @@
+list deck.sno
+list --code deck.sno

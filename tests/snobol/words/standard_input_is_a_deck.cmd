@@ -1,0 +1,2 @@
+- < deck.sno
+- 5=in < deck.sno
