@@ -378,13 +378,13 @@ function follow(watched, most, after) {
     // The same is done by the deck itself, and what both print must be the same.
     setBusy(true);
     outputs = new Map();
-    runner.call('run', { deck: deck.value, units: given(), steps: bound() }, (plain) => {
+    runner.call('run', { deck: deck.value, units: given(), steps: answer.cut ? Math.min(bound(), 20000000) : bound() }, (plain) => {
       heard(plain);
       if (!plain.done) return;
       setBusy(false);
       showOutputs(); redraw();
       if (!isSame(answer)) { came = null; finish('bad', 'No profile or trace.', UNTOLD); return; }
-      if (!answer.cut) came.statements = answer.all;
+      if (answer.cut) { came = null; finish('good', `The first ${number(MOST)} statements.`); } else came.statements = answer.all;
       after(answer);
       showEnd();
     });

@@ -100,6 +100,12 @@ await click('#link'); await until("location.hash.length > 1");
 await begin(await b.value('location.hash'));
 check('a link holds the deck and its records', await until("document.getElementById('printed').textContent === 'linked by address\\n'"), await text('printed'));
 
+await run(" &STLIMIT = 4\nL N = N + 1 :(L)\nEND\n");
+await type('deck', " &STLIMIT = -1\nL OUTPUT = N\n N = N + 1 :(L)\nEND\n");
+await click('#trace'); await ended();
+check('an endless deck has a trace of its beginning', await until("document.getElementById('step')?.textContent.startsWith('1 of 5,000 and more')", 10000), await text('follow'));
+await click('#view-listing');
+
 // Output is shown as it is printed, and an endless run leaves the page responsive.
 await type('deck', " &STLIMIT = -1\nL OUTPUT = N\n N = LT(N,500) N + 1 :S(L)\nM K = K + 1 :(M)\nEND\n");
 await click('#run');

@@ -69,7 +69,7 @@ def completion_checks(file, folder):
         (folder / name).write_bytes(b"")
     for program, words, wanted in COMPLETED:
         got = offered(file, f"_{program}", words, folder)
-        yield PLACE, f"completion of {' '.join(words)}: {got}", got == wanted
+        yield PLACE, f"completion of {' '.join(words)}: {got}", sorted(got) == sorted(wanted)
 
 
 def package_checks(folder, programs):

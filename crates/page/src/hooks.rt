@@ -6,7 +6,8 @@
 /// A record was written to a unit; its line feed isn't among the bytes.
 #[unsafe(no_mangle)]
 pub extern "C" fn page_wrote(unit: u8, bytes: &[u8]) {
-    let _ = (unit, bytes);
+    let _ = unit;
+    let _ = bytes;
 }
 
 /// The run has made so many steps and goes on.

@@ -34,7 +34,7 @@ impl<'a, U: Units> WordsUnit<'a, U> {
 
     /// The other units.
     pub(crate) fn into_units(self) -> U
-        ensures { result ≡ self.units }
+        ensures { result ≡ self.entry.units }
     {
         self.units
     }
