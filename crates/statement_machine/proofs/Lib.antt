@@ -10,10 +10,6 @@ pub mod Evaluations
 pub mod Fetching
 pub mod Flowing
 pub mod Wholes
-pub mod Sought
-pub mod Straights
-pub mod TakenOut
-pub mod Rows
 pub mod Going
 pub mod Looping
 pub mod Joining
@@ -34,9 +30,6 @@ pub mod Placed
 pub mod Reckoning
 pub mod Weighing
 pub mod Concatenating
-pub mod Constantly
-pub mod Expressions
-pub mod Needles
 pub mod Preparing
 pub mod AtOnce
 pub mod BaseCases

@@ -13,10 +13,4 @@ pub mod Joined
 pub mod BaseCases
 pub mod KnownCalls
 pub mod Sums
-pub mod Constants
-pub mod Sought
-pub mod Trees
-pub mod Openings
 pub mod Prepared
-pub mod Straight
-pub mod Taking

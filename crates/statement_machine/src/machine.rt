@@ -103,7 +103,7 @@ impl<'m, 'a> Machine<'m, 'a> {
         let prepared = self.prepared.as_mut_slice();
         match self.run.make_steps(
             self.program,
-            &self.form,
+            &mut self.form,
             &self.parts,
             prepared,
             units,

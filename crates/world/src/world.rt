@@ -389,6 +389,13 @@ impl World {
         }
     }
 
+    /// The name that keeps its slot there.
+    pub fn name_in(&self, slot: u32) -> Option<&Text>
+        ensures { IfSome result (λ name. slice_get self.now.names slot ≡ Some name.now) }
+    {
+        self.names.get(slot as usize)
+    }
+
     // The variable in a slot that it keeps.
     #[inline(always)]
     fn variable_in(&self, slot: u32) -> &Variable

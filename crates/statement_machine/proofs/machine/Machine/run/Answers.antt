@@ -32,7 +32,7 @@ invariant_of-self g c =
       c.self.invariant.0,
       goes_on it.halt _ c.in-Ok.ensures.sound,
       subst (ArePrepared im) (sym (whole_again it.prepared.items c.make_steps.new.prepared it.prepared.len (c.make_steps.ensures.prepared ∙ c.as_mut_slice-prepared.ensures.value) it.prepared.ok.0)) c.self.invariant.2,
-      subst (λ ns. IsForm im ns it.form) (sym c.make_steps.ensures.names) c.self.invariant.3,
+      subst (λ ns. IsForm im ns c.make_steps.new.form) (sym c.make_steps.ensures.names) c.make_steps.ensures.form,
       subst (λ ns. IsParts im ns it.parts) (sym c.make_steps.ensures.names) c.self.invariant.4,
     )
 
@@ -43,7 +43,7 @@ invariant_of-self-in-Err g c =
       c.self.invariant.0,
       tt,
       subst (ArePrepared im) (sym (whole_again it.prepared.items c.make_steps.new.prepared it.prepared.len (c.make_steps.ensures.prepared ∙ c.as_mut_slice-prepared.ensures.value) it.prepared.ok.0)) c.self.invariant.2,
-      subst (λ ns. IsForm im ns it.form) (sym c.make_steps.ensures.names) c.self.invariant.3,
+      subst (λ ns. IsForm im ns c.make_steps.new.form) (sym c.make_steps.ensures.names) c.make_steps.ensures.form,
       subst (λ ns. IsParts im ns it.parts) (sym c.make_steps.ensures.names) c.self.invariant.4,
     )
 
