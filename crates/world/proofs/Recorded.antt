@@ -1,12 +1,13 @@
 -- Records that are made, and the names of their fields.
 use Rattle.std.proofs.Common.{◌≡◌, ℕ, suc, ◌+◌, ◌<◌, List, [], ◌∷◌, ◌++◌, length, map, take, get_or, Option, Some, None, refl, sym, ap, ◌∙◌, arith}
-use Rattle.std.specs.Prelude.{slice_get, option_map}
+use Rattle.std.specs.Prelude.{IfSome, slice_get, option_map}
 use Rattle.std.proofs.lemmas.Option.{slice_get-map}
 use Rattle.std.proofs.lemmas.List.{length-take-le, map_push, take_more}
 use Rattle.model.specs.declared.image.Level.{Level}
+use Rattle.model.specs.Deck.Target.{Element}
 use Rattle.model.specs.Deck.Trees.{Bytes}
 use Rattle.model.specs.Language.Io.{Io}
-use Rattle.model.specs.Language.Values.{Obj, Object, ArrayOf, TableOf, RecordOf}
+use Rattle.model.specs.Language.Values.{Field, Obj, Object, ArrayOf, TableOf, RecordOf}
 use Rattle.model.specs.Language.Conversions.{Gives, then_op}
 use Rattle.model.specs.Language.Calls.{AValue, arg_at, construct_op}
 use Rattle.model.specs.Language.Keywords.{Keys}
@@ -15,6 +16,7 @@ use Rattle.model.specs.Language.Aggregates.{new_object, field_values, field_op, 
 use Rattle.model.specs.Machine.Steps.{MVal, MW}
 use Rattle.aggregates.specs.Objects.{field_in}
 use Rattle.world.specs.Values.{value_of}
+use Rattle.world.specs.Elements.{FieldNames}
 use Rattle.world.specs.Objects.{object_map}
 use Rattle.world.specs.Held.{WorldView, world_of}
 use Rattle.world.specs.Functions.{Functions}
@@ -83,3 +85,8 @@ field_is h os io f k r same is =
     ap (λ o. model.field_in f k o (world_of h io)) (slice_get-map (object_map value_of) h.objects k ∙ ap (λ xs. option_map (object_map value_of) (slice_get xs k)) (sym same))
     ∙ field_seen f k (slice_get os k) (world_of h io)
     ∙ ap (λ x. named_field k x (world_of h io)) (sym is)
+
+-- the place of the field whose function has the name in a slot
+pub field_named : (h : WorldView) (os : List (Object Value)) (f : Bytes) (k slot : ℕ) (r : Option ℕ) → os ≡ h.objects → r ≡ field_in f (slice_get os k) → slice_get h.names slot ≡ Some f → ((io : Io) → (world_of h io).plain.functions f ≡ Some Field) → IfSome r (λ i. (io : Io) → FieldNames h.names slot (Obj k) (Element k i) (world_of h io))
+field_named h os f k slot None same is named function = tt
+field_named h os f k slot (Some i) same is named function = λ io. (f, named, function io, field_is h os io f k (Some i) same is)

@@ -1,12 +1,13 @@
 -- What arrays and tables hold for their subscripts.
-use Rattle.std.specs.Prelude.{◌≡◌, ℕ, [], ◌∷◌, Some, slice_get}
+use Rattle.std.specs.Prelude.{◌≡◌, ℕ, List, [], ◌∷◌, Some, slice_get}
 use Rattle.model.specs.Deck.Target.{Name, IntegerKey, StringKey}
+use Rattle.model.specs.Deck.Trees.{Bytes}
 use Rattle.model.specs.Language.Io.{Io}
-use Rattle.model.specs.Language.Aggregates.{element_op}
+use Rattle.model.specs.Language.Aggregates.{element_op, field_op}
 use Rattle.model.specs.Language.Conversions.{Gives}
 use Rattle.model.specs.Language.Operators.{fetch_op}
-use Rattle.model.specs.Language.Values.{Int, IntegerAt, Key, Obj, Str, StringAt}
-use Rattle.model.specs.Machine.Steps.{MVal}
+use Rattle.model.specs.Language.Values.{Field, Int, IntegerAt, Key, Obj, Str, StringAt}
+use Rattle.model.specs.Machine.Steps.{MVal, MW}
 use Rattle.aggregates.specs.Objects.{index_in}
 use Rattle.world.specs.Held.{WorldView, world_of}
 
@@ -31,3 +32,7 @@ IsEntry name object index h = (k : Key) × (name ≡ entry_name object k) × (in
 -- the entry that a table has for this subscript alone stands there
 abbrev pub IndexesEntry : (object : ℕ) → (subscript : MVal) → (index : ℕ) → WorldView → Type 0
 IndexesEntry object s index h = (name : Name) × IsEntry name object index h × ((io : Io) → element_op (Obj object) (s ∷ []) (world_of h io) ≡ Gives name (world_of h io))
+
+-- the field of a value, whose function has the name of the variable in a slot, has this name
+abbrev pub FieldNames : List Bytes → (slot : ℕ) → (record' : MVal) → Name → MW → Type 0
+FieldNames ns slot r n w = (f : Bytes) × (slice_get ns slot ≡ Some f) × (w.plain.functions f ≡ Some Field) × (field_op f r w ≡ Gives n w)

@@ -20,6 +20,9 @@ use std::alloc::{AllocError, Global};
 use std::marker::Model;
 use strings::Text;
 
+/// Stands for the place of the function of a name that is expected to be a field's.
+const EXPECTED_FIELD: u32 = NO_SLOT - 1;
+
 /// A function that isn't primitive. Its clones share its names.
 #[derive(Drop)]
 pub enum Function {
@@ -123,12 +126,34 @@ impl FunctionTable {
             Some(place) => place,
             None => self.functions.len(),
         };
+        self.note_at(slot, u32::try_from(place).unwrap_or(NO_SLOT))
+    }
+
+    // Notes a place for the variable in a slot.
+    fn note_at(&mut self, slot: u32, place: u32) -> Result<(), AllocError>
+        ensures { self.new ≡ self.old }
+    {
         let at = slot as usize;
         if at >= self.places.len() {
             self.places.resize(at + 1, NO_SLOT)?;
         }
-        self.places[at] = u32::try_from(place).unwrap_or(NO_SLOT);
+        self.places[at] = place;
         Ok(())
+    }
+
+    // Notes that the variable in a slot has the name of a field that is expected.
+    fn expect_field(&mut self, slot: u32) -> Result<(), AllocError>
+        ensures { self.new ≡ self.old }
+    {
+        if slot == NO_SLOT {
+            return Ok(());
+        }
+        self.note_at(slot, EXPECTED_FIELD)
+    }
+
+    // Whether it is expected.
+    fn expects_field(&self, slot: u32) -> bool {
+        slot_at(self.places.as_slice(), slot as usize) == EXPECTED_FIELD
     }
 
     // Puts a function in the place of the one that has its name.
@@ -214,6 +239,32 @@ impl World {
         ensures { self.new ≡ self.old }
     {
         self.functions.note(name, slot)
+    }
+
+    /// Notes where the functions of fields stand.
+    pub(crate) fn note_fields(&mut self, fields: &[Text])
+        ensures { self.new ≡ self.old }
+    {
+        for field in fields {
+            let slot = self.slot_of(field);
+            let _noted = self.note_function(field, slot);
+        }
+    }
+
+    /// Notes the names of fields that a deck's types are expected to have. No meaning sees that.
+    pub fn expect_fields(&mut self, fields: &[Text]) -> Result<(), AllocError>
+        ensures { self.new ≡ self.old }
+    {
+        for field in fields {
+            let slot = self.slot_of(field);
+            self.functions.expect_field(slot)?;
+        }
+        Ok(())
+    }
+
+    /// Whether the variable in a slot has the name of a field that is expected.
+    pub fn expects_field(&self, slot: u32) -> bool {
+        self.functions.expects_field(slot)
     }
 
     // Makes a function, as `define` does.

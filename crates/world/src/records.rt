@@ -1,19 +1,23 @@
 //! Records: calls of the functions that DATA makes.
 
-ghost use Rattle.std.specs.Prelude.{◌≡◌, map, IfOk, OnErr};
+ghost use Rattle.std.specs.Prelude.{◌≡◌, map, IfOk, IfSome, OnErr};
+ghost use Rattle.model.specs.Deck.Target.{Element};
 ghost use Rattle.model.specs.Language.Io.{Io};
 ghost use Rattle.model.specs.Language.Calls.{construct_op, select_op};
 ghost use Rattle.model.specs.Language.Aggregates.{field_values, field_op};
 ghost use Rattle.model.specs.declared.run.Stop.TheVariants.{NoMemory};
 ghost use Rattle.pattern_compiler.specs.View.{name_of};
 ghost use Rattle.world.specs.Answers.{answer_map, op_of, AnswersAs, IfStopped};
+ghost use Rattle.model.specs.Language.Values.{Obj};
 ghost use Rattle.world.specs.Calling.{given_of};
+ghost use Rattle.world.specs.Elements.{FieldNames};
 ghost use Rattle.world.specs.Held.{world_of};
 ghost use Rattle.world.specs.Values.{value_of};
 
 use crate::arguments::argument;
 use crate::calls::Given;
 use crate::fault::Fault;
+use crate::functions::Function;
 use crate::value::Value;
 use crate::world::World;
 use aggregates::Names;
@@ -79,6 +83,21 @@ impl World {
             }),
             None => Err(ErrorCode::WrongType),
         }
+    }
+
+    /// The place in a record of the field whose function has the name of the variable in a slot. Takes no memory.
+    #[inline(never)]
+    pub fn field_place(&self, slot: u32, object: usize) -> Option<usize>
+        ensures { IfSome result (λ index. (io : Io)
+            → FieldNames self.now.names slot (Obj object) (Element object index) (world_of self.now io)) }
+    {
+        let Some(name) = self.name_in(slot) else {
+            return None;
+        };
+        let Some(Function::Field) = self.held_function(name, slot) else {
+            return None;
+        };
+        self.heap.field(object, name)
     }
 
     /// A call of a field's function: the name of that field in the record that is the first argument. Takes no memory.

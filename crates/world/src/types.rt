@@ -46,6 +46,8 @@ impl World {
         ensures names { self.new.names ≡ self.old.names }
     {
         let made = functions_of(alloc, prototype)?;
-        self.functions.append(made)
+        self.functions.append(made)?;
+        self.note_fields(prototype.fields());
+        Ok(())
     }
 }
