@@ -15,7 +15,7 @@ from .command import seen_of
 from .compare import DECKS, bytes_of, is_left_out
 from .units import Units
 
-STEPS_PER_RULE = 7
+STEPS_PER_RULE = 5
 # Runs that use more rules are left out: of a deck that may go on for ever, and of a family.
 MOST_RULES = 20000
 MOST_RULES_OF_FAMILIES = 400000
@@ -192,6 +192,9 @@ def main():
         print(*(f"{it.ratio():.3f} {it.case.name}: {it.steps} steps, {it.rules} rules" for it in done), sep="\n")
     print(*map(told, failed), sep="\n", end="\n" if failed else "")
     most = max(done, key=Result.ratio)
+    if most.ratio() <= STEPS_PER_RULE - 1:
+        failed.append(most)
+        print(f"FAILED {most.case.name}: no case needs {STEPS_PER_RULE} steps for a rule")
     print(f"constructs beside those that each program runs: {', '.join(later) or 'none'}")
     print(f"{len(results) - len(done)} left out, as they use too many rules")
     print(f"largest ratio {most.ratio():.3f}: {most.steps} steps for {most.rules} rules, {most.case.name}")

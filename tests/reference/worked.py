@@ -95,6 +95,8 @@ DECKS = [
     Worked(
         [" DEFINE('F()')", " 'A' LEN(1) *F()", "F 'A' *(1 / 0)"], "", "error E2 statement 3 card 3\n", rules=22
     ),
+    Worked([" &STLIMIT = 9", "L &ANCHOR = :(L)"], "", "stlimit statement 2 card 2\n", rules=10),
+    Worked([" &STLIMIT = 40", "L &ANCHOR = :(L)"], "", "stlimit statement 2 card 2\n", rules=41),
 ]
 
 

@@ -8,7 +8,7 @@
 //!
 //! Promised, of `run_deck`: a deck is refused by exactly its faults (`refused`). A run does what the deck means
 //! (`meaning`): it ends as the deck's meaning does, with that printed, or what it printed is a prefix of what the meaning
-//! prints (`sound`); a meaning that ends after r rules is reached within 7 * (r + 1) steps (`reaches`); and what a meaning
+//! prints (`sound`); a meaning that ends after r rules is reached within 5 * (r + 1) steps (`reaches`); and what a meaning
 //! prints within r rules is printed within so many steps, also where neither ends (`prints`). The exit status is a function
 //! of what is told (`exit_status`). Words and lines (`read_words`, `report`) are tested.
 #![tactic(auto)]

@@ -18,14 +18,14 @@ pub fn runs_add_to_what_was_printed()
     ensures { RunsAfter }
 {}
 
-/// Where a deck's meaning ends having used r rules, a module that does what the deck does has ended so after any 7 * (r
+/// Where a deck's meaning ends having used r rules, a module that does what the deck does has ended so after any 5 * (r
 /// + 1) steps or more.
 pub fn run_steps_are_bounded()
     ensures { RunStepsBounded }
 {}
 
 /// What a deck's meaning has printed at some depth, having used r rules to that depth, a module that does what the deck
-/// does has printed after any 7 * (r + 1) steps or more: also where the run never ends.
+/// does has printed after any 5 * (r + 1) steps or more: also where the run never ends.
 pub fn run_prints_are_bounded()
     ensures { RunPrintsBounded }
 {}

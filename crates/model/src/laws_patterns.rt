@@ -28,7 +28,7 @@ pub fn code_means_its_pattern()
     ensures scans { ScanOfSteps }
 {}
 
-/// Code that stands for a pattern comes to each event of its scan within four pattern steps, since the match's start,
+/// Code that stands for a pattern comes to each event of its scan within three pattern steps, since the match's start,
 /// for each rule that the scan uses under the answers given so far.
 pub fn pattern_steps_are_bounded()
     ensures from_start { PatternStepsBounded }

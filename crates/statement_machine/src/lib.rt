@@ -46,5 +46,6 @@ mod variables;
 pub use machine::{Machine, run_from_entry};
 
 /// Where the meaning of a deck ends having used r rules, a run of its module has ended after this many steps for each
-/// of r + 1 rules.
-pub const STEPS_PER_RULE: u64 = 7;
+/// of r + 1 rules: three of a statement (BEGIN, BODY and its goto), and two of its body (an absent object and the
+/// assignment).
+pub const STEPS_PER_RULE: u64 = 5;

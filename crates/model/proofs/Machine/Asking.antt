@@ -17,7 +17,7 @@ use Rattle.model.specs.Module.Placed.{Is, CodeV, CodeN, CodeA, Placed}
 use Rattle.model.specs.Machine.Alike.{VR, VRs, WR}
 use Rattle.model.specs.Pattern.Steps as S
 use Rattle.model.specs.Pattern.Stands as St
-use Rattle.model.proofs.Machine.Following.{Base, Fit, Here, push_all, failed_at, Stopped, Still, rank, extra, Follows, steps_add}
+use Rattle.model.proofs.Machine.Following.{Base, Fit, Here, push_all, failed_at, Stopped, Still, rank, extra, spare, Follows, steps_add}
 use Rattle.model.proofs.Machine.OperationsAlike.{OpR, gives, refuses, faults, keys_same, BegunR, Any}
 
 pub fit_more : (hs : List Handler) (o : Operand) (ops : List Operand) → Fit hs ops → Fit hs (o ∷ ops)
@@ -93,8 +93,9 @@ module _ (prog : Program) (img : Module) (trees_at : ℕ → Option Expr) (place
       go (Fail w) (i, h, x) = (j + i, omega arith, subst (F w) (sym (steps_add prog img trees_at j i c ∙ ap (steps img i) e)) x)
       go (Stop n w) (i, h, x) = (j + i, omega arith, subst (Stopped prog img trees_at n w) (sym (steps_add prog img trees_at j i c ∙ ap (steps img i) e)) x)
       go (Ask q w k f) x =
-          let h : x.0 + extra q + x.8 ≤ b' = x.9 in
-          (j + x.0, x.1, x.2, steps_add prog img trees_at j x.0 c ∙ ap (steps img x.0) e ∙ x.3, x.4, x.5, x.6, moved_dec j x.0 x.5 r x.7, x.8, omega (arith, h), x.10, x.11)
+          let first : x.0 + extra q ≤ b' = x.9.0 in
+          let both : x.0 + extra q + x.8 ≤ b' + spare q = x.9.1 in
+          (j + x.0, x.1, x.2, steps_add prog img trees_at j x.0 c ∙ ap (steps img x.0) e ∙ x.3, x.4, x.5, x.6, moved_dec j x.0 x.5 r x.7, x.8, (omega (arith, first), omega (arith, both)), x.10, x.11)
       go (Seek g w k) x = (
         x.0,
         (λ n e' h. let y = x.1 n e' h in (j + y.0, y.1, moved_dec j y.0 y.1 r y.2, subst (λ s. Follows prog img trees_at y.1 1 s Q F (k e')) (sym (steps_add prog img trees_at j y.0 c ∙ ap (steps img y.0) e)) y.3)),
@@ -139,16 +140,17 @@ module _ (prog : Program) (img : Module) (trees_at : ℕ → Option Expr) (place
       → ((w1 : W) (m1 : MW) → R w1 m1 → Fw r n (fail_to g.hs g.ops g.fs m1) Q F (f w1))
       → Fw r n (Run g.p g.ops g.hs g.fs m) Q F (Ask (QVal e) w k f)
   ask_val {r = r} {n} {m = m} g code wr le hk hf = record {
-    by = (0, (g, code), m, refl, wr, r, le, inr (le_refl r), n, omega arith, (λ u w1 s (x, m1, hu, r1, e1). (same e1 (hk u w1 x m1 hu r1)).by), (λ w1 s (m1, r1, e1). (same e1 (hf w1 m1 r1)).by));
+    by = (0, (g, code), m, refl, wr, r, le, inr (le_refl r), n, (omega arith, omega arith), (λ u w1 s (x, m1, hu, r1, e1). (same e1 (hk u w1 x m1 hu r1)).by), (λ w1 s (m1, r1, e1). (same e1 (hf w1 m1 r1)).by));
   }
 
+  -- a name leaves two steps
   pub ask_name : {A : Type 0} {r n : ℕ} {e : Expr} {w : W} {m : MW} {Q : A → W → State → Type 0} {F : W → State → Type 0} {k : Name → W → Rule A} {f : W → Rule A} (g : Here)
       → CodeN prog img trees_at e g.p g.q → R w m → suc (rank (QName e)) ≤ r
-      → ((u : Name) (w1 : W) (m1 : MW) → R w1 m1 → Fw r n (Run g.q (ON u ∷ g.ops) g.hs g.fs m1) Q F (k u w1))
+      → ((u : Name) (w1 : W) (m1 : MW) → R w1 m1 → Fw r (n + 2) (Run g.q (ON u ∷ g.ops) g.hs g.fs m1) Q F (k u w1))
       → ((w1 : W) (m1 : MW) → R w1 m1 → Fw r n (fail_to g.hs g.ops g.fs m1) Q F (f w1))
       → Fw r n (Run g.p g.ops g.hs g.fs m) Q F (Ask (QName e) w k f)
   ask_name {r = r} {n} {m = m} g code wr le hk hf = record {
-    by = (0, (g, code), m, refl, wr, r, le, inr (le_refl r), n, omega arith, (λ u w1 s (m1, r1, e1). (same e1 (hk u w1 m1 r1)).by), (λ w1 s (m1, r1, e1). (same e1 (hf w1 m1 r1)).by));
+    by = (0, (g, code), m, refl, wr, r, le, inr (le_refl r), n + 2, (omega arith, omega arith), (λ u w1 s (m1, r1, e1). (same e1 (hk u w1 m1 r1)).by), (λ w1 s (m1, r1, e1). (shift 0 n (omega arith) e1 (hf w1 m1 r1)).by));
   }
 
   pub ask_args : {A : Type 0} {r n : ℕ} {e : Args} {w : W} {m : MW} {Q : A → W → State → Type 0} {F : W → State → Type 0} {k : List Val → W → Rule A} {f : W → Rule A} (g : Here) (l : ℕ)
@@ -157,7 +159,7 @@ module _ (prog : Program) (img : Module) (trees_at : ℕ → Option Expr) (place
       → ((w1 : W) (m1 : MW) → R w1 m1 → Fw r n (fail_to g.hs g.ops g.fs m1) Q F (f w1))
       → Fw r n (Run g.p g.ops g.hs g.fs m) Q F (Ask (QArgs e) w k f)
   ask_args {r = r} {n} {m = m} g l code wr le hk hf = record {
-    by = (0, (g, l, code), m, refl, wr, r, le, inr (le_refl r), n, omega arith, (λ us w1 s (xs, m1, hu, len, r1, e1). (same e1 (hk us w1 xs m1 hu len r1)).by), (λ w1 s (m1, r1, e1). (same e1 (hf w1 m1 r1)).by));
+    by = (0, (g, l, code), m, refl, wr, r, le, inr (le_refl r), n, (omega arith, omega arith), (λ us w1 s (xs, m1, hu, len, r1, e1). (same e1 (hk us w1 xs m1 hu len r1)).by), (λ w1 s (m1, r1, e1). (same e1 (hf w1 m1 r1)).by));
   }
 
   -- ending with an operation that the instruction at p makes
@@ -219,7 +221,7 @@ module _ (prog : Program) (img : Module) (trees_at : ℕ → Option Expr) (place
       le,
       inr (le_refl r),
       n,
-      omega arith,
+      (omega arith, omega arith),
       (λ s w1 d (m1, r1, e1). (same e1 (hk s w1 m1 r1)).by),
       (λ w1 d (m1, r1, e1). (same e1 (hf w1 m1 r1)).by),
     );

@@ -1,5 +1,5 @@
 -- The machine follows calls, primitives and references.
-use Rattle.std.proofs.Common.{◌≡◌, ℕ, suc, ◌≤◌, List, [], ◌∷◌, length, Option, Some, None, Bool, inr, refl, sym, ap, ◌∙◌, arith, le_refl}
+use Rattle.std.proofs.Common.{◌≡◌, ℕ, suc, ◌+◌, ◌≤◌, List, [], ◌∷◌, length, Option, Some, None, Bool, inr, refl, sym, ap, ◌∙◌, arith, le_refl}
 use Rattle.model.specs.declared.instr.Instr.{Instr}
 use Rattle.model.specs.declared.instr.Instr.TheVariants as op
 use Rattle.model.specs.declared.instr.ReturnKind.{ReturnKind}
@@ -53,7 +53,7 @@ module _ (prog : Program) (img : Module) (trees_at : ℕ → Option Expr) (place
               up,
               inr (le_refl rk),
               1,
-              omega arith,
+              (omega arith, omega arith),
               (λ r w1 s (m1, r1, e1). (from prog img trees_at placed {b = 1} 1 (omega arith) e1 (op_follows prog img trees_at placed (GR trees_at) c.hs c.ops fs f (λ g w1. resume c fs g w1) (leave_same trees_at r hk r1) (λ g g' w2 m2 x r2. hg g g' w2 m2 x r2) hf)).by),
               (λ w1 s b. absurd b),
             );
@@ -89,7 +89,7 @@ module _ (prog : Program) (img : Module) (trees_at : ℕ → Option Expr) (place
       → ((i n p : ℕ) (ops : List Operand) (m : MW) → act img (call' i n) h.q p ops h.hs h.fs m ≡ load (img.string i) m (λ f. calls img want f n h.q ops h.hs h.fs m))
       → (r n : ℕ) → CodeA prog img trees_at args n h.p r → CallAt prog img trees_at prim call' (prim_named f) f n r h.q → R w m → suc (rank (QArgs args)) ≤ rk
       → ((g : Back) (g' : MBack) (w1 : W) (m1 : MW) → GR trees_at g g' → R w1 m1 → Fw prog img trees_at placed rk 0 (resume (caller_at h want) h.fs g' m1) Q (Fv prog img trees_at placed h) (k g w1))
-      → Fw prog img trees_at placed rk 7 (Run h.p h.ops h.hs h.fs m) Q (Fv prog img trees_at placed h) (function_rule prog f args w k)
+      → Fw prog img trees_at placed rk 2 (Run h.p h.ops h.hs h.fs m) Q (Fv prog img trees_at placed h) (function_rule prog f args w k)
   function_follows {A} {rk} {Q} want h f args k prim call' does_prim does_call r n code at wr up hg =
       ask_args prog img trees_at placed (at_place h h.p r) n code wr up (λ us w1 xs m1 hu len r1. go us w1 xs m1 hu len r1 (prim_named f) at) (fail_here prog img trees_at placed h)
     where
@@ -100,7 +100,7 @@ module _ (prog : Program) (img : Module) (trees_at : ℕ → Option Expr) (place
       asks = omega (arith, up)
 
       go : (us : List Val) (w1 : W) (xs : List MVal) (m1 : MW) → VRs trees_at us xs → length xs ≡ n → R w1 m1 → (o : Option PrimId) → CallAt prog img trees_at prim call' o f n r h.q
-          → Fw prog img trees_at placed rk 7 (Run r (push_all xs h.ops) h.hs h.fs m1) Q (Fv prog img trees_at placed h) (doing (function_op o f us w1) (λ r w2. after_primitive prog r w2 k))
+          → Fw prog img trees_at placed rk 2 (Run r (push_all xs h.ops) h.hs h.fs m1) Q (Fv prog img trees_at placed h) (doing (function_op o f us w1) (λ r w2. after_primitive prog r w2 k))
       go us w1 xs m1 hu len r1 (Some x) is =
           shift prog img trees_at placed 1 1 (omega arith)
           (one prog img trees_at placed r h.q (prim x n) (push_all xs h.ops) h.hs h.fs m1 is ∙ does_prim x n r (push_all xs h.ops) m1
@@ -119,12 +119,12 @@ module _ (prog : Program) (img : Module) (trees_at : ℕ → Option Expr) (place
   pub var_at : (x : Bytes) (p q : ℕ) (h : Here) (m : MW) → TextAt prog img trees_at op.Var x p q → steps img 1 (Run p h.ops h.hs h.fs m) ≡ Run q (ON (Variable x) ∷ h.ops) h.hs h.fs m
   var_at x p q h m (k, str, is) = one prog img trees_at placed p q (op.Var k) h.ops h.hs h.fs m is ∙ ap (λ o. load o m (λ s. Run q (ON (Variable s) ∷ h.ops) h.hs h.fs m)) str
 
-  -- the name of an element, after which q is on at e
-  pub element_follows : {A : Type 0} {rk : ℕ} {Q : A → W → State → Type 0} {w : W} {m : MW} (h : Here) (x : Bytes) (args : Args) (k : Name → W → Rule A) (r s t n e : ℕ)
+  -- the name of an element, in three steps, and what follows it at e, in i
+  pub element_follows : {A : Type 0} {rk i : ℕ} {Q : A → W → State → Type 0} {w : W} {m : MW} (h : Here) (x : Bytes) (args : Args) (k : Name → W → Rule A) (r s t n e : ℕ)
       → TextAt prog img trees_at op.Var x h.p r → Is prog img trees_at r op.Fetch s → CodeA prog img trees_at args n s t → Is prog img trees_at t (op.Elem n) e → R w m → suc (rank (QArgs args)) ≤ rk
-      → ((a : Name) (w1 : W) (m1 : MW) → R w1 m1 → Fw prog img trees_at placed rk 1 (Run e (ON a ∷ h.ops) h.hs h.fs m1) Q (Fv prog img trees_at placed h) (k a w1))
-      → Fw prog img trees_at placed rk 7 (Run h.p h.ops h.hs h.fs m) Q (Fv prog img trees_at placed h) (doing (fetch_op (Variable x) w) (λ a w1. ask (QArgs args) w1 (λ vs w2. doing (element_op a vs w2) k)))
-  element_follows {m = m} h x args k r s t n e var fetch code elem wr up hk =
+      → ((a : Name) (w1 : W) (m1 : MW) → R w1 m1 → Fw prog img trees_at placed rk i (Run e (ON a ∷ h.ops) h.hs h.fs m1) Q (Fv prog img trees_at placed h) (k a w1))
+      → Fw prog img trees_at placed rk (3 + i) (Run h.p h.ops h.hs h.fs m) Q (Fv prog img trees_at placed h) (doing (fetch_op (Variable x) w) (λ a w1. ask (QArgs args) w1 (λ vs w2. doing (element_op a vs w2) k)))
+  element_follows {i = i} {m = m} h x args k r s t n e var fetch code elem wr up hk =
       from prog img trees_at placed 2 (omega arith) (ap (steps img 1) (var_at x h.p r h m var) ∙ one prog img trees_at placed r s op.Fetch (ON (Variable x) ∷ h.ops) h.hs h.fs m fetch)
       (op_follows prog img trees_at placed (VR trees_at) h.hs h.ops h.fs _ _ (fetch_same trees_at (Variable x) wr)
       (λ a y w1 m1 ha r1. ask_args prog img trees_at placed (more h s t (OV y)) n code r1 up
@@ -133,6 +133,6 @@ module _ (prog : Program) (img : Module) (trees_at : ℕ → Option Expr) (place
       ∙ ap (λ n. pop_many n (push_all zs (OV y ∷ h.ops)) [] m2 (λ vs r1. pop r1 m2 (λ a rest. put_name img (element_op a vs m2) e rest h.hs h.fs))) (sym len)
       ∙ pop_pushed zs (OV y ∷ h.ops) m2 (λ vs r1. pop r1 m2 (λ a rest. put_name img (element_op a vs m2) e rest h.hs h.fs)))
       (op_follows prog img trees_at placed ◌≡◌ h.hs h.ops h.fs k (λ a w1. Run e (ON a ∷ h.ops) h.hs h.fs w1) (element_same trees_at ha hus r2)
-      (λ z z' w3 m3 hz r3. shift prog img trees_at placed 0 1 (omega arith) (ap (λ x. Run e (ON x ∷ h.ops) h.hs h.fs m3) (sym hz)) (hk z w3 m3 r3)) (λ w3 m3 r3. (m3, r3, refl))))
+      (λ z z' w3 m3 hz r3. shift prog img trees_at placed 0 i (omega arith) (ap (λ x. Run e (ON x ∷ h.ops) h.hs h.fs m3) (sym hz)) (hk z w3 m3 r3)) (λ w3 m3 r3. (m3, r3, refl))))
       (fail_one prog img trees_at placed h (OV y)))
       (λ w1 m1 r1. (m1, r1, refl)))

@@ -1,5 +1,5 @@
 -- Where the machine follows each rule, it comes to each meaning, in both directions.
-use Rattle.std.proofs.Common.{◌≡◌, ℕ, zero, suc, pred, ◌+◌, ◌*◌, ◌≤◌, List, [], ◌∷◌, length, Option, Some, None, ◌⊎◌, inl, inr, refl, sym, ap, ◌∙◌, subst, arith, zero-le}
+use Rattle.std.proofs.Common.{◌≡◌, ℕ, zero, suc, pred, ◌+◌, ◌-◌, ◌*◌, ◌≤◌, List, [], ◌∷◌, length, Option, Some, None, ◌⊎◌, inl, inr, refl, sym, ap, ◌∙◌, subst, arith, zero-le}
 use Rattle.model.specs.declared.run.Ending.{Ending}
 use Rattle.model.specs.Deck.Trees.{Bytes, Expr, Call, Reference, Apply, Combine, Args, Nil, More, Absent, Given, Body, Nothing, Evaluate, Match, Assign, Replace}
 use Rattle.model.specs.Language.Programs.{Program}
@@ -13,6 +13,7 @@ use Rattle.model.specs.Pattern.Search.{Script}
 use Rattle.model.specs.Pattern.Stands.{Stands, Alike}
 use Rattle.model.specs.Machine.Alike.{VR, VRs, WR}
 use Rattle.model.specs.Language.RulesUsed.{own_count}
+use Rattle.model.specs.Laws.StepBound.{body_steps, steps_per_rule}
 use Rattle.model.proofs.Language.MeaningGrows.{at_depth, Before, before_refl, Goes_on, Later, later, stays, follow_stays}
 
 -- the newest handler's operands are there
@@ -67,10 +68,15 @@ rank (QBody b) = 3 + 2 * body_size b
 rank (QExec k) = 1
 rank (QMatch s p left t) = 0
 
--- the steps that a query takes beside seven for each rule that it uses
+-- the steps that a query takes beside five for each rule that it uses
 abbrev pub extra : Query → ℕ
-extra (QBody b) = 4
+extra (QBody b) = body_steps
 extra _ = 0
+
+-- the steps of those five that it leaves once there is an answer or failure: a name takes three for its own node
+abbrev pub spare : Query → ℕ
+spare (QName e) = 2
+spare _ = 0
 
 -- the frames of a goto: none, or a call's on top
 abbrev pub Base : List Frame → Type 0
@@ -96,6 +102,10 @@ module _ (prog : Program) (img : Module) (trees_at : ℕ → Option Expr) where
   -- the rules that a query uses itself, which for all but a match needs no depth
   abbrev pub own : Query → W → ℕ
   own q w = own_count prog 0 (λ r v. Open v) q w
+
+  -- the steps that it takes itself, if it is answered or fails
+  abbrev pub own_steps : Query → W → ℕ
+  own_steps q w = steps_per_rule * own q w + extra q - spare q
 
   -- something to be done by the machine
   abbrev pub Task : Query → Type 0
@@ -146,15 +156,15 @@ module _ (prog : Program) (img : Module) (trees_at : ℕ → Option Expr) where
   Still (Stuck m) w = ⊥
 
   -- the machine follows a rule from this state, Q where it answers and F where it fails: it comes to what is asked, of a rank
-  -- below r or, after a step, below any number, and goes on from there. It takes b steps beside those of what is asked, and
-  -- to end the run one more. A
-  -- search is of rank 0: its steps have a bound of their own, and what follows an event takes one at most
+  -- below r or, after a step, below any number, and goes on from there. It takes b steps beside those of what is asked, which
+  -- may leave some once it is answered, and to end the run one more. A search is of rank 0: its steps have a bound of their
+  -- own, and what follows an event takes one at most
   abbrev pub Follows : {A : Type 0} → (r b : ℕ) → State → (A → W → State → Type 0) → (W → State → Type 0) → Rule A → Type 0
   Follows r b c Q F (Ret a w) = (j : ℕ) × (j ≤ b) × Q a w (steps img j c)
   Follows r b c Q F (Fail w) = (j : ℕ) × (j ≤ b) × F w (steps img j c)
   Follows r b c Q F (Stop e w) = (j : ℕ) × (j ≤ suc b) × Stopped e w (steps img j c)
   Follows r b c Q F (Ask q w k f) =
-      (j : ℕ) × (t : Task q) × (w' : MW) × (steps img j c ≡ start q t w') × WR trees_at w w' × (r' : ℕ) × (suc (rank q) ≤ r') × ((1 ≤ j) ⊎ (r' ≤ r)) × (b' : ℕ) × (j + extra q + b' ≤ b)
+      (j : ℕ) × (t : Task q) × (w' : MW) × (steps img j c ≡ start q t w') × WR trees_at w w' × (r' : ℕ) × (suc (rank q) ≤ r') × ((1 ≤ j) ⊎ (r' ≤ r)) × (b' : ℕ) × ((j + extra q ≤ b) × (j + extra q + b' ≤ b + spare q))
       × ((a : Ans q) (u : W) (d : State) → done q t a u d → Follows r' b' d Q F (k a u))
       × ((u : W) (d : State) → failed q t u d → Follows r' b' d Q F (f u))
   Follows r b c Q F (Seek g w k) =
@@ -200,7 +210,7 @@ module _ (prog : Program) (img : Module) (trees_at : ℕ → Option Expr) where
   Sim n = (q : Query) (t : Task q) (w : W) (w' : MW) → WR trees_at w w' → Fits 0 (start q t w') (done q t) (failed q t) (meaning prog n q w)
 
   abbrev pub Local : Type 0
-  Local = (q : Query) (t : Task q) (w : W) (w' : MW) → WR trees_at w w' → Follows (rank q) (7 * own q w + extra q) (start q t w') (done q t) (failed q t) (rule prog q w)
+  Local = (q : Query) (t : Task q) (w : W) (w' : MW) → WR trees_at w w' → Follows (rank q) (own_steps q w) (start q t w') (done q t) (failed q t) (rule prog q w)
 
   seek_fits : {A : Type 0} (n : ℕ) (c : State) (Q : A → W → State → Type 0) (F : W → State → Type 0) (g : ℕ → Option SearchEvent) (w : W) (k : SearchEvent → Rule A)
       → ((e : SearchEvent) → g (suc n) ≡ Some e → Fits 0 c Q F (at_depth prog n (k e))) → (i : ℕ) × Still (steps img i c) w → Fits 0 c Q F (at_depth prog n (Seek g w k))
@@ -233,7 +243,7 @@ module _ (prog : Program) (img : Module) (trees_at : ℕ → Option Expr) where
   pub sim_all : Local → (n : ℕ) → Sim n
   unfolding meaning
   sim_all loc zero q t w w' wr = (0, zero-le, start_prints q t w w' (ap (λ p. p.printed) (sym wr.io)))
-  sim_all loc (suc n) q t w w' wr = follow_fits n (sim_all loc n) (rank q) (7 * own q w + extra q) (start q t w') (done q t) (failed q t) (rule prog q w) (loc q t w w' wr)
+  sim_all loc (suc n) q t w w' wr = follow_fits n (sim_all loc n) (rank q) (own_steps q w) (start q t w') (done q t) (failed q t) (rule prog q w) (loc q t w w' wr)
 
   goes_from : {A : Type 0} (i m l : ℕ) (c b : State) (Q : A → W → State → Type 0) (F : W → State → Type 0) (r : ℕ → Res A) → l ≤ i + m → steps img i c ≡ b → Goes m b Q F r → Goes l c Q F r
   goes_from i m l c b Q F r le e (n, inl s) = (n, inl s)
@@ -369,10 +379,10 @@ module _ (prog : Program) (img : Module) (trees_at : ℕ → Option Expr) where
     goes_rank : (l : ℕ) → ((q : Query) → Prog' (pred l) q) → (r : ℕ) (q : Query) → rank q ≤ r → Prog' l q
     goes_rank l h1 zero q le t w w' wr =
         shifted l q (start q t w') (done q t) (failed q t) w
-        (follow_goes l (rank q) (7 * own q w + extra q) ((λ q' lt. absurd (omega arith)), h1) w (start q t w') (done q t) (failed q t) (rule prog q w) (on q w) (loc q t w w' wr))
+        (follow_goes l (rank q) (own_steps q w) ((λ q' lt. absurd (omega arith)), h1) w (start q t w') (done q t) (failed q t) (rule prog q w) (on q w) (loc q t w w' wr))
     goes_rank l h1 (suc r) q le t w w' wr =
         shifted l q (start q t w') (done q t) (failed q t) w
-        (follow_goes l (rank q) (7 * own q w + extra q) ((λ q' lt. goes_rank l h1 r q' (omega arith)), h1) w (start q t w') (done q t) (failed q t) (rule prog q w) (on q w) (loc q t w w' wr))
+        (follow_goes l (rank q) (own_steps q w) ((λ q' lt. goes_rank l h1 r q' (omega arith)), h1) w (start q t w') (done q t) (failed q t) (rule prog q w) (on q w) (loc q t w w' wr))
 
     pub goes_all : (l : ℕ) (q : Query) → Prog' l q
     goes_all zero q t w w' wr = (0, inr (λ d. sim_all loc (d + 0) q t w w' wr))

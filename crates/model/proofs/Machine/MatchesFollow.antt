@@ -89,7 +89,7 @@ module _ (prog : Program) (img : Module) (trees_at : ℕ → Option Expr) (place
         → Fw prog img trees_at placed n b (InMatch t.g (S.with_more (z ∷ []) (S.pattern_steps t.g.subject t.g.code (suc i) t.st)) t.fs m) Qm Fm (again s p left u y w)
     unfolding more_task
     again_follows {n = n} {b} {m = m} i v al run is le wr = record {
-      by = (0, more_task i v al run is, m, refl, wr, n, le, inr (le_refl n), b, omega arith, (λ r w1 d h. (0, zero-le, h)), (λ w1 d h. (0, zero-le, h)));
+      by = (0, more_task i v al run is, m, refl, wr, n, le, inr (le_refl n), b, (omega arith, omega arith), (λ r w1 d h. (0, zero-le, h)), (λ w1 d h. (0, zero-le, h)));
     }
 
     answer_follows : {c : Conv (Answer Pt.Pat)} {c' : Conv (Answer PCode)} {n b : ℕ} {w : W} {m : MW} (i : ℕ) (v : Pt.Ask ℕ) → ConvR (AlikeAnswer trees_at) c c' → S.event_of (S.pattern_steps t.g.subject t.g.code i t.st) ≡ Running → S.event_of (S.pattern_steps t.g.subject t.g.code (suc i) t.st) ≡ Asks v → 1 ≤ n → R w m

@@ -18,6 +18,7 @@ use Rattle.model.specs.Machine.Steps.{MVal, MW, Module, OV, ON, OR, Frame, OnBeg
 use Rattle.model.specs.Module.Placed.{KeyAt, CodeO, CodeAssign, CodeB, CodeKnown, CodeLabel, CodeG, CodeS, Placed}
 use Rattle.model.specs.Machine.Alike.{VR, rstr, WR}
 use Rattle.model.specs.Language.RulesUsed.{stmt_count}
+use Rattle.model.specs.Laws.StepBound.{steps_per_rule}
 use Rattle.model.proofs.Machine.Following.{Base, Here, object_size, Local, rank}
 use Rattle.model.proofs.Machine.OperationsAlike.{by_plain, label_same, enter_same, failure_same, BegunR, match_same, fetch_same, assign_same, splice_same, keyset_same}
 use Rattle.model.proofs.Machine.Asking.{more, at_place, fail_more, base_fail, one, Fw, shift, from, same, answers, stops, faulted, op_follows, Fv, Qu, ask_val, ask_name, ask_match, fin_unit, fail_here, fail_one, fail_two}
@@ -40,13 +41,13 @@ module _ (prog : Program) (img : Module) (trees_at : ℕ → Option Expr) (place
   ask_object {n = n} (Some e) g code wr up le hk hf = ask_val prog img trees_at placed g code wr up (λ u w1 x m1 hu r1. shift prog img trees_at placed 0 (n - 1) (omega arith) refl (hk u w1 x m1 hu r1)) hf
 
   set_key_local : (k : Option KeyId) (o : Option Expr) (h : Here) (r : ℕ) → CodeO prog img trees_at o h.p r → KeyAt prog img trees_at op.KeySet k r h.q → {rk : ℕ} (w : W) (m : MW) → suc (2 + 2 * object_size o) ≤ rk → R w m
-      → Fw prog img trees_at placed rk 4 (Run h.p h.ops h.hs h.fs m) (Qu prog img trees_at placed h) (Fv prog img trees_at placed h) (set_key_rule k o w)
+      → Fw prog img trees_at placed rk 2 (Run h.p h.ops h.hs h.fs m) (Qu prog img trees_at placed h) (Fv prog img trees_at placed h) (set_key_rule k o w)
   set_key_local None o h r code x w m up wr = absurd x
   set_key_local (Some k) o h r code is w m up wr =
       ask_object o (at_place h h.p r) code wr up (omega arith) (λ u w1 x m1 hu r1. fin_unit prog img trees_at placed h (op.KeySet k) (omega arith) is refl (keyset_same trees_at k hu r1)) (fail_here prog img trees_at placed h)
 
   assign_local : (t : Option Bytes) (x : Expr) (o : Option Expr) (h : Here) → CodeAssign prog img trees_at t x o h.p h.q → (w : W) (m : MW) → R w m
-      → Fw prog img trees_at placed (rank (QBody (Assign x o))) 4 (Run h.p h.ops h.hs h.fs m) (Qu prog img trees_at placed h) (Fv prog img trees_at placed h) (assign_rule t x o w)
+      → Fw prog img trees_at placed (rank (QBody (Assign x o))) 2 (Run h.p h.ops h.hs h.fs m) (Qu prog img trees_at placed h) (Fv prog img trees_at placed h) (assign_rule t x o w)
   assign_local None x o h (r, s, name, code, is) w m wr =
       ask_name prog img trees_at placed (at_place h h.p r) name wr (omega arith)
       (λ n w1 m1 r1. ask_object o (more h r s (ON n)) code r1 (omega arith) (omega arith)
@@ -55,7 +56,7 @@ module _ (prog : Program) (img : Module) (trees_at : ℕ → Option Expr) (place
   assign_local (Some k) x o h (r, code, at) w m wr = set_key_local (key_named k) o h r code at w m (omega arith) wr
 
   body_local : (c : Body) (h : Here) → CodeB prog img trees_at c h.p h.q → (w : W) (m : MW) → R w m
-      → Fw prog img trees_at placed (rank (QBody c)) 4 (Run h.p h.ops h.hs h.fs m) (Qu prog img trees_at placed h) (Fv prog img trees_at placed h) (rule prog (QBody c) w)
+      → Fw prog img trees_at placed (rank (QBody c)) 2 (Run h.p h.ops h.hs h.fs m) (Qu prog img trees_at placed h) (Fv prog img trees_at placed h) (rule prog (QBody c) w)
   body_local Nothing h at w m wr = answers prog img trees_at placed 0 (omega arith) (m, wr, ap (λ p. Run p h.ops h.hs h.fs m) (sym at))
   body_local (Evaluate e) h (r, code, is) w m wr =
       ask_val prog img trees_at placed (at_place h h.p r) code wr (omega arith)
@@ -98,7 +99,7 @@ module _ (prog : Program) (img : Module) (trees_at : ℕ → Option Expr) (place
 
   ask_exec : {rk k o : ℕ} {fs : List Frame} {w : W} {m : MW} → Base fs → 2 ≤ rk → img.stmt k ≡ Some o → R w m → Fw prog img trees_at placed rk 0 (Run o [] [] fs m) (Qe fs) Fe (Ask (QExec k) w Ret Fail)
   ask_exec {rk} {k} {o} {fs} {m = m} b up st wr = record {
-    by = (0, (o, fs, st, b), m, refl, wr, rk, up, inr (le_refl rk), 0, omega arith, (λ l w1 s (m1, r1, e1). (0, omega arith, (m1, r1, e1))), (λ w1 s b. absurd b));
+    by = (0, (o, fs, st, b), m, refl, wr, rk, up, inr (le_refl rk), 0, (omega arith, omega arith), (λ l w1 s (m1, r1, e1). (0, omega arith, (m1, r1, e1))), (λ w1 s b. absurd b));
   }
 
   known_local : {rk : ℕ} {w : W} (fs : List Frame) (m : MW) (l : Bytes) (o : Option ℕ) → Base fs → 2 ≤ rk → prog.label l ≡ o → R w m → Fw prog img trees_at placed rk 0 (machine.go_to_known img o fs m) (Qe fs) Fe (to_known prog o w)
@@ -145,7 +146,7 @@ module _ (prog : Program) (img : Module) (trees_at : ℕ → Option Expr) (place
   limit_same : {w : W} {m : MW} → R w m → over_limit m ≡ over_limit w
   limit_same {w} {m} wr = by_plain trees_at (λ m. over_limit m ≡ over_limit w) wr (λ wr'. refl)
 
-  exec_case : {fs : List Frame} {w : W} {m : MW} (k o : ℕ) (s : Option Stmt) → Base fs → prog.at k ≡ s → CodeS prog img trees_at k s o → R w m → Fw prog img trees_at placed 1 (7 * stmt_count s w + 0) (Run o [] [] fs m) (Qe fs) Fe (exec_rule prog k s w)
+  exec_case : {fs : List Frame} {w : W} {m : MW} (k o : ℕ) (s : Option Stmt) → Base fs → prog.at k ≡ s → CodeS prog img trees_at k s o → R w m → Fw prog img trees_at placed 1 (steps_per_rule * stmt_count s w + 0 - 0) (Run o [] [] fs m) (Qe fs) Fe (exec_rule prog k s w)
   exec_case k o None bs e x wr = absurd x
   exec_case {fs} {w} {m} k o (Some (End l)) bs e (q, is) wr = stops prog img trees_at placed 1 (omega arith) (m, wr, one prog img trees_at placed o q op.End [] [] fs m is)
   exec_case {fs} {w} {m} k o (Some (Plain l c g)) bs e (p, q, r, f, begin, body, leave, on, oth, num) wr =
@@ -172,7 +173,7 @@ module _ (prog : Program) (img : Module) (trees_at : ℕ → Option Expr) (place
       here = record { p = p; q = q; ops = []; hs = OnBegin f ∷ []; fs = fs; fit = tt }
 
       go : (x : Bool) → steps img 1 (Run o [] [] fs m) ≡ (if x then Over (ending.StLimit k) m else Run p [] (OnBegin f ∷ []) fs (enter_stmt k m))
-          → Fw prog img trees_at placed 1 (7 * (if x then 0 else 1) + 0) (Run o [] [] fs m) (Qe fs) Fe
+          → Fw prog img trees_at placed 1 (steps_per_rule * (if x then 0 else 1) + 0 - 0) (Run o [] [] fs m) (Qe fs) Fe
           (if x then Stop (ending.StLimit k) w else Ask (QBody c) (enter_stmt k w) (λ _ w1. go_on prog k (onward_of g) w1) (λ w1. go_on prog k (other_of g) (count_failure w1)))
       go true at = stops prog img trees_at placed 1 (omega arith) (m, wr, at)
       go false at = record {
@@ -186,7 +187,7 @@ module _ (prog : Program) (img : Module) (trees_at : ℕ → Option Expr) (place
           ln,
           inl (omega arith),
           2,
-          omega arith,
+          (omega arith, omega arith),
           (λ _ w1 s (m1, r1, e1). (from prog img trees_at placed {b = 2} 1 (omega arith) (ap (steps img 1) e1 ∙ one prog img trees_at placed q r op.Body [] (OnBegin f ∷ []) fs m1 leave) (goto_local k r (onward_of g) bs next on lo r1)).by),
           (λ w1 s (m1, r1, e1). (shift prog img trees_at placed {b = 2} 0 1 (omega arith) e1 (goto_local k f (other_of g) bs next oth lt (failure_same trees_at r1))).by),
         );

@@ -1,9 +1,10 @@
 -- Worked cases: rules used.
-use Rattle.std.proofs.Common.{◌≡◌, ℕ, List, [], ◌∷◌, pos, Some, codes, refl}
+use Rattle.std.proofs.Common.{◌≡◌, ℕ, List, [], ◌∷◌, pos, None, Some, codes, refl}
 use Rattle.model.specs.declared.image.Image.{Image}
 use Rattle.model.specs.declared.image.Level.TheVariants as levels
 use Rattle.model.specs.declared.instr.ArithOp.TheVariants as arith
 use Rattle.model.specs.declared.instr.Instr.TheVariants as op
+use Rattle.model.specs.declared.keys.KeyId.TheVariants as key
 use Rattle.model.specs.declared.primitives.PrimId.TheVariants as prim
 use Rattle.model.specs.declared.run.ErrorCode.TheVariants as error
 use Rattle.model.specs.declared.trees.Unary.TheVariants as u
@@ -187,7 +188,7 @@ image_tells_late = record {
       ∷ op.End ∷ [];
 }
 
--- counted with one in place of the 218, as other answers are, it would be bound to print by the step 7 * (20 + 1)
+-- counted with one in place of the 218, as other answers are, it would be bound to print by the step 5 * (20 + 1)
 not_told_yet : machine_at image_tells_late no_inputs 226 ≡ runs []
 unfolding image_tells_late
 not_told_yet = refl
@@ -235,7 +236,7 @@ image_never_answered = record {
       ∷ op.End ∷ op.CallV 5 0 ∷ op.Ret ∷ [];
 }
 
--- without the 246 it would be bound to print all four by the step 7 * (34 + 1)
+-- without the 246 it would be bound to print all four by the step 5 * (34 + 1)
 not_within_yet : machine_at image_never_answered no_inputs 261 ≡ runs []
 unfolding image_never_answered prim_named named
 not_within_yet = refl
@@ -274,3 +275,58 @@ all_ends = refl
 all_counted : rules_used 13 each_end no_inputs ≡ 43
 unfolding meaning query_count prim_named named each_end
 all_counted = refl
+
+-- ---- the most steps for a rule
+
+-- ` &STLIMIT = k`, `L &ANCHOR = :(L)`: behind the first, each statement is one rule, and takes BEGIN, NULL, KEYSET, BODY and
+-- GOTO
+sets_keywords : ℕ → List Stmt
+sets_keywords k = deck (does (Assign (Keyword (codes "STLIMIT")) (Some (num k))) Next ∷ at (codes "L") (Assign (Keyword (codes "ANCHOR")) None) (Always (Label (codes "L"))) ∷ [])
+
+-- its image, as the generator writes it
+image_sets_keywords : ℕ → Image
+image_sets_keywords k = record {
+  level = levels.Two;
+  entry = 1;
+  strings = codes "L" ∷ [];
+  labels = record { string = 0; statement = 2 } ∷ [];
+  statements = 0 ∷ 17 ∷ 31 ∷ [];
+  cards = 1 ∷ 2 ∷ 3 ∷ [];
+  expressions = [];
+  patterns = [];
+  code =
+      op.Begin 17 ∷ op.Int (pos k) ∷ op.KeySet key.StLimit ∷ op.Body
+      ∷ op.Begin 26 ∷ op.Null ∷ op.KeySet key.Anchor ∷ op.Body ∷ op.Goto 2
+      ∷ op.End ∷ [];
+}
+
+keywords_end : meaning_at 20 (sets_keywords 9) no_inputs ≡ ends_at_limit 2 []
+unfolding meaning key_named named sets_keywords
+keywords_end = refl
+
+-- nine statements and a node
+keywords_counted : rules_used 20 (sets_keywords 9) no_inputs ≡ 10
+unfolding meaning query_count key_named named sets_keywords
+keywords_counted = refl
+
+-- four steps for each rule, 4 * (10 + 1), are too few
+four_are_too_few : machine_at (image_sets_keywords 9) no_inputs 44 ≡ runs []
+unfolding image_sets_keywords
+four_are_too_few = refl
+
+ends_after_nine : machine_at (image_sets_keywords 9) no_inputs 45 ≡ ends_at_limit 2 []
+unfolding image_sets_keywords
+ends_after_nine = refl
+
+-- k statements are k + 1 rules and 5 * k steps, so no smaller constant is enough: these are 200 steps for 41 rules
+keywords_counted_later : rules_used 60 (sets_keywords 40) no_inputs ≡ 41
+unfolding meaning query_count key_named named sets_keywords
+keywords_counted_later = refl
+
+runs_before_forty : machine_at (image_sets_keywords 40) no_inputs 199 ≡ runs []
+unfolding image_sets_keywords
+runs_before_forty = refl
+
+ends_after_forty : machine_at (image_sets_keywords 40) no_inputs 200 ≡ ends_at_limit 2 []
+unfolding image_sets_keywords
+ends_after_forty = refl

@@ -16,20 +16,35 @@ use Rattle.model.specs.Language.RulesUsed.{scan_count, rules_used}
 
 -- ---- of a match
 
--- code that stands for a pattern comes to the event of its scan, under answers that are alike, within four pattern steps
+-- code that stands for a pattern comes to the event of its scan, under answers that are alike, within three pattern steps
 -- for each rule that the scan uses, where all the answers are handed in from the start
 abbrev pub PatternStepsBounded : Type 0
-PatternStepsBounded = (s : List ℕ) (xs : ℕ → Option Expr) (p : Pat) (code : Code) → Stands xs p code → (n left b : ℕ) (t : Script) (u : Answers) → Alike xs t u → scan s n p left b t ≢ Running → (m : ℕ) × (m ≤ 4 * scan_count s n p left b t) × AlikeEvent xs (scan s n p left b t) (event_of (match_steps s code left b u m))
+PatternStepsBounded = (s : List ℕ) (xs : ℕ → Option Expr) (p : Pat) (code : Code) → Stands xs p code → (n left b : ℕ) (t : Script) (u : Answers) → Alike xs t u → scan s n p left b t ≢ Running → (m : ℕ) × (m ≤ 3 * scan_count s n p left b t) × AlikeEvent xs (scan s n p left b t) (event_of (match_steps s code left b u m))
 
 -- the same where i steps are done and it still runs, as after an answer: the steps since the match's start are no more
 abbrev pub PatternStepsOnBounded : Type 0
-PatternStepsOnBounded = (s : List ℕ) (xs : ℕ → Option Expr) (p : Pat) (code : Code) → Stands xs p code → (n left b : ℕ) (t : Script) (u : Answers) → Alike xs t u → scan s n p left b t ≢ Running → (i : ℕ) → event_of (match_steps s code left b u i) ≡ Running → (l : ℕ) × (i + l ≤ 4 * scan_count s n p left b t) × AlikeEvent xs (scan s n p left b t) (event_of (pattern_steps s code l (match_steps s code left b u i)))
+PatternStepsOnBounded = (s : List ℕ) (xs : ℕ → Option Expr) (p : Pat) (code : Code) → Stands xs p code → (n left b : ℕ) (t : Script) (u : Answers) → Alike xs t u → scan s n p left b t ≢ Running → (i : ℕ) → event_of (match_steps s code left b u i) ≡ Running → (l : ℕ) × (i + l ≤ 3 * scan_count s n p left b t) × AlikeEvent xs (scan s n p left b t) (event_of (pattern_steps s code l (match_steps s code left b u i)))
 
 -- ---- of a run
 
--- where the meaning of a deck ends having used r rules, the module has ended so too after any 7 * (r + 1) steps or more
+-- the instructions that a statement has beside its body: BEGIN, BODY and its goto
+abbrev pub statement_steps : ℕ
+statement_steps = 3
+
+-- those that its body has beside the nodes in it: one for an object that isn't given, and the assignment. A replacement has
+-- two more, FETCHK and MATCHR, and they are its name's: a node has at most four, but a name three
+abbrev pub body_steps : ℕ
+body_steps = 2
+
+-- so many for each rule. Of a match, a row of its search has at most three pattern steps, and an answer the instruction that
+-- ends an expression; of a call, the node has its instruction and that of the return
+abbrev pub steps_per_rule : ℕ
+steps_per_rule = statement_steps + body_steps
+
+-- where the meaning of a deck ends having used r rules, the module has ended so too after any steps_per_rule * (r + 1) steps
+-- or more
 abbrev pub EndsInTime : List Stmt → Image → Type 0
-EndsInTime deck image = (inputs : Inputs) (n : ℕ) (e : Ending) → (meaning_at n deck inputs).ending ≡ Some e → (b : ℕ) → 7 * (rules_used n deck inputs + 1) ≤ b → machine_at image inputs b ≡ meaning_at n deck inputs
+EndsInTime deck image = (inputs : Inputs) (n : ℕ) (e : Ending) → (meaning_at n deck inputs).ending ≡ Some e → (b : ℕ) → steps_per_rule * (rules_used n deck inputs + 1) ≤ b → machine_at image inputs b ≡ meaning_at n deck inputs
 
 -- the law: wherever the code of each statement stands
 abbrev pub RunStepsBounded : Type 0
@@ -38,9 +53,9 @@ RunStepsBounded = (deck : List Stmt) (image : Image) (trees_at : ℕ → Option 
 -- ---- of what is printed, also where a run never ends
 
 -- what the meaning of a deck has printed at some depth, having used r rules to that depth, the module has printed after
--- any 7 * (r + 1) steps or more
+-- any steps_per_rule * (r + 1) steps or more
 abbrev pub PrintsInTime : List Stmt → Image → Type 0
-PrintsInTime deck image = (inputs : Inputs) (n b : ℕ) → 7 * (rules_used n deck inputs + 1) ≤ b → IsBeginning (meaning_at n deck inputs).printed (machine_at image inputs b).printed
+PrintsInTime deck image = (inputs : Inputs) (n b : ℕ) → steps_per_rule * (rules_used n deck inputs + 1) ≤ b → IsBeginning (meaning_at n deck inputs).printed (machine_at image inputs b).printed
 
 -- the law: wherever the code of each statement stands
 abbrev pub RunPrintsBounded : Type 0
