@@ -241,29 +241,42 @@ def of_case(program, case, folder):
     return seen, fault(case, wanted, seen)
 
 
-# Statements of large decks, and how many megabytes half a million of them take at most.
+class Large(typing.NamedTuple):
+    """The statement of a number of a large deck, and how many megabytes compiling and loading the largest may take."""
+
+    statement: typing.Callable[[int], str]
+    compiled: int
+    loaded: int
+
+
 LARGE = {
-    "assignments of a string": (lambda n: " X = 'AAAAAAAAAAAAAAAAAAAAAAAA'\n", 130),
-    "labels and gotos": (lambda n: f"L{n:06} A{n:06} = B :(L{n:06})\n", 250),
-    "names of their own": (lambda n: f" NAME{n:06} = .OTHER{n:06} N\n", 260),
-    "patterns": (lambda n: f" X ('A' | B{n:06} . C) LEN(1)\n", 280),
-    "brackets": (lambda n: " X = (((A + 1) * (B + 2)) - (C + 3))\n", 280),
+    "assignments of a string": Large(lambda n: " X = 'AAAAAAAAAAAAAAAAAAAAAAAA'\n", 122, 82),
+    "labels and gotos": Large(lambda n: f"L{n:06} A{n:06} = B :(L{n:06})\n", 238, 203),
+    "names of their own": Large(lambda n: f" NAME{n:06} = .OTHER{n:06} N\n", 262, 218),
+    "patterns": Large(lambda n: f" X ('A' | B{n:06} . C) LEN(1)\n", 255, 238),
+    "brackets": Large(lambda n: " X = (((A + 1) * (B + 2)) - (C + 3))\n", 215, 213),
 }
 
 
 def large(program, folder):
-    """Compiles large decks of three sizes; for each kind the seconds, the megabytes of the largest, what is wrong."""
-    for name, (statement, most) in LARGE.items():
+    """Compiles large decks of three sizes and loads the largest; for each kind what it took, and whether it's wrong."""
+    for name, kind in LARGE.items():
         seconds = []
-        for count in (125_000, 250_000, 500_000):
-            deck = "".join(map(statement, range(count))) + "END\n"
+        most = (DECK_BYTES - len("END\n")) // len(kind.statement(0))
+        for count in (most // 4, most // 2, most):
+            deck = "".join(map(kind.statement, range(count))) + "END\n"
             (folder / "deck.sno").write_text(deck)
             seen = ran(program, ["compile", "deck.sno", "deck.module"], folder)
             seconds.append(seen.seconds)
+        loaded = ran(program, ["check", "deck.module"], folder)
         times = ", ".join(f"{it:.1f}" for it in seconds)
-        told = f"{len(deck) / 1e6:.1f} megabytes of {name}: {times} seconds, {seen.megabytes:.0f} megabytes"
+        told = (
+            f"{len(deck) / 1e6:.1f} megabytes of {name}: {times} seconds, {seen.megabytes:.0f} megabytes;"
+            f" loaded in {loaded.seconds:.1f} seconds, {loaded.megabytes:.0f} megabytes"
+        )
         slow = any(later > MOST_TIMES * earlier for earlier, later in zip(seconds, seconds[1:]))
-        yield told, seen.status != 0 or slow or seen.megabytes > most
+        much = seen.megabytes > kind.compiled or loaded.megabytes > kind.loaded
+        yield told, seen.status != 0 or loaded.status != 0 or slow or much
 
 
 def arguments():

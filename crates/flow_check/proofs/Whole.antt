@@ -17,6 +17,7 @@ use Rattle.flow_check.specs.Numbers.{Distinct}
 use Rattle.flow_check.specs.Rules.{rule_of, next_of}
 use Rattle.flow_check.specs.Shapes.{IsShape, IsNext, empty_shape}
 use Rattle.flow_check.specs.Marks.{met, seeded, Followed, Stepped}
+use Rattle.flow_check.proofs.Stacks.{distinct_none}
 use Rattle.flow_check.proofs.Forward.{Known, short}
 use Rattle.flow_check.proofs.SameShapes.{empty_is}
 use Rattle.flow_check.proofs.Telling.{Tells, tells_same, tells_seeded}
@@ -70,7 +71,7 @@ walk_starts im ns m e h = record {
 }
   where
     none_twice : Distinct ns
-    none_twice = subst Distinct (sym e) (λ i j n f g. absurd (cc))
+    none_twice = subst Distinct (sym e) distinct_none
 
     tells : (y : ℕ) → Tells ns (Known im 0 y) (m y)
     tells y =

@@ -197,7 +197,7 @@ pub fn check_flow(alloc: Global, image: &ImageView<'_>) -> Result<Option<u32>, A
     ensures least { IfOk result (λ flow. IsLeast (BreaksFlow image.now) flow) }
 {
     let marks = roots(alloc, image)?;
-    let pool = Pool::new(alloc, image.statements().len())?;
+    let pool = Pool::new(alloc);
     let mut walk = Walk {
         pool,
         marks,

@@ -5,7 +5,7 @@ ghost use Rattle.std.specs.Prelude.{IfNone, Some, None, true, option_map, slice_
 ghost use Rattle.flow_check.specs.declared.pool.Top.{Top};
 ghost use Rattle.flow_check.specs.declared.pool.Top.TheVariants.{Run};
 ghost use Rattle.flow_check.specs.Numbers.{Is, Grows, AreBoth, node, node_at, run_length, below_run};
-ghost use Rattle.flow_check.specs.Numbers.{popped};
+ghost use Rattle.flow_check.specs.Numbers.{popped, first_begin, lone_number, placed};
 ghost use Rattle.flow_check.specs.Shapes.{kind_of, runs};
 ghost use Rattle.model.specs.Module.Flow as flow;
 
@@ -34,6 +34,9 @@ pub(crate) type Stack = u32;
 /// The empty stack.
 pub(crate) const EMPTY: Stack = 0;
 
+/// The least number of a stack of one BEGIN. These are known by their numbers; all others have nodes.
+const FIRST_BEGIN: Stack = 2_147_483_648;
+
 /// A stack: its top, and the stack below.
 #[derive(Clone, Copy, PartialEq, Eq, Hash)]
 pub(crate) struct Node {
@@ -43,7 +46,7 @@ pub(crate) struct Node {
 
 const RECENT: usize = 48;
 
-/// The stacks that there are, no two equal.
+/// The stacks that have nodes, no two equal.
 #[derive(Drop)]
 pub(crate) struct Pool {
     nodes: IndexSet<Node>,
@@ -66,24 +69,40 @@ fn recent_place(kind: Kind, count: u32, below: Stack) -> usize
 /// The number of the stack whose node stands at a place; a place that has no such number is one that there is no room
 /// for.
 fn numbered(index: usize) -> Result<Stack, AllocError>
-    ensures { IfOk result (λ k. k ≡ index + 1) }
+    ensures number { IfOk result (λ k. k ≡ index + 1) }
+    ensures low { IfOk result (λ k. k < first_begin) }
 {
-    if index >= u32::MAX as usize {
+    if index >= FIRST_BEGIN as usize - 1 {
         return Err(AllocError);
     }
     Ok(index as u32 + 1)
 }
 
+/// The number of a stack that is known by it.
+fn lone(top: Top, below: Stack) -> Option<Stack>
+    ensures { result ≡ lone_number top below }
+{
+    match top {
+        Top::Begin(target) => {
+            if below == EMPTY && target < FIRST_BEGIN {
+                Some(FIRST_BEGIN + target)
+            } else {
+                None
+            }
+        }
+        _ => None,
+    }
+}
+
 impl Pool {
-    /// No stacks, with room for so many.
-    pub(crate) fn new(alloc: Global, room: usize) -> Result<Pool, AllocError>
-        ensures { IfOk result (λ pool. pool.nodes.keys ≡ []) }
+    /// No stacks.
+    pub(crate) fn new(alloc: Global) -> Pool
+        ensures { result.nodes.keys ≡ [] }
     {
-        let nodes = IndexSet::with_capacity(alloc, room)?;
-        Ok(Pool {
-            nodes,
+        Pool {
+            nodes: IndexSet::new(alloc),
             recent: [EMPTY; RECENT],
-        })
+        }
     }
 
     /// The number of the stack with one more on it.
@@ -93,6 +112,9 @@ impl Pool {
         ensures put { IfOk result (λ k.
             node_at self.new.nodes.keys k ≡ Some (record { top = top; below = below })) }
     {
+        if let Some(stack) = lone(top, below) {
+            return Ok(stack);
+        }
         let (index, _) = self.nodes.insert_full(Node { top, below })?;
         let stack = numbered(index)?;
         Ok(stack)
@@ -132,10 +154,25 @@ impl Pool {
         }
     }
 
-    /// The top of a stack.
+    /// What stands on a stack.
     #[inline(always)]
     pub(crate) fn top(&self, stack: Stack) -> Option<Node>
         ensures { result ≡ node_at self.now.nodes.keys stack }
+    {
+        if stack < FIRST_BEGIN {
+            self.placed(stack)
+        } else {
+            Some(Node {
+                top: Top::Begin(stack - FIRST_BEGIN),
+                below: EMPTY,
+            })
+        }
+    }
+
+    /// The node of a stack that has one.
+    #[inline(always)]
+    fn placed(&self, stack: Stack) -> Option<Node>
+        ensures { result ≡ placed self.now.nodes.keys stack }
     {
         let index = stack.checked_sub(1)?;
         self.nodes.get_index(index as usize).copied()

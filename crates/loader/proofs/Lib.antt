@@ -1,4 +1,5 @@
 pub mod Judging
+pub mod Leading
 pub mod Labelling
 pub mod Numbers
 pub mod Coding

@@ -17,6 +17,7 @@ mod forms;
 mod instrs;
 mod joining;
 mod labels;
+mod leads;
 mod loading;
 mod module;
 mod names;

@@ -141,12 +141,19 @@ impl<'a> ImageView<'a> {
         Instrs::new(self.len, self.code)
     }
 
+    /// The instructions, each read from its bytes.
+    pub fn decoded(&self, alloc: Global) -> Result<Seq<Instr>, AllocError>
+        ensures { IfOk result (λ code. code ≡ self.now.code) }
+    {
+        collected(alloc, self.len, self.code())
+    }
+
     /// The image, with copies of the strings and the code.
     pub fn into_image(self, alloc: Global) -> Result<Image, AllocError>
         ensures { IfOk result (λ image. image ≡ self.entry) }
     {
         let strings = copied(alloc, self.strings.as_slice())?;
-        let code = collected(alloc, self.len, self.code())?;
+        let code = self.decoded(alloc)?;
         let ImageView {
             level,
             entry,

@@ -3,7 +3,9 @@
 ghost use Rattle.std.specs.Prelude.{◌≡◌, ◌<◌, ◌≤◌, ◌^◌, ◌++◌, ℕ, List, length, OnOk, IfOk, All};
 ghost use Rattle.std.specs.List.{flat_map};
 ghost use Rattle.model.specs.Module.Spelling.{u32 as u32_bytes, u16 as u16_bytes, counted, magic, level_number};
-ghost use Rattle.model.specs.Module.Spelling.{string, label, pattern, pat_instr, code_bytes, spelling, IsImage, most};
+ghost use Rattle.model.specs.Module.Spelling.{string, label, pattern, pat_instr, instr, code_bytes, spelling, IsImage};
+ghost use Rattle.model.specs.Module.Spelling.{most};
+ghost use Rattle.model.specs.Module.Images.{code_size};
 
 use crate::fields::{MAGIC, level_number, version_number};
 use code_format::{put_instr, put_pat_instr, put_u32};
@@ -100,6 +102,16 @@ impl Entry for PatInstr {
     }
 }
 
+impl Entry for Instr {
+    ghost spell = { instr };
+
+    ghost fits = { λ _. Unit {0} };
+
+    fn put(&self, out: &mut Vec<u8>) -> Result<(), AllocError> {
+        put_instr(self, out)
+    }
+}
+
 impl Entry for Seq<PatInstr> {
     ghost spell = { pattern };
 
@@ -110,15 +122,27 @@ impl Entry for Seq<PatInstr> {
     }
 }
 
-/// The instructions' bytes.
-fn code_of(alloc: Global, code: &[Instr]) -> Result<Vec<u8>, AllocError>
-    ensures { IfOk result (λ bytes. bytes.items ≡ code_bytes code.now) }
+/// How many bytes instructions have.
+fn size_of(code: &[Instr]) -> u32
+    requires { code_size code.now < 2 ^ 32 }
+    ensures { result ≡ code_size code.now }
 {
-    let mut bytes = Vec::new(alloc);
+    let mut size = 0;
     for i in code {
-        put_instr(i, &mut bytes)?;
+        size += i.size();
     }
-    Ok(bytes)
+    size
+}
+
+/// How many bytes the code has, and its instructions.
+#[tactic(auto, using(model::proofs::Module::CodeBytes::code_long))]
+fn put_code(out: &mut Vec<u8>, code: &[Instr]) -> Result<(), AllocError>
+    requires { length (code_bytes code.now) < 2 ^ 32 }
+    ensures { OnOk result (out.new.items ≡ out.old.items ++ string (code_bytes code.now)) }
+{
+    put_u32(out, size_of(code))?;
+    put_entries(out, code)?;
+    Ok(())
 }
 
 /// What stands before the tables.
@@ -146,7 +170,6 @@ pub fn write_image(alloc: Global, image: &Image) -> Result<Vec<u8>, AllocError>
     put_entries(&mut out, image.cards.as_slice())?;
     put_table(&mut out, image.expressions.as_slice())?;
     put_table(&mut out, image.patterns.as_slice())?;
-    let code = code_of(alloc, image.code.as_slice())?;
-    put_string(&mut out, code.as_slice())?;
+    put_code(&mut out, image.code.as_slice())?;
     Ok(out)
 }

@@ -5,7 +5,7 @@ use Rattle.flow_check.proofs.Whole.{walk_starts, walk_ends, walk_short, walk_sum
 use Rattle.flow_check.proofs.check.check_flow.Goals as goal
 
 pub loop-instr-init : goal.loop-instr-init
-loop-instr-init c = record { place = 0; code = sym c.code-instr-items.ensures ∙ search rules; walked = walk_starts _ _ _ c.in_ok-pool.ensures c.in_ok-marks.ensures }
+loop-instr-init c = record { place = 0; code = sym c.code-instr-items.ensures ∙ search rules; walked = walk_starts _ _ _ c.new-pool.ensures c.in_ok-marks.ensures }
 
 pub step-requires : goal.step-requires
 step-requires c =

@@ -13,4 +13,4 @@ overflow_add-count c =
 pub returns-clause-pushed : goal.returns-clause-pushed
 returns-clause-pushed c = λ ks h.
     let r = c.run-count.ensures (runs ks) h in
-    pushed _ _ c.in_ok-more.ensures.grows c.args.kind c.run-count.result.0 c.run-count.result.1 _ ks r.0 r.1 c.in_ok-more.ensures.put
+    pushed _ _ c.in_ok-more.ensures.grows c.args.kind c.run-count.result.0 c.run-count.result.1 c.in_ok-more.more ks r.0 r.1 c.in_ok-more.ensures.put
