@@ -1,6 +1,6 @@
 //! Instructions that go on elsewhere.
 
-ghost use Rattle.std.specs.Prelude.{◌≡◌, ◌∷◌, ℕ, List, [], Err};
+ghost use Rattle.std.specs.Prelude.{◌≡◌, ◌∷◌, ℕ, List, [], Err, IfSome};
 ghost use Rattle.model.specs.Language.Io.{Io};
 ghost use Rattle.model.specs.Language.Calls.{return_of};
 ghost use Rattle.model.specs.Module.Flow.{V};
@@ -10,6 +10,7 @@ ghost use Rattle.model.specs.declared.image.Image.{Image};
 ghost use Rattle.model.specs.declared.run.Stop.TheVariants.{NoMemory};
 ghost use Rattle.statement_machine.specs.Stopped.{IfHalted};
 ghost use Rattle.frames.specs.Kinds.{kinds_of};
+ghost use Rattle.loader.specs.Labels.{IsLabelled};
 ghost use Rattle.frames.specs.declared.frame.Frame.{Frame};
 ghost use Rattle.world.specs.Held.{world_of};
 ghost use Rattle.statement_machine.specs.Calling.{GoesTo, WaitsAsBefore};
@@ -23,6 +24,22 @@ use loader::Module;
 use model::{ErrorCode, Instr, ReturnKind};
 use strings::Text;
 use world::Fault;
+
+/// The place of the statement that a label names, if it is no return. The label may be the string of this number, which
+/// saves the look-up.
+pub(crate) fn entry_of(program: &Module, label: &Text, number: u32) -> Option<usize>
+    ensures { IfSome result (λ place. IsLabelled program.now label.now place) }
+{
+    if let Some(place) = program.place_labelled(label, number) {
+        return Some(place);
+    }
+    let bytes = label.as_slice();
+    let None = ReturnKind::named(bytes) else {
+        return None;
+    };
+    let statement = program.label(bytes)?;
+    program.statement(statement)
+}
 
 impl State {
     /// To the label that a value is, or out of a call, which is told.
