@@ -99,16 +99,16 @@ export function telling(deck, unit, watched) {
 export function readListing(text) {
   const lines = text.split('\n'), cards = [];
   let now = null;
+  const begin = (card, first, last, text) => cards.push(now = { card, first, last, text, faults: [], code: [] });
   for (const line of lines) {
     const card = /^ {0,5}(\d+) +(?:(\d+)(?:-(\d+))? +)?/.exec(line.slice(0, 16));
-    if (card && line.length >= 15 && !/^\d+ cards?, /.test(line)) {
-      now = { card: Number(card[1]), first: Number(card[2] ?? 0), last: Number(card[3] ?? card[2] ?? 0), text: line.slice(16), faults: [], code: [], more: [] };
-      cards.push(now);
-    } else if (now && line.startsWith(' '.repeat(15))) {
-      const told = line.slice(16);
-      const fault = /^(?:statement \d+|card \d+) ([LPC]\d)$/.exec(told);
-      if (fault) now.faults.push({ cause: told, column: now.caret, text: '' });
-      else if (/^ *\^$/.test(line.slice(15))) now.caret = line.length - 17;
+    if (card && line.length >= 15 && !/^\d+ cards?, /.test(line)) begin(Number(card[1]), Number(card[2] ?? 0), Number(card[3] ?? card[2] ?? 0), line.slice(16));
+    else if (line.startsWith(' '.repeat(15))) {
+      const told = line.slice(16), fault = /^(?:statement \d+|card (\d+)) [LPC]\d$/.exec(told);
+      // A fault can be one of a card that isn't there, behind the last.
+      if (fault?.[1] && Number(fault[1]) !== now?.card) begin(Number(fault[1]), 0, 0, '');
+      if (!now) continue;
+      if (fault) { now.faults.push({ cause: told, column: now.caret, text: '' }); now.caret = undefined; } else if (/^ *\^$/.test(line.slice(15))) now.caret = line.length - 17;
       else if (/^[0-9a-f]{8} [A-Z]/.test(told)) now.code.push(told);
       else if (now.faults.length) now.faults[now.faults.length - 1].text += told.trim() + ' ';
       else now.text += told;

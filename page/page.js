@@ -3,7 +3,7 @@
 const of = (id) => document.getElementById(id);
 const make = (name, given = {}, ...parts) => { const made = Object.assign(document.createElement(name), given); made.append(...parts); return made; };
 const number = (n) => n.toLocaleString('en');
-const ROW = 20, SHOWN = 200000, LISTED = 3000;
+const ROW = 20, SHOWN = 200000, LISTED = 3000, WATCHED = 24;
 const deck = of('deck'), typed = of('typed');
 
 // ---- the module and its workers: one runs, one lists
@@ -17,7 +17,7 @@ class Hand {
   constructor() { this.calls = new Map(); this.next = 0; this.works = false; this.start(); }
   start() {
     this.worker = new Worker(source);
-    this.worker.onmessage = ({ data }) => { if (data.over === this.next) this.works = false; this.calls.get(data.id)?.(data); };
+    this.worker.onmessage = ({ data }) => { if (data.over === this.next) { this.works = false; tell(); } this.calls.get(data.id)?.(data); };
     this.worker.onerror = (event) => { event.preventDefault(); for (const told of this.calls.values()) told({ failed: event.message || 'the worker failed' }); };
     const { worker } = this;
     module.then((compiled) => { try { worker.postMessage({ module: compiled }); } catch { worker.postMessage({ module: bytes }); } }, () => {});
@@ -34,6 +34,8 @@ class Hand {
   stop() { this.worker.terminate(); this.calls.clear(); this.works = false; this.start(); }
 }
 const runner = new Hand(), lister = new Hand();
+// For tests: whether anything of a run still goes on.
+const tell = () => { document.body.dataset.works = runner.works ? 'yes' : ''; };
 
 // ---- the state
 
@@ -154,6 +156,7 @@ function changed() {
   forget();
   lines = deck.value.split('\n').length;
   clearTimeout(pause);
+  lister.calls.clear();
   pause = setTimeout(() => list(), deck.value.length > 200000 ? 800 : 120);
   place();
   repaint();
@@ -195,20 +198,20 @@ function showUnits() {
   typed.placeholder = shown === 5 ? 'Records that the deck reads, one a line' : `Unit ${shown}: records that the deck reads, one a line; or none, and the deck writes it`;
   of('drop').hidden = shown === 5;
 }
+const offer = () => { of('which').value = [7, 8, 9, ...Array(100).keys()].find((n) => n !== 6 && !units.some((each) => each.unit === n)); };
 
 function addUnit(unit) {
   if (unit === 6 || units.some((each) => each.unit === unit)) return;
   units = [...units, { unit, typed: '', only: 0 }].sort((a, b) => a.unit - b.unit);
   shown = unit;
-  of('which').value = [7, 8, 9, ...Array(100).keys()].find((n) => n !== 6 && !units.some((each) => each.unit === n));
-  showUnits();
+  offer(); showUnits();
 }
 of('add').onclick = () => {
   const asked = of('which').value.trim();
   if (/^\d{1,2}$/.test(asked)) { addUnit(Number(asked)); typed.focus(); } else of('which').focus();
 };
 of('which').onkeydown = (event) => { if (event.key === 'Enter' && !event.ctrlKey) of('add').click(); };
-of('drop').onclick = () => { units = units.filter((each) => each.unit !== shown); shown = 5; showUnits(); typed.focus(); };
+of('drop').onclick = () => { units = units.filter((each) => each.unit !== shown); shown = 5; offer(); showUnits(); typed.focus(); };
 typed.oninput = () => { units.find((each) => each.unit === shown).typed = typed.value; forget(); repaint(); };
 
 // ---- what is printed
@@ -273,6 +276,7 @@ function setBusy(now) {
   busy = now;
   of('run').disabled = now; of('stop').disabled = !now; of('profile').disabled = now; of('trace').disabled = now;
   document.body.dataset.state = now ? 'running' : 'ended';
+  tell();
 }
 
 const faint = (text) => make('span', { className: 'faint', textContent: text });
@@ -352,7 +356,7 @@ function showEnd() {
   if (status !== 3) more.push(faint(time(came.time)), faint(size(came.memory)));
   if (came.same) more.push(make('span', { className: 'faint', title: 'The call page_run handed over the same; of that it is proved that the deck means it.', textContent: '✓ as page_run' }));
   finish(status ? 'bad' : 'good', head, what, ...more);
-  document.body.dataset.status = String(status);
+  Object.assign(document.body.dataset, { status, same: came.same });
 }
 
 // ---- the profile and the trace: a second deck that tells of each statement
@@ -414,7 +418,7 @@ of('profile').onclick = () => {
 };
 
 function trace() {
-  const watched = variables(deck.value).slice(0, 24);
+  const watched = variables(deck.value).slice(0, WATCHED);
   of('follow').replaceChildren(make('p', { className: 'prose', textContent: 'The trace shows each statement, forward and back.' }));
   follow(watched, MOST, (answer) => {
     heat = null; of('profile').setAttribute('aria-pressed', 'false');
@@ -434,9 +438,9 @@ function showSteps() {
   const to = (n) => () => move(n());
   const button = (text, title, n) => make('button', { className: 'small', textContent: text, title, onclick: to(n) });
   const slide = make('input', { type: 'range', min: 0, max: trail.length - 1, value: step, ariaLabel: 'Statement of the trace', oninput: () => move(Number(slide.value)) });
-  const body = make('tbody');
-  box.replaceChildren(make('div', { className: 'steps' }, button('|◀', 'The first (Home)', () => 0), button('◀', 'Back (←)', () => step - 1), button('▶', 'Forward (→)', () => step + 1), button('▶|', 'The last (End)', () => trail.length - 1), slide, make('span', { id: 'step' })), make('table', {}, body));
-  trail.slide = slide; trail.body = body;
+  const body = make('tbody'), text = make('div', { className: 'statement' });
+  box.replaceChildren(make('div', { className: 'steps' }, button('|◀', 'The first (Home)', () => 0), button('◀', 'Back (←)', () => step - 1), button('▶', 'Forward (→)', () => step + 1), button('▶|', 'The last (End)', () => trail.length - 1), slide, make('span', { id: 'step' })), text, make('table', {}, body));
+  Object.assign(trail, { slide, body, text });
   move(0);
   slide.focus();
 }
@@ -446,6 +450,7 @@ function move(to) {
   const now = trail[step], before = trail[step - 1], statement = trail.all[now.statement - 1];
   trail.slide.value = step;
   of('step').textContent = now.over ? `${number(step)} statements, and this is the end` : `${number(step + 1)} of ${number(trail.length - (trail.cut ? 0 : 1))}${trail.cut ? ' and more' : ''}: statement ${now.statement}, card ${statement.card}`;
+  trail.text.textContent = now.over ? '' : statement.text;
   trail.body.replaceChildren(...trail.watched.map((name, n) => {
     const value = now.values[n], text = typeof value === 'object' ? value.type : value ?? '', old = before?.values[n], was = typeof old === 'object' ? old.type : old ?? '';
     return make('tr', { className: before && text !== was ? 'new' : '' }, make('th', { textContent: name }), make('td', { textContent: text }));

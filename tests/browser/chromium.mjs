@@ -1,6 +1,6 @@
 // Chromium, by its own protocol.
 import fs from 'fs';
-import { Socket, freePort, memoryBelow, sleep, start } from './protocol.mjs';
+import { Socket, freePort, largest, memoryBelow, sleep, start } from './protocol.mjs';
 
 export async function open(program) {
   const port = await freePort();
@@ -23,14 +23,14 @@ export async function open(program) {
     return result.result.value;
   };
   return {
-    errors, asked, value,
+    errors, asked, value, canBeDark: true,
     go: async (url) => { await socket.call('Page.navigate', { url: 'about:blank' }); await socket.call('Page.navigate', { url }); while (await value('document.readyState') !== 'complete') await sleep(50); },
     size: (width, height, mobile = false) => socket.call('Emulation.setDeviceMetricsOverride', { width, height, deviceScaleFactor: 1, mobile }),
     dark: (is) => socket.call('Emulation.setEmulatedMedia', { features: [{ name: 'prefers-color-scheme', value: is ? 'dark' : 'light' }] }),
     key: async (key, code, keyCode, modifiers = 0, text = undefined) => { for (const type of ['keyDown', 'keyUp']) await socket.call('Input.dispatchKeyEvent', { type, key, code, windowsVirtualKeyCode: keyCode, modifiers, ...(type === 'keyDown' && text ? { text } : {}) }); },
     shot: async (file) => fs.writeFileSync(file, Buffer.from((await socket.call('Page.captureScreenshot', { format: 'png' })).result.data, 'base64')),
-    // What the process of the page takes.
-    memory: () => Math.max(...memoryBelow(child.pid).filter((each) => each.words.includes('--type=renderer')).map((each) => each.megabytes)),
-    close: async () => { await Promise.race([socket.call('Browser.close'), sleep(2000)]); await end(); },
+    // What the process of the page takes, and waits.
+    tab: () => largest(memoryBelow(child.pid).filter((each) => each.words.includes('--type=renderer'))),
+    close: async () => { await Promise.race([socket.call('Browser.close').catch(() => {}), sleep(2000)]); await end(); },
   };
 }

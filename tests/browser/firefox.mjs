@@ -1,8 +1,8 @@
 // Firefox, by WebDriver BiDi.
 import fs from 'fs';
-import { Socket, freePort, memoryBelow, sleep, start } from './protocol.mjs';
+import { Socket, freePort, largest, memoryBelow, sleep, start } from './protocol.mjs';
 
-const KEYS = { Enter: '\uE007', Escape: '\uE00C', ArrowRight: '\uE014', ArrowLeft: '\uE012', Tab: '\uE004', F8: '\uE038' };
+const KEYS = { Home: '\uE011', End: '\uE010', Enter: '\uE007', Escape: '\uE00C', ArrowRight: '\uE014', ArrowLeft: '\uE012', Tab: '\uE004', F8: '\uE038' };
 
 export async function open(program) {
   const port = await freePort();
@@ -14,7 +14,8 @@ export async function open(program) {
   });
   await socket.call('session.new', { capabilities: {} });
   await socket.call('session.subscribe', { events: ['log.entryAdded', 'network.beforeRequestSent'] });
-  const context = (await socket.call('browsingContext.getTree')).result.contexts[0].context;
+  // A tab that is made has the keys, which the first one hasn't.
+  const { context } = (await socket.call('browsingContext.create', { type: 'tab' })).result;
   const value = async (expression) => {
     const answer = await socket.call('script.evaluate', { expression: `(async () => JSON.stringify(await (${expression})))()`, target: { context }, awaitPromise: true });
     if (answer.result?.type !== 'success') throw new Error(answer.result?.exceptionDetails?.text ?? answer.message);
@@ -29,7 +30,7 @@ export async function open(program) {
       ...(modifiers & 2 ? [{ type: 'keyDown', value: '\uE009' }] : []), { type: 'keyDown', value: KEYS[key] ?? key }, { type: 'keyUp', value: KEYS[key] ?? key }, ...(modifiers & 2 ? [{ type: 'keyUp', value: '\uE009' }] : []),
     ] }] }),
     shot: async (file) => fs.writeFileSync(file, Buffer.from((await socket.call('browsingContext.captureScreenshot', { context })).result.data, 'base64')),
-    memory: () => Math.max(...memoryBelow(child.pid).filter((each) => each.words.includes('-contentproc') && each.words.includes('tab')).map((each) => each.megabytes)),
-    close: async () => { await Promise.race([socket.call('browser.close'), sleep(2000)]); await end(); },
+    tab: () => largest(memoryBelow(child.pid).filter((each) => each.words.includes('-contentproc') && each.words.includes('tab'))),
+    close: async () => { await Promise.race([socket.call('browser.close').catch(() => {}), sleep(2000)]); await end(); },
   };
 }

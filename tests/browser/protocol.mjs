@@ -28,11 +28,20 @@ export function memoryBelow(pid) {
   for (const name of fs.readdirSync('/proc').filter((each) => /^\d+$/.test(each))) {
     try {
       const status = fs.readFileSync(`/proc/${name}/status`, 'utf8');
-      below.set(Number(name), { parent: Number(/^PPid:\s+(\d+)/m.exec(status)[1]), kilobytes: ['RssAnon', 'RssShmem'].reduce((sum, part) => sum + Number(new RegExp(`^${part}:\\s+(\\d+)`, 'm').exec(status)?.[1] ?? 0), 0), words: fs.readFileSync(`/proc/${name}/cmdline`, 'utf8') });
+      below.set(Number(name), { pid: name, parent: Number(/^PPid:\s+(\d+)/m.exec(status)[1]), kilobytes: ['RssAnon', 'RssShmem'].reduce((sum, part) => sum + Number(new RegExp(`^${part}:\\s+(\\d+)`, 'm').exec(status)?.[1] ?? 0), 0), words: fs.readFileSync(`/proc/${name}/cmdline`, 'utf8') });
     } catch { /* it ended meanwhile */ }
   }
   const isBelow = (each) => each === pid || below.has(each) && isBelow(below.get(each).parent);
-  return [...below].filter(([each]) => isBelow(each)).map(([, each]) => ({ megabytes: each.kilobytes / 1024, words: each.words }));
+  return [...below].filter(([each]) => isBelow(each)).map(([, { pid, kilobytes, words }]) => ({ pid, megabytes: kilobytes / 1024, words }));
+}
+
+// Of some processes the largest, which is that of the page: its megabytes, and how many milliseconds its thread for the page
+// has been ready to run while others had the processors (none, where the system doesn't count them).
+export function largest(processes) {
+  const most = processes.reduce((a, b) => b.megabytes > a.megabytes ? b : a, { megabytes: 0, pid: 'self' });
+  let waited = 0;
+  try { waited = Number(fs.readFileSync(`/proc/${most.pid}/schedstat`, 'utf8').split(' ')[1]) / 1e6; } catch { /* not counted */ }
+  return { megabytes: most.megabytes, waited };
 }
 
 export class Socket {
@@ -41,9 +50,10 @@ export class Socket {
     socket.onmessage = (event) => {
       const message = JSON.parse(event.data);
       if (message.id === undefined) { heard(message); return; }
-      this.waiting.get(message.id)?.(message);
+      this.waiting.get(message.id)?.done(message);
       this.waiting.delete(message.id);
     };
+    socket.onclose = () => { for (const { failed } of this.waiting.values()) failed(new Error('the browser went away')); };
   }
   static async open(url, heard) {
     for (let n = 0; n < 200; n++) {
@@ -56,6 +66,6 @@ export class Socket {
     throw new Error(`no answer from ${url}`);
   }
   call(method, params = {}) {
-    return new Promise((done) => { const id = ++this.next; this.waiting.set(id, done); this.socket.send(JSON.stringify({ id, method, params })); });
+    return new Promise((done, failed) => { const id = ++this.next; this.waiting.set(id, { done, failed }); this.socket.send(JSON.stringify({ id, method, params })); });
   }
 }
