@@ -31,7 +31,7 @@ SNOBOL_SOURCES := $(shell find crates.txt $(wildcard $(call PARTS,snobol)) 2>/de
 LISTER_SOURCES := $(shell find crates.txt $(wildcard $(call PARTS,sno_list)) 2>/dev/null)
 PAGE_SOURCES := $(shell find crates.txt $(wildcard $(call PARTS,page)) 2>/dev/null)
 
-.PHONY: help run try sno snobol list install deb uninstall release test decks pages bound ways load refuse failing damage deep wrong time check bench compare variants random fmt clean page site browse toolchain program deck input
+.PHONY: help run try sno snobol list install deb uninstall release test decks pages bound ways batch load refuse failing damage deep wrong time check bench compare variants random fmt clean page site browse toolchain program deck input
 .DEFAULT_GOAL := help
 
 help: ## list the targets
@@ -119,7 +119,7 @@ release: build/sno build/sno_list ## leave programs, manual pages, the page and 
 test: toolchain ## the gate: every proof from nothing, must-fail edits, tests, programs, decks (last line 'N passed, M failed')
 	@echo "test: proving every crate from nothing; this takes many minutes (all lines go to build/log)"
 	@mkdir -p build && touch build/began
-	@RT_JOBS=$${RT_JOBS:-$$(tools/jobs)} tools/progress "$(RT) ci" "tools/wrong --texts" "tests/docs $(PROGRAM)/out/sno $(LISTER)/out/sno_list $(FOR_PEOPLE)/out/snobol" "tests/run $(BUILT)" "tests/run --commands snobol $(BUILT_FOR_PEOPLE)" "tests/terminal $(FOR_PEOPLE)/out/snobol" "tests/ported $(FOR_PEOPLE)/out/snobol" "tests/pipe $(PROGRAM)/out/sno --list $(LISTER)/out/sno_list" "tests/load $(PROGRAM)/out/sno" "tests/bound --decks 100 $(PROGRAM)/out/sno" "tests/ways $(BUILT)" $(FAULTS)
+	@RT_JOBS=$${RT_JOBS:-$$(tools/jobs)} tools/progress "$(RT) ci" "tools/wrong --texts" "tests/docs $(PROGRAM)/out/sno $(LISTER)/out/sno_list $(FOR_PEOPLE)/out/snobol" "tests/run $(BUILT)" "tests/run --commands snobol $(BUILT_FOR_PEOPLE)" "tests/terminal $(FOR_PEOPLE)/out/snobol" "tests/ported $(FOR_PEOPLE)/out/snobol" "tests/pipe $(PROGRAM)/out/sno --list $(LISTER)/out/sno_list" "tests/load $(PROGRAM)/out/sno" "tests/batch $(PROGRAM)/out/sno" "tests/bound --decks 100 $(PROGRAM)/out/sno" "tests/ways $(BUILT)" $(FAULTS)
 	@cp $(PROGRAM)/out/sno build/sno.new && touch -r build/began build/sno.new && mv build/sno.new build/sno
 
 decks: build/sno build/snobol ## the decks and commands of tests/ alone, on the proved programs
@@ -134,6 +134,9 @@ bound: build/sno ## 2,000 random decks on the proved program and on the referenc
 
 ways: build/sno ## 5,000 random decks of the whole language each way on the proved program, and on the reference
 	@tests/ways build/sno --decks 5000 --mangled 1000
+
+batch: build/sno ## many files on two logins of this machine and on a cluster of one node, where these are installed
+	@tests/batch build/sno
 
 load: build/sno ## a thousand runs at once, more files than the system opens, and units that are opened on and on
 	@tests/load build/sno

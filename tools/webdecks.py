@@ -6,6 +6,7 @@ import typing
 
 ROOT = pathlib.Path(__file__).resolve().parent.parent
 BLOCK = re.compile(r"^```(deck|input|prints)\n(.*?)^```$|^#+ ([^\n]*)$", re.S | re.M)
+INCLUDE = re.compile(r"^-INCLUDE '(.*)'$", re.M)
 SPAN = re.compile(r"(`+)(.+?)\1")
 STEPS = 1_000_000_000
 # The first cells of the heads of tables whose rows have decks.
@@ -29,6 +30,11 @@ def of_examples():
     return [Deck(file.name, file.read_text(encoding="ascii"), "", each) for file, each in zip(files, prints)]
 
 
+def included(deck):
+    """A deck with the decks of the library that it takes in, as a browser has no files."""
+    return INCLUDE.sub(lambda found: (ROOT / "share/snobol" / found[1]).read_text(encoding="ascii").rstrip("\n"), deck)
+
+
 def of_blocks(text):
     """The decks between fences, each with the heading over it, and with the input and the records that follow."""
     found, part = [], ""
@@ -36,7 +42,7 @@ def of_blocks(text):
         if head:
             part = head
         elif kind == "deck":
-            found.append(Deck(part, block))
+            found.append(Deck(part, included(block)))
         elif kind == "input":
             found[-1] = found[-1]._replace(input=block)
         else:

@@ -22,9 +22,10 @@ def words_of(text):
     return re.findall("[a-z]+", text.lower())
 
 
-def script_checks(sno, script, module, files, wanted):
+def script_checks(sno, script, module, files, wanted, **environment):
     """A script on all files; and on files of which one isn't there."""
-    how = {"folder": module.parent, "SNO": str(sno), "JOBS": "4"}
+    own = {"SNO": str(sno), "JOBS": "4", "PARALLEL_HOME": str(module.parent / "parallel")}
+    how = {"folder": module.parent, **own, **environment}
     out, told, status = run([BATCH / script, module, *files], **how)
     yield PLACE, f"{script} on {len(files)} files, in order: {told.decode()}", (out.decode(), status) == (wanted, 0)
     out, told, status = run([BATCH / script, module, files[0], "missing", files[0]], **how)

@@ -1,6 +1,7 @@
 """`make install` and `make uninstall`: files, manual pages, completion."""
 
 import pathlib
+import re
 import shutil
 import tempfile
 
@@ -44,12 +45,27 @@ def made(target, prefix, programs):
     return run(["make", "-s", target, f"PREFIX={prefix}", *words], folder=ROOT)
 
 
+def library_checks(prefix, folder):
+    """A deck that takes in one of the library that is installed."""
+    (folder / "deck.sno").write_text("-INCLUDE 'text.sno'\n OUTPUT = UPPER('hi')\nEND\n", encoding="ascii")
+    ran = run([prefix / "bin/snobol", "deck.sno"], folder=folder, SNOPATH="")
+    yield PLACE, f"a deck with a file of the installed library: {ran}", ran == (b"HI\n", b"", 0)
+
+
 def page_checks(prefix):
     """The manual pages, as mandoc sees them."""
     pages = sorted((prefix / "share/man").glob("*/*"))
     for page in pages:
         text = page.read_text(encoding="ascii")
         yield PLACE, f"a title and a name in {page.name}", text.startswith(".TH ") and "\n.SH NAME\n" in text
+        has_example = "EXAMPLES" in text or "\nThe deck\n" in text
+        yield PLACE, f"examples in {page.name}", has_example
+        cited = re.findall(r"\S*\.md\b|\bdocs/\S*|fBmake\\~\S+|\brepository\b", text)
+        yield PLACE, f"nothing in {page.name} of what isn't installed: {cited}", not cited
+        also = text.partition("SEE ALSO")[2]
+        pages_cited = [f"{name}.{section}" for name, section in re.findall(r"^\.BR (\w+) \((\d)\)", also, re.MULTILINE)]
+        missing = [name for name in pages_cited if name not in {it.name for it in pages}]
+        yield PLACE, f"pages that {page.name} cites and that aren't installed: {missing}", not missing
     if is_there("mandoc", "a look at the manual pages"):
         out, told, status = run(["mandoc", "-Tlint", *pages])
         yield PLACE, f"manual pages without a warning: {(out + told).decode()}", status == 0 and not out + told
@@ -103,10 +119,12 @@ def checks(sno, *others):
         yield PLACE, f"an installation: {ran[1].decode()}", ran[2] == 0
         wanted = [file for program in programs if program.exists() for file in FILES[program.name]]
         library = [f"share/snobol/{deck.name}" for deck in (ROOT / "share" / "snobol").glob("*.sno")]
-        wanted = sorted([*wanted, *library, "share/man/man7/snobol4.7"])
+        wanted = sorted([*wanted, *library, "share/man/man7/snobol4.7", "share/man/man7/snobol_library.7"])
         yield PLACE, f"what is installed: {files_below(prefix)}", files_below(prefix) == wanted
         out, _, status = run([prefix / "bin/sno"], b" OUTPUT = 'HI'\nEND\n")
         yield PLACE, "an installed program that runs a deck", (out, status) == (b"HI\n", 0)
+        if (prefix / "bin/snobol").exists():
+            yield from library_checks(prefix, folder)
         yield from page_checks(prefix)
         completion = prefix / "share/bash-completion/completions/sno"
         (folder / "decks").mkdir()

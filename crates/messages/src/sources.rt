@@ -62,8 +62,8 @@ impl<'a> Sources<'a> {
         self.origins = origins;
     }
 
-    // The card that is named in the place of another one.
-    fn origin(&self, card: u32) -> u32 {
+    /// The card that is named in the place of another one: the one from which it comes, if they were written anew.
+    pub fn origin(&self, card: u32) -> u32 {
         let Some(index) = (card as usize).checked_sub(1) else {
             return card;
         };

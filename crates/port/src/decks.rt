@@ -1,6 +1,6 @@
 //! Decks that are written anew.
 
-use crate::cards::{COLUMNS, Cards};
+use crate::cards::{COLUMNS, Cards, include_of};
 use crate::characters::{begins_with_word, cut_name, is_printable, without_blanks};
 use crate::notes::{Change, Note};
 use crate::texts::Text;
@@ -8,12 +8,13 @@ use card_text::next_line;
 use std::alloc::{AllocError, Global};
 
 /// A deck that was written anew: its bytes, of each of its cards the old deck's card from which it comes (0 where it comes
-/// from none), and what was changed.
+/// from none), what was changed, and the words that give units the files which the old deck names.
 #[derive(Drop)]
 pub struct Ported {
     pub deck: Vec<u8>,
     pub origins: Vec<u32>,
     pub notes: Vec<Note>,
+    pub files: Vec<u8>,
 }
 
 /// What is written anew so far.
@@ -58,7 +59,7 @@ impl Porter {
 
     fn control(&mut self, line: &[u8], text: &[u8]) -> Result<(), AllocError> {
         let (name, behind) = cut_name(text);
-        if is_known(name, behind) {
+        if is_known(name, behind) || include_of(line).is_some() {
             return self.cards.put(line, self.text.notes.card());
         }
         if begins_with_word(text, b"CASE") {
@@ -185,6 +186,7 @@ impl Porter {
             deck,
             origins,
             notes: text.notes.into_notes(),
+            files: text.files,
         })
     }
 }

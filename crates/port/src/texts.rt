@@ -3,7 +3,7 @@
 use crate::characters::{cut_at, cut_name, is_in_name, is_printable, is_same_word};
 use crate::library::Library;
 use crate::notes::{Change, Notes};
-use crate::units::{Extra, extra_arguments};
+use crate::units::{Extra, extra_arguments, unit_and_file};
 use std::alloc::{AllocError, Global};
 use std::mem;
 
@@ -67,6 +67,8 @@ pub(crate) struct Text {
     out: Vec<u8>,
     pub(crate) library: Library,
     pub(crate) notes: Notes,
+    /// The words that give units the files that the text names.
+    pub(crate) files: Vec<u8>,
 }
 
 impl Text {
@@ -80,6 +82,7 @@ impl Text {
             out: Vec::new(alloc),
             library: Library::new(alloc),
             notes: Notes::new(alloc),
+            files: Vec::new(alloc),
         }
     }
 
@@ -255,6 +258,20 @@ impl Text {
         Ok(rest)
     }
 
+    // Puts the word that gives a unit the file which a call names, if it names one.
+    fn put_file(&mut self, arguments: &[u8]) -> Result<(), AllocError> {
+        let Some((unit, file)) = unit_and_file(arguments) else {
+            return Ok(());
+        };
+        if !self.files.is_empty() {
+            self.files.push(b' ')?;
+        }
+        self.files.extend_from_slice(unit)?;
+        self.files.push(b'=')?;
+        self.files.extend_from_slice(file)?;
+        Ok(())
+    }
+
     // Puts a word of a text; the arguments of a unit that aren't put behind it.
     fn put_word(&mut self, word: &[u8], behind: &[u8]) -> Result<Option<Extra>, AllocError> {
         let start = self.out.len();
@@ -266,6 +283,7 @@ impl Text {
         self.library.call(self.out.get(start..).unwrap_or(&[]))?;
         self.is_prototype = self.is_word(word, b"DEFINE") || self.is_word(word, b"DATA");
         if self.is_word(word, b"INPUT") || self.is_word(word, b"OUTPUT") {
+            self.put_file(behind)?;
             return Ok(extra_arguments(behind));
         }
         Ok(None)

@@ -1,6 +1,7 @@
 //! What is done for each row of the table of words.
 
-use crate::files::{Outcome, read_decks, read_file, write_file};
+use crate::files::{Outcome, read_file, write_file};
+use crate::included::read_whole;
 use crate::looking::{check, how_for, list_decks};
 use crate::porting::port_deck;
 use crate::reporting::{form_for, no_memory, report_alone, report_outcome, unwritten};
@@ -41,7 +42,7 @@ fn explain<R: Files + Print + AllocGlobal, W: Write>(rt: &R, name: &str, errors:
     }
 }
 
-fn compile<R: Files + Input + AllocGlobal, W: Write>(
+fn compile<R: Env + Files + Input + AllocGlobal, W: Write>(
     rt: &R,
     deck: &str,
     module: &str,
@@ -49,9 +50,9 @@ fn compile<R: Files + Input + AllocGlobal, W: Write>(
     errors: &mut W,
 ) -> u8 {
     let alloc = rt.alloc();
-    let sources = match read_decks(rt, &[deck]) {
+    let sources = match read_whole(rt, &[deck], form, errors) {
         Ok(sources) => sources,
-        Err(outcome) => return report_alone(alloc, form, &outcome, "", errors),
+        Err(status) => return status,
     };
     match compile_deck(alloc, sources.bytes()) {
         Ok(spelling) => match write_file(rt, module, &spelling) {

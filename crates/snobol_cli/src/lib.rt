@@ -11,6 +11,7 @@
 #![tactic(auto)]
 
 mod files;
+mod included;
 mod jobs;
 mod looking;
 mod porting;

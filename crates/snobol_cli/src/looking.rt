@@ -1,7 +1,8 @@
 //! Decks that are looked at: checked and listed.
 
-use crate::files::{Outcome, read_decks};
-use crate::reporting::{form_for, no_memory, report_alone, report_outcome, unwritten};
+use crate::files::Outcome;
+use crate::included::read_whole;
+use crate::reporting::{form_for, no_memory, report_outcome, unwritten};
 use crate::statuses::{DONE, FAILED, REFUSED};
 use driver::{Refusal, Told, compile_deck};
 use listing::{Trouble, list, output_style};
@@ -90,16 +91,16 @@ fn check_sources<W: Write>(
 }
 
 /// Says what is wrong in decks, read as one, and gives the exit status.
-pub(crate) fn check<R: Files + Input + AllocGlobal, W: Write>(
+pub(crate) fn check<R: Env + Files + Input + AllocGlobal, W: Write>(
     rt: &R,
     decks: &[&str],
     how: How,
     errors: &mut W,
 ) -> u8 {
     let alloc = rt.alloc();
-    match read_decks(rt, decks) {
+    match read_whole(rt, decks, how.form, errors) {
         Ok(sources) => check_sources(alloc, &sources, false, how, errors),
-        Err(outcome) => report_alone(alloc, how.form, &outcome, "", errors),
+        Err(status) => status,
     }
 }
 
@@ -127,11 +128,9 @@ pub(crate) fn list_decks<R: Env + Files + Input + Print + AllocGlobal, W: Write>
     errors: &mut W,
 ) -> u8 {
     let alloc = rt.alloc();
-    let sources = match read_decks(rt, decks) {
+    let sources = match read_whole(rt, decks, how.form, errors) {
         Ok(sources) => sources,
-        Err(outcome) => {
-            return report_alone(alloc, how.form, &outcome, "", errors);
-        }
+        Err(status) => return status,
     };
     match write_list(rt, &sources, has_code) {
         Ok(()) => check_sources(alloc, &sources, true, how, errors),

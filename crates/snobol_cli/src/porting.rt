@@ -1,126 +1,26 @@
 //! Decks of other SNOBOL4 systems.
 
-use crate::files::{Outcome, folder, read_decks};
-use crate::reporting::{no_memory, report_alone, report_outcome, unwritten};
+use crate::files::Outcome;
+use crate::included::read_whole;
+use crate::reporting::{no_memory, report_outcome, unwritten};
 use crate::statuses::{DONE, FAILED};
-use card_text::next_line;
 use codes::{Topic, topic_code};
 use driver::{Refusal, Told, compile_deck};
 use messages::{Form, Message, Severity, Sources, write_messages};
-use port::{Change, Note, include_of, port};
+use port::{Change, Note, port};
 use std::alloc::{AllocError, Global};
-use std::fs::{self, Files};
+use std::env::Env;
+use std::fs::Files;
 use std::io::{Input, Print, Write};
 
-/// How deep files may take in others.
-const DEEPEST: u32 = 16;
-
-/// A deck with the files that it takes in, and of each of its cards the one from which it comes.
-#[derive(Drop)]
-struct Taken {
-    bytes: Vec<u8>,
-    origins: Vec<u32>,
-    is_whole: bool,
-}
-
-// The card from which one comes.
-fn origin_of(origins: &[u32], card: u32) -> u32 {
-    let Some(index) = (card as usize).checked_sub(1) else {
-        return card;
-    };
-    origins.get(index).copied().unwrap_or(card)
-}
-
-// The bytes of a file that a deck in a folder takes in, if it can be read.
-fn taken_file<R: Files + AllocGlobal>(
-    rt: &R,
-    folder: &str,
-    name: &[u8],
-) -> Result<Option<Vec<u8>>, AllocError> {
-    let Ok(name) = str::from_utf8(name) else {
-        return Ok(None);
-    };
-    let path = if name.starts_with('/') {
-        String::from_str(rt.alloc(), name)?
-    } else {
-        format!(in rt.alloc(); "{folder}/{name}")?
-    };
-    Ok(fs::read(rt, path.as_str()).ok())
-}
-
-impl Taken {
-    fn new(alloc: Global) -> Taken {
-        Taken {
-            bytes: Vec::new(alloc),
-            origins: Vec::new(alloc),
-            is_whole: true,
-        }
-    }
-
-    // Puts a card, or the cards of a file, that come from one.
-    fn put(&mut self, cards: &[u8], origin: u32) -> Result<(), AllocError> {
-        let mut rest = cards;
-        for _ in 0..cards.len().saturating_add(1) {
-            let (line, more) = next_line(rest).unwrap_or((&[], &[]));
-            self.bytes.extend_from_slice(line)?;
-            self.bytes.push(b'\n')?;
-            self.origins.push(origin)?;
-            if more.is_empty() {
-                break;
-            }
-            rest = more;
-        }
-        Ok(())
-    }
-
-    // The deck with the files that its cards take in, but not those that these take in.
-    fn once<R: Files + AllocGlobal>(&self, rt: &R, folder: &str) -> Result<Taken, AllocError> {
-        let mut taken = Taken::new(rt.alloc());
-        let mut rest = self.bytes.as_slice();
-        let mut card: u32 = 1;
-        for _ in 0..self.bytes.len() {
-            let Some((line, more)) = next_line(rest) else {
-                break;
-            };
-            let origin = origin_of(&self.origins, card);
-            let file = match include_of(line) {
-                Some(name) => taken_file(rt, folder, name)?,
-                None => None,
-            };
-            match file {
-                Some(file) => {
-                    taken.is_whole = false;
-                    taken.put(&file, origin)?;
-                }
-                None => taken.put(line, origin)?,
-            }
-            card = card.saturating_add(1);
-            rest = more;
-        }
-        Ok(taken)
-    }
-}
-
-// A deck with all files that it takes in.
-fn take_in<R: Files + AllocGlobal>(rt: &R, folder: &str, deck: &[u8]) -> Result<Taken, AllocError> {
-    let mut taken = Taken::new(rt.alloc());
-    taken.bytes.extend_from_slice(deck)?;
-    for _ in 0..DEEPEST {
-        taken = taken.once(rt, folder)?;
-        if taken.is_whole {
-            break;
-        }
-    }
-    Ok(taken)
-}
-
-/// Decks that are written anew as a deck of this language: its bytes, the card from which each of its cards comes, and what
-/// was changed.
+/// Decks that are written anew as a deck of this language: its bytes, the card from which each of its cards comes, what was
+/// changed, and the words that give units the files which the decks name.
 #[derive(Drop)]
 pub(crate) struct Written {
     deck: Vec<u8>,
     origins: Vec<u32>,
     notes: Vec<Note>,
+    files: String,
 }
 
 impl Written {
@@ -129,38 +29,44 @@ impl Written {
         !self.notes.is_empty()
     }
 
-    /// Whether functions are defined that the decks call and don't define.
-    pub(crate) fn has_functions(&self) -> bool {
-        self.notes
-            .iter()
-            .any(|note| note.change == Change::Functions)
+    /// Whether the decks end by an error as they are: functions are defined that they call and don't define, or prototypes
+    /// have blanks.
+    pub(crate) fn is_needed(&self) -> bool {
+        self.notes.iter().any(|note| matches!(note.change, Change::Functions | Change::Prototypes))
     }
 }
 
 /// Writes decks anew as a deck of this language.
-pub(crate) fn written_anew<R: Files + AllocGlobal>(
-    rt: &R,
+pub(crate) fn written_anew(
+    alloc: Global,
     sources: &Sources<'_>,
     folds: bool,
 ) -> Result<Written, AllocError> {
-    let taken = take_in(rt, folder(sources.last_name()), sources.bytes())?;
-    let ported = port(rt.alloc(), &taken.bytes, folds)?;
-    let mut origins = Vec::new(rt.alloc());
+    let ported = port(alloc, sources.bytes(), folds)?;
+    let mut origins = Vec::new(alloc);
     for card in ported.origins.iter().copied() {
-        origins.push(origin_of(&taken.origins, card))?;
+        origins.push(sources.origin(card))?;
     }
-    let mut notes = Vec::new(rt.alloc());
+    let mut notes = Vec::new(alloc);
     for note in ported.notes.iter().copied() {
         notes.push(Note {
             change: note.change,
-            card: origin_of(&taken.origins, note.card),
+            card: sources.origin(note.card),
         })?;
     }
     Ok(Written {
         deck: ported.deck,
         origins,
         notes,
+        files: String::from_utf8_lossy(alloc, &ported.files)?,
     })
+}
+
+/// What was changed, and the words that give units the files which the decks named.
+#[derive(Drop)]
+struct Made {
+    notes: Vec<Note>,
+    files: String,
 }
 
 // A message of what was written anew.
@@ -184,11 +90,19 @@ fn ported_message(
 fn messages_of(
     alloc: Global,
     sources: &Sources<'_>,
-    notes: &[Note],
+    made: &Made,
 ) -> Result<Vec<Message>, AllocError> {
     let mut messages = Vec::new(alloc);
-    for note in notes.iter().copied() {
-        messages.push(ported_message(alloc, sources, note.card, note.change.text())?)?;
+    let files = made.files.as_str();
+    for note in made.notes.iter().copied() {
+        let said = note.change.text();
+        let message = if note.change == Change::Files && !files.is_empty() {
+            let text = format!(in alloc; "{said}: {files}")?;
+            ported_message(alloc, sources, note.card, text.as_str())?
+        } else {
+            ported_message(alloc, sources, note.card, said)?
+        };
+        messages.push(message)?;
     }
     Ok(messages)
 }
@@ -198,10 +112,10 @@ fn report_notes<W: Write>(
     alloc: Global,
     form: Form,
     sources: &Sources<'_>,
-    notes: &[Note],
+    made: &Made,
     errors: &mut W,
 ) -> u8 {
-    let Ok(messages) = messages_of(alloc, sources, notes) else {
+    let Ok(messages) = messages_of(alloc, sources, made) else {
         return FAILED;
     };
     match write_messages(alloc, form, &messages, &[], errors) {
@@ -223,7 +137,7 @@ fn report_faults<W: Write>(alloc: Global, form: Form, sources: &Sources<'_>, err
 
 /// Writes a deck as one of this language to standard output, says what was changed and what is wrong in it then, and gives
 /// the exit status.
-pub(crate) fn port_deck<R: Files + Input + Print + AllocGlobal, W: Write>(
+pub(crate) fn port_deck<R: Env + Files + Input + Print + AllocGlobal, W: Write>(
     rt: &R,
     deck: &str,
     folds: bool,
@@ -231,18 +145,18 @@ pub(crate) fn port_deck<R: Files + Input + Print + AllocGlobal, W: Write>(
     errors: &mut W,
 ) -> u8 {
     let alloc = rt.alloc();
-    let mut sources = match read_decks(rt, &[deck]) {
+    let mut sources = match read_whole(rt, &[deck], form, errors) {
         Ok(sources) => sources,
-        Err(outcome) => return report_alone(alloc, form, &outcome, "", errors),
+        Err(status) => return status,
     };
-    let Ok(written) = written_anew(rt, &sources, folds) else {
+    let Ok(written) = written_anew(alloc, &sources, folds) else {
         return no_memory(rt, form, errors);
     };
-    let notes = put_written(&mut sources, written);
+    let made = put_written(&mut sources, written);
     if rt.write_all(sources.bytes()).is_err() {
         return unwritten(rt, form, errors);
     }
-    match report_notes(alloc, form, &sources, &notes, errors) {
+    match report_notes(alloc, form, &sources, &made, errors) {
         DONE => report_faults(alloc, form, &sources, errors),
         status => status,
     }
@@ -257,14 +171,15 @@ pub(crate) fn is_foreign(told: &Told<'_>) -> bool {
 }
 
 // Puts what is written anew in the place of decks, and gives what was changed.
-fn put_written(sources: &mut Sources<'_>, written: Written) -> Vec<Note> {
+fn put_written(sources: &mut Sources<'_>, written: Written) -> Made {
     let Written {
         deck,
         origins,
         notes,
+        files,
     } = written;
     sources.write_anew(deck, origins);
-    notes
+    Made { notes, files }
 }
 
 /// Puts what is written anew in the place of decks, and says so in one line.

@@ -3,6 +3,7 @@
 use crate::files::{
     Outcome, is_output_piped, read_decks, unreadable, why_not_read, why_not_written,
 };
+use crate::included::take_in;
 use crate::porting::{is_foreign, use_written, written_anew};
 use crate::reporting::{report_alone, report_outcome};
 use crate::statuses::FAILED;
@@ -12,6 +13,7 @@ use messages::{Form, Sources};
 use model::{Status, Stop, UnitFault};
 use program::{flushed, system_of, units_of};
 use snobol_words::{Given, Port};
+use std::env::Env;
 use std::fs::Files;
 use std::io::{self, Input, Print, Write};
 
@@ -96,8 +98,8 @@ fn is_unread<R: Files + AllocGlobal>(rt: &R, told: &Told<'_>, files: &[UnitFile<
     }
 }
 
-// Runs decks, which are written anew if that is permitted and they are refused as they are, or call functions of the
-// library.
+// Runs decks, which are written anew if that is permitted, and they are refused as they are, or need it, or small letters
+// are to be raised.
 fn run_as_asked<R: Files + Input + Print + AllocGlobal, W: Write>(
     rt: &R,
     sources: &mut Sources<'_>,
@@ -108,10 +110,10 @@ fn run_as_asked<R: Files + Input + Print + AllocGlobal, W: Write>(
     let Port::Anew { folds } = asked.port else {
         return run_sources(rt, sources, &given.files, asked.records, asked.steps);
     };
-    let Ok(written) = written_anew(rt, sources, folds) else {
+    let Ok(written) = written_anew(rt.alloc(), sources, folds) else {
         return Err(Outcome::from(Told::NoMemory));
     };
-    if !written.has_functions() {
+    if !(written.is_needed() || folds && written.is_changed()) {
         let ran = run_sources(rt, sources, &given.files, asked.records, asked.steps);
         let is_refused = match &ran {
             Err(outcome) => is_foreign(&outcome.told),
@@ -137,7 +139,7 @@ pub(crate) struct Asked<'a> {
 }
 
 /// Compiles decks as one, runs the module, and gives the exit status.
-pub(crate) fn run_decks<R: Files + Input + Print + AllocGlobal, W: Write>(
+pub(crate) fn run_decks<R: Env + Files + Input + Print + AllocGlobal, W: Write>(
     rt: &R,
     given: &Given<'_>,
     asked: Asked<'_>,
@@ -148,6 +150,11 @@ pub(crate) fn run_decks<R: Files + Input + Print + AllocGlobal, W: Write>(
         Ok(sources) => sources,
         Err(outcome) => return report_alone(alloc, form, &outcome, "", errors),
     };
+    if matches!(asked.port, Port::Anew { .. }) {
+        if let Err(status) = take_in(rt, &mut sources, form, errors) {
+            return status;
+        }
+    }
     let outcome = match run_as_asked(rt, &mut sources, given, asked, errors) {
         Ok(outcome) => outcome,
         Err(outcome) => outcome,

@@ -32,7 +32,7 @@ syntax cluster snobol4Within contains=snobol4Comment,snobol4Control,snobol4BadCa
 syntax match snobol4Label /\%(^\|;\)\@1<=\a\%(\%<73c[A-Za-z0-9._]\)*/
 syntax match snobol4Continuation /^[+.]/
 syntax match snobol4BadCard /^-.*/
-syntax match snobol4Control /^-\%(LIST\|UNLIST\|EJECT\)\%( \|$\)\@=.*/
+syntax match snobol4Control /^-\%(LIST\|UNLIST\|EJECT\|INCLUDE\)\%( \|$\)\@=.*/
 syntax match snobol4Comment /^\*.*/
 
 " Nothing behind END is read.

@@ -1,0 +1,3 @@
+deck.sno
+port deck.sno > ported.sno
+--strict ported.sno

@@ -1,0 +1,2 @@
+SNOPATH=none:share/snobol deck.sno
+SNOPATH=share/snobol: check deck.sno

@@ -1,0 +1,1 @@
+json.sno deck.sno

@@ -1,0 +1,2 @@
+deck.sno
+check more.sno

@@ -1,0 +1,2 @@
+deck.sno
+more.sno

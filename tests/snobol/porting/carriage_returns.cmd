@@ -1,0 +1,2 @@
+port deck.sno
+deck.sno

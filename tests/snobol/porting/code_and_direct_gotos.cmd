@@ -1,0 +1,2 @@
+check deck.sno
+more.sno

@@ -1,0 +1,2 @@
+check deck.sno
+deck.sno 5=more.sno

@@ -1,0 +1,2 @@
+port deck.sno
+9=nine deck.sno

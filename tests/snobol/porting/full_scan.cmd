@@ -1,0 +1,1 @@
+--steps 10000 deck.sno

@@ -1,0 +1,2 @@
+check deck.sno
+9=nine more.sno -- Ann

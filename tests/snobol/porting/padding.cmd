@@ -1,0 +1,3 @@
+check deck.sno
+deck.sno
+SNOPATH=share/snobol more.sno

@@ -1,0 +1,3 @@
+--fold deck.sno
+port --fold deck.sno
+more.sno

@@ -1,0 +1,2 @@
+check deck.sno
+SNOPATH=share/snobol more.sno

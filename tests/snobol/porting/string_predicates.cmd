@@ -1,0 +1,3 @@
+check deck.sno
+deck.sno
+more.sno
