@@ -287,6 +287,7 @@ class Count(typing.NamedTuple):
 # The clauses whose figures docs/promises.md tells.
 HEADLINES = (
     ("driver", "run_deck", "meaning"),
+    ("driver", "run_deck_on_files", "meaning"),
     ("driver", "run_deck", "refused"),
     ("driver", "run_deck", "run"),
     ("driver", "run_module", "run"),

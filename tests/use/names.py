@@ -13,8 +13,8 @@ CRATES = repository.listed()
 MEMBER = re.compile(r"(?<![\w:])([A-Z]\w*)::(\w+)")
 # Public types of one name in two crates that wait for a new name. A row that no longer holds is a failure too.
 TWICE = ROOT / "tests" / "types_of_one_name.txt"
-# Types of Rust's, and the word for any.
-OTHERS = {"Type", "Vec", "Option", "Result", "Box", "Rc", "String"}
+# Types of Rust's, the word for any, and a trait's word for the type that has it.
+OTHERS = {"Type", "Vec", "Option", "Result", "Box", "Rc", "String", "Self"}
 VERSION = re.compile(r'^\s*(?:pub(?:\(\w+\))? )?const VERSION: &str = "([^"]*)";', re.MULTILINE)
 
 

@@ -3,3 +3,4 @@ pub mod WholeDecks
 pub mod WholeRuns
 pub mod Upgrades
 pub mod CardsTold
+pub mod FileRuns

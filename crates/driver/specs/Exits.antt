@@ -66,7 +66,7 @@ exit_of_run (Ok ran) = exit_of_status ran.status
 exit_of_run (Err told) = exit_of told
 
 -- of what was done without a run, or of what is told in its place
-abbrev pub exit_of_work : Result (record {}) Told → ℕ
+abbrev pub exit_of_work : Result (Unit {0}) Told → ℕ
 exit_of_work (Ok done) = 0
 exit_of_work (Err told) = exit_of told
 

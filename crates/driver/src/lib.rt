@@ -15,6 +15,7 @@
 
 mod compiling;
 mod exits;
+mod on_files;
 mod refusal;
 mod running;
 mod showing;
@@ -25,6 +26,7 @@ mod words;
 
 pub use compiling::compile_deck;
 pub use exits::exit_status;
+pub use on_files::{finished, run_deck_on_files, run_module_on_files};
 pub use refusal::Refusal;
 pub use running::{Ran, run_module, run_with_card};
 pub use showing::{ShowFault, check_module, instruction_name, show};

@@ -1,12 +1,17 @@
 //! The files that are read and written whole.
 
+ghost use Rattle.std.specs.Prelude.{◌≡◌, IfErr};
+ghost use Rattle.driver.specs.Exits.{exit_of};
+
 use driver::Told;
 use std::fs::{self, Files, OpenFile, OpenOptions, Permissions};
 use std::io::{self, ErrorKind, Input, Read, Write};
 use std::path::{Path, PathBuf};
 
 /// Why a file was not read.
-fn not_read<'a>(error: &io::Error, file: &'a str) -> Told<'a> {
+fn not_read<'a>(error: &io::Error, file: &'a str) -> Told<'a>
+    ensures { exit_of result ≡ 6 }
+{
     match error.kind() {
         ErrorKind::OutOfMemory => Told::NoMemory,
         _ => Told::CannotRead(file),
@@ -14,7 +19,9 @@ fn not_read<'a>(error: &io::Error, file: &'a str) -> Told<'a> {
 }
 
 /// All of standard input.
-pub(crate) fn read_input<R: Input + AllocGlobal>(rt: &R) -> Result<Vec<u8>, Told<'static>> {
+pub(crate) fn read_input<R: Input + AllocGlobal>(rt: &R) -> Result<Vec<u8>, Told<'static>>
+    ensures { IfErr result (λ told. exit_of told ≡ 6) }
+{
     let mut bytes = Vec::new(rt.alloc());
     match rt.reader().read_to_end(&mut bytes) {
         Ok(_) => Ok(bytes),
@@ -26,7 +33,9 @@ pub(crate) fn read_input<R: Input + AllocGlobal>(rt: &R) -> Result<Vec<u8>, Told
 pub(crate) fn read_file<'a, R: Files + AllocGlobal>(
     rt: &R,
     file: &'a str,
-) -> Result<Vec<u8>, Told<'a>> {
+) -> Result<Vec<u8>, Told<'a>>
+    ensures { IfErr result (λ told. exit_of told ≡ 6) }
+{
     match fs::read(rt, file) {
         Ok(bytes) => Ok(bytes),
         Err(error) => Err(not_read(&error, file)),
@@ -119,7 +128,9 @@ pub(crate) fn write_file<'a, R: Files + AllocGlobal>(
     rt: &R,
     file: &'a str,
     bytes: &[u8],
-) -> Result<(), Told<'a>> {
+) -> Result<(), Told<'a>>
+    ensures { IfErr result (λ told. exit_of told ≡ 6) }
+{
     match write_whole(rt, file, bytes) {
         Ok(()) => Ok(()),
         Err(error) => match error.kind() {

@@ -8,9 +8,14 @@
 //!
 //! The program `snobol` too runs decks on the units that `units_of` gives, on the system of `system_of`.
 //!
-//! Nothing is proved of it but that it returns: what files and terminals hold and give isn't stated. Decks and commands
-//! of tests/ show the rest.
+//! Promised: the exit status is a function of what is told, and one of those that docs/program.md has for the word; a deck
+//! is run only if it has no fault, and is refused by exactly its faults. What files and terminals hold and give isn't
+//! stated. Decks and commands of tests/ show the rest.
 #![tactic(auto)]
+
+ghost use Rattle.std.specs.Prelude.{◌≡◌, ◌⊎◌};
+ghost use Rattle.std.specs.Process.{exit_status};
+ghost use Rattle.driver.specs.Exits.{exit_of, exit_of_outcome};
 
 mod files;
 mod jobs;
@@ -20,7 +25,7 @@ mod system;
 use crate::jobs::perform;
 use driver::{Told, read_words, report};
 pub use files::write_whole;
-pub use jobs::{flushed, system_of, units_of};
+pub use jobs::{system_of, units_of};
 use std::alloc::AllocError;
 use std::env::{self, Env};
 use std::fs::Files;
@@ -70,8 +75,10 @@ fn answer<'a, R: Files + Input + Print + AllocGlobal>(
     }
 }
 
-/// Tells it, and gives the exit status.
-fn tell<W: Write>(told: &Told<'_>, errors: &mut W) -> ExitCode {
+/// Tells it, and gives the exit status, which is `NOTHING_TOLD` where standard error took no line.
+fn tell<W: Write>(told: &Told<'_>, errors: &mut W) -> ExitCode
+    ensures { (exit_status result ≡ exit_of told.now) ⊎ (exit_status result ≡ NOTHING_TOLD) }
+{
     ExitCode::from(report(told, errors).unwrap_or(NOTHING_TOLD))
 }
 
@@ -81,6 +88,16 @@ fn not_held(stream: Stream) -> Told<'static> {
         Stream::Input => Told::CannotRead("standard input"),
         Stream::Output => Told::CannotWrite("standard output"),
         Stream::Error => Told::CannotWrite("standard error"),
+    }
+}
+
+/// Tells what is to be told, if anything, and gives the exit status.
+fn finish<W: Write>(outcome: Option<Told<'_>>, errors: &mut W) -> ExitCode
+    ensures { (exit_status result ≡ exit_of_outcome outcome.entry) ⊎ (exit_status result ≡ NOTHING_TOLD) }
+{
+    match outcome {
+        Some(told) => tell(&told, errors),
+        None => ExitCode::SUCCESS,
     }
 }
 
@@ -95,10 +112,7 @@ fn perform_words<R: Env + Files + Input + Print + AllocGlobal, W: Write>(
     let Ok(words) = borrowed(rt, &arguments) else {
         return tell(&Told::NoMemory, errors);
     };
-    match answer(rt, &words) {
-        Some(told) => tell(&told, errors),
-        None => ExitCode::SUCCESS,
-    }
+    finish(answer(rt, &words), errors)
 }
 
 /// Does what the program's words ask for, tells what is to be told as lines of `errors`, and gives the exit status. The

@@ -4,8 +4,7 @@ ghost use Rattle.std.specs.Prelude.{◌<◌, ◌≤◌, length, IfOk, IfSome};
 ghost use Rattle.std.specs.Io.{ReadsAtMost};
 
 use memchr::memrchr;
-use std::fs::{Metadata, OpenFile};
-use std::io::{self, BufRead, ErrorKind, Read, Seek, SeekFrom, Write};
+use std::io::{self, ErrorKind, Read};
 
 /// The most bytes of a record that `&MAXLNGTH` can allow.
 const LONGEST: usize = 16_777_216;
@@ -28,7 +27,6 @@ enum Place {
 pub struct CutRecords<T: Drop> {
     source: T,
     place: Place,
-    shown: Option<[u8; 1]>,
 }
 
 // Where reading stands behind so many bytes of a record and those that were given now.
@@ -59,7 +57,6 @@ impl<T: Drop> CutRecords<T> {
         CutRecords {
             source,
             place: Place::Within(0),
-            shown: None,
         }
     }
 }
@@ -112,74 +109,10 @@ impl<R: Read + Drop> CutRecords<R> {
 
 impl<R: Read + Drop> Read for CutRecords<R> {
     fn read(&mut self, buf: &mut [u8]) -> io::Result<usize> {
-        if let (Some(byte), Some(first)) = (self.shown, buf.first_mut()) {
-            *first = byte[0];
-            self.shown = None;
-            return Ok(1);
-        }
         match self.place {
             Place::Within(length) => self.read_within(length, buf),
             Place::Blanks => self.read_blanks(buf),
             Place::Over => Ok(0),
         }
-    }
-}
-
-/// A byte at a time; units read larger pieces by `read`.
-impl<R: Read + Drop> BufRead for CutRecords<R> {
-    fn fill_buf(&mut self) -> io::Result<&[u8]> {
-        if self.shown.is_none() {
-            let mut byte = [0];
-            if self.read(&mut byte)? > 0 {
-                self.shown = Some(byte);
-            }
-        }
-        match &self.shown {
-            Some(byte) => Ok(byte),
-            None => Ok(&[]),
-        }
-    }
-
-    fn consume(&mut self, amount: usize) {
-        if amount > 0 {
-            self.shown = None;
-        }
-    }
-}
-
-impl<W: Write + Drop> Write for CutRecords<W> {
-    fn write(&mut self, buf: &[u8]) -> io::Result<usize> {
-        self.source.write(buf)
-    }
-
-    fn flush(&mut self) -> io::Result<()> {
-        self.source.flush()
-    }
-}
-
-impl<S: Seek + Drop> Seek for CutRecords<S> {
-    fn seek(&mut self, to: SeekFrom) -> io::Result<u64> {
-        let at = self.source.seek(to)?;
-        self.place = Place::Within(0);
-        self.shown = None;
-        Ok(at)
-    }
-}
-
-impl<F: OpenFile + Drop> OpenFile for CutRecords<F> {
-    fn metadata(&self) -> io::Result<Metadata> {
-        self.source.metadata()
-    }
-
-    fn set_len(&self, size: u64) -> io::Result<()> {
-        self.source.set_len(size)
-    }
-
-    fn sync_all(&self) -> io::Result<()> {
-        self.source.sync_all()
-    }
-
-    fn sync_data(&self) -> io::Result<()> {
-        self.source.sync_data()
     }
 }

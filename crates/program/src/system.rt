@@ -2,12 +2,12 @@
 
 use crate::records::CutRecords;
 use driver::UnitFile;
-use std::alloc::{AllocError, Allocator};
+use std::alloc::AllocError;
 use std::cell::RefCell;
-use std::fmt::Display;
 use std::fs::{Files, Metadata, OpenFile, OpenOptions};
-use std::io::{self, BufRead, ErrorKind, Input, Lines, Print};
+use std::io::{self, ErrorKind, Input, Print, Printer};
 use std::os::unix::fs::MetadataExt;
+use unit_io::UnitSystem;
 
 /// A regular file that a unit or a standard stream has open.
 #[derive(Clone, Copy, Debug, Drop)]
@@ -101,13 +101,9 @@ impl<R: Files> RunSystem<'_, R> {
     }
 }
 
-impl<R: Files> Files for RunSystem<'_, R> {
-    type File = CutRecords<R::File>;
-
-    type Dir = R::Dir;
-
+impl<R: Files> RunSystem<'_, R> {
     // A file is emptied only once it is known that no other unit has it open.
-    fn open_file(&self, how: &OpenOptions, path: &str) -> io::Result<CutRecords<R::File>> {
+    fn open_file(&self, how: &OpenOptions, path: &str) -> io::Result<R::File> {
         let mut gently = how.clone()?;
         gently.truncate(false);
         let file = self.rt.open_file(&gently, path)?;
@@ -118,76 +114,45 @@ impl<R: Files> Files for RunSystem<'_, R> {
                 file.set_len(0)?;
             }
         }
-        Ok(CutRecords::new(file))
-    }
-
-    fn open_dir(&self, path: &str) -> io::Result<R::Dir> {
-        self.rt.open_dir(path)
-    }
-
-    fn metadata(&self, path: &str) -> io::Result<Metadata> {
-        self.rt.metadata(path)
-    }
-
-    fn symlink_metadata(&self, path: &str) -> io::Result<Metadata> {
-        self.rt.symlink_metadata(path)
-    }
-
-    fn copy(&self, from: &str, to: &str) -> io::Result<u64> {
-        self.rt.copy(from, to)
-    }
-
-    fn rename(&self, from: &str, to: &str) -> io::Result<()> {
-        self.rt.rename(from, to)
-    }
-
-    fn remove_file(&self, path: &str) -> io::Result<()> {
-        self.rt.remove_file(path)
-    }
-
-    fn create_dir(&self, path: &str) -> io::Result<()> {
-        self.rt.create_dir(path)
-    }
-
-    fn remove_dir(&self, path: &str) -> io::Result<()> {
-        self.rt.remove_dir(path)
-    }
-
-    fn remove_dir_all<B: Allocator>(&self, alloc: B, path: &str) -> io::Result<()> {
-        self.rt.remove_dir_all(alloc, path)
+        Ok(file)
     }
 }
 
-impl<R: Input> Input for RunSystem<'_, R> {
-    type Reader = CutRecords<R::Reader>;
+/// It exposes nothing of what the streams and files of the system hold.
+impl<'a, R: Files + Input + Print> UnitSystem for RunSystem<'a, R> {
+    ghost use Rattle.std.specs.Prelude.{[], false};
 
-    fn read_line<A: Allocator + Clone>(&self, buf: &mut String<A>) -> io::Result<usize> {
-        self.reader().read_line(buf)
-    }
+    type Input = CutRecords<R::Reader>;
 
-    fn lines<A: Allocator>(&self, alloc: A) -> Lines<CutRecords<R::Reader>, A> {
-        self.reader().lines(alloc)
-    }
+    type Output = Printer<'a, R>;
 
-    fn reader(&self) -> CutRecords<R::Reader> {
+    type Source = CutRecords<R::File>;
+
+    type Target = R::File;
+
+    ghost exposes = { λ _. false };
+
+    ghost input_bytes = { λ _. [] };
+
+    ghost source_bytes = { λ _ _. [] };
+
+    fn input(&self) -> CutRecords<R::Reader> {
         CutRecords::new(self.rt.reader())
     }
-}
 
-impl<R: Print> Print for RunSystem<'_, R> {
-    fn print<D: Display + Drop>(&self, value: D) -> io::Result<()> {
-        self.rt.print(value)
+    fn output(&self) -> Printer<'a, R> {
+        io::writer(self.rt)
     }
 
-    fn println<D: Display + Drop>(&self, value: D) -> io::Result<()> {
-        self.rt.println(value)
+    fn open(&self, path: &str) -> io::Result<CutRecords<R::File>> {
+        let mut how = OpenOptions::new();
+        how.read(true);
+        Ok(CutRecords::new(self.open_file(&how, path)?))
     }
 
-    fn write_all(&self, bytes: &[u8]) -> io::Result<()> {
-        self.rt.write_all(bytes)
-    }
-
-    fn write_some(&self, bytes: &[u8]) -> io::Result<usize> {
-        self.rt.write_some(bytes)
+    fn create(&self, path: &str) -> io::Result<R::File> {
+        let mut how = OpenOptions::new();
+        how.write(true).create(true).truncate(true);
+        self.open_file(&how, path)
     }
 }

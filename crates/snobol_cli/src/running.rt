@@ -8,10 +8,10 @@ use crate::porting::{is_foreign, use_written, written_anew};
 use crate::reporting::{report_alone, report_outcome};
 use crate::statuses::FAILED;
 use crate::words_unit::WordsUnit;
-use driver::{Ran, Told, UnitFile, run_deck};
+use driver::{Ran, Told, UnitFile, finished, run_deck};
 use messages::{Form, Sources};
 use model::{Status, Stop, UnitFault};
-use program::{flushed, system_of, units_of};
+use program::{system_of, units_of};
 use snobol_words::{Given, Port};
 use std::env::Env;
 use std::fs::Files;
@@ -70,7 +70,7 @@ fn run_sources<R: Files + Input + Print + AllocGlobal>(
     let mut units = WordsUnit::new(rt.alloc(), records, units);
     match run_deck(rt.alloc(), sources.bytes(), &mut units, steps) {
         Ok(ran) => {
-            let ran = flushed(ran, units.into_units().flush());
+            let ran = finished(ran, units.into_units().flush());
             Ok(Outcome {
                 told: Told::Ran(ran),
                 reason: reason_of(rt, ran, files),

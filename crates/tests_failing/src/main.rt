@@ -8,12 +8,15 @@
 #![tactic(auto)]
 
 mod each;
+mod plain;
 
 use crate::each::run_each;
+use crate::plain::Plain;
 use driver::{Ran, Told, compile_deck, report};
 use loader::{Module, load};
 use model::{Ending, Status};
 use statement_machine::Machine;
+use std::alloc::Global;
 use std::env::{self, Env};
 use std::fs::{self, Files};
 use std::io::{self, ErrorKind, Input, Print};
@@ -65,13 +68,14 @@ fn read_words<R: Env + AllocGlobal>(rt: &R) -> Result<Words, Told<'static>> {
 }
 
 /// Standard input and output, and the files 7, 8 and 9.
-fn units_of<R: Files + Input + Print + AllocGlobal>(
-    rt: &R,
-) -> Result<FileUnits<'_, R>, Told<'static>> {
-    let Ok(mut units) = FileUnits::new(rt.alloc(), rt) else {
+fn units_of<'a, R: Files + Input + Print>(
+    alloc: Global,
+    system: &'a Plain<'a, R>,
+) -> Result<FileUnits<'a, Plain<'a, R>>, Told<'static>> {
+    let Ok(mut units) = FileUnits::new(alloc, system) else {
         return Err(Told::NoMemory);
     };
-    for (unit, file) in [(7, "7"), (8, "8"), (9, "9")] {
+    'files: for (unit, file) in [(7, "7"), (8, "8"), (9, "9")] {
         if units.give(unit, file).is_err() {
             return Err(Told::NoMemory);
         }
@@ -105,7 +109,8 @@ fn run_twice<R: Files + Input + Print + AllocGlobal>(
     module: &Module,
     k: u64,
 ) -> Result<Answers, Told<'static>> {
-    let mut units = FailAt::new(units_of(rt)?, k);
+    let system = Plain::new(rt);
+    let mut units = FailAt::new(units_of(rt.alloc(), &system)?, k);
     let Ok(mut machine) = Machine::new(rt.alloc(), module) else {
         return Err(Told::NoMemory);
     };

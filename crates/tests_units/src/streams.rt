@@ -51,7 +51,7 @@ fn lines_longer_than_a_piece(rt: HostRuntime) -> Result<(), Fail> {
 #[test]
 fn lines_that_are_written(rt: HostRuntime) -> Result<(), Fail> {
     let mut bytes = Vec::new(rt.alloc());
-    let mut writer = LineWriter::new(&mut bytes);
+    let mut writer = LineWriter::new(rt.alloc(), &mut bytes)?;
     assert!(rt; writer.write_record(b"ONE").is_ok() && writer.write_record(b"").is_ok());
     assert!(rt; writer.flush().is_ok());
     drop(writer);

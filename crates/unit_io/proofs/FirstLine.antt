@@ -5,7 +5,7 @@ use Rattle.std.proofs.lemmas.List.{drop-drop, take_rest, length-drop, drop_all}
 use Rattle.memchr.specs.Find.{IsFirstByte, is_byte}
 use Rattle.model.specs.Language.Units.{records_of, with_byte, first_of, rest_of}
 
-isn't_true : (b : Bool) → ¬ (b ≡ true) → b ≡ false
+pub isn't_true : (b : Bool) → ¬ (b ≡ true) → b ≡ false
 isn't_true true h = absurd (h refl)
 isn't_true false h = refl
 
@@ -24,7 +24,7 @@ only_line x (y ∷ ys) none =
     let other : (x == 10) ≡ false = isn't_true (x == 10) (none 0 (omega arith)) in
     rw other (ap (with_byte x) (only_line y ys (λ j h. none (suc j) (omega arith))))
 
-one_line : (xs : List ℕ) → 0 < length xs → ((j : ℕ) → j < length xs → ¬ ((get_or xs j 0 == 10) ≡ true)) → records_of xs ≡ xs ∷ []
+pub one_line : (xs : List ℕ) → 0 < length xs → ((j : ℕ) → j < length xs → ¬ ((get_or xs j 0 == 10) ≡ true)) → records_of xs ≡ xs ∷ []
 one_line [] some none = absurd (omega arith)
 one_line (x ∷ xs) some none = only_line x xs none
 

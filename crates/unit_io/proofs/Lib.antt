@@ -1,7 +1,11 @@
 pub mod Appended
+pub mod BytesOn
 pub mod Calls
 pub mod Feeds
 pub mod FirstLine
+pub mod Holding
+pub mod KnownSteps
 pub mod OpenSides
 pub mod Serving
+pub mod ToldLines
 pub mod Untold

@@ -3,8 +3,8 @@ use Rattle.std.specs.Prelude.{◌≡◌, ◌≢◌, ℕ, ◌+◌, List, Result, 
 use Rattle.model.specs.declared.run.UnitFault.{UnitFault}
 use Rattle.model.specs.declared.run.UnitFault.TheVariants.{Memory}
 
-abbrev pub count_of : List ℕ → ℕ → ℕ
-count_of counts unit = slice_index_or counts unit 0
+abbrev pub failures_at : List ℕ → ℕ → ℕ
+failures_at counts unit = slice_index_or counts unit 0
 
 -- one more, but never past the last value of 64 bits
 abbrev pub one_more : ℕ → ℕ

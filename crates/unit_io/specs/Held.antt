@@ -1,7 +1,7 @@
 -- What units in memory hold.
 use Rattle.std.specs.Prelude.{◌≡◌, ℕ, ◌+◌, List, [], ◌∷◌, ◌++◌, Option, Some, None, length, map, nat_eq, ◌⊎◌, set, if◌then◌else◌}
 use Rattle.model.specs.Language.Io.{Io}
-use Rattle.unit_io.specs.Counts.{count_of, one_more}
+use Rattle.unit_io.specs.Counts.{failures_at, one_more}
 use Rattle.model.specs.Language.Units.{bytes_on, first_of, rest_of}
 use Rattle.model.specs.declared.run.UnitFault.{UnitFault}
 use Rattle.model.specs.declared.run.UnitFault.TheVariants.{NotOpen, Memory}
@@ -33,7 +33,7 @@ abbrev pub io_of : UnitsView → Io
 io_of h = record { left = λ unit. left_by (side_at unit h.opened); printed = printed_of h.printed }
 
 abbrev pub failures_of : UnitsView → ℕ → ℕ
-failures_of h unit = count_of h.failures unit
+failures_of h unit = failures_at h.failures unit
 
 abbrev pub IsReadable : Option Side → Type 0
 IsReadable (Some (Input records)) = Unit {0}

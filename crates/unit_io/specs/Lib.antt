@@ -1,5 +1,9 @@
 pub mod Counts
 pub mod Failing
+pub mod Files
 pub mod Held
 pub mod Service
+pub mod Sides
 pub mod Streams
+pub mod Views
+pub mod Written

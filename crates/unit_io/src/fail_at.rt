@@ -2,7 +2,7 @@
 
 ghost use Rattle.std.specs.Prelude.{◌≡◌, ◌≢◌, ◌↔◌, ◌≤◌, ◌-◌, ℕ, IsTrue, Err, IfErr, IfOk, OnOk, OnErr, replicate};
 ghost use Rattle.model.specs.Language.Units.{Reads, Writes, IsCounted, HasGrown};
-ghost use Rattle.unit_io.specs.Counts.{count_of, one_more, Same, SameBut, IfNoneFailed};
+ghost use Rattle.unit_io.specs.Counts.{failures_at, one_more, Same, SameBut, IfNoneFailed};
 ghost use Rattle.unit_io.specs.Failing.{failures_in};
 
 use crate::counts::Counts;
@@ -45,10 +45,10 @@ impl<U: Units> FailAt<U> {
         ensures left { self.new.left ≡ self.old.left - 1 }
         ensures which { IsTrue result ↔ (self.old.left ≡ 1) }
         ensures counted { IsTrue result
-            → HasGrown (count_of self.old.counts unit) (count_of self.new.counts unit) }
-        ensures grows { (u : ℕ) → count_of self.old.counts u ≤ count_of self.new.counts u }
+            → HasGrown (failures_at self.old.counts unit) (failures_at self.new.counts unit) }
+        ensures grows { (u : ℕ) → failures_at self.old.counts u ≤ failures_at self.new.counts u }
         ensures spared { self.old.left ≢ 1 → self.new.counts ≡ self.old.counts }
-        ensures others { SameBut unit (count_of self.old.counts) (count_of self.new.counts) }
+        ensures others { SameBut unit (failures_at self.old.counts) (failures_at self.new.counts) }
     {
         if self.left == 0 {
             return false;
@@ -63,12 +63,12 @@ impl<U: Units> FailAt<U> {
 }
 
 impl<U: Units> Units for FailAt<U> {
-    ghost use Rattle.unit_io.specs.Counts.{count_of};
+    ghost use Rattle.unit_io.specs.Counts.{failures_at};
     ghost use Rattle.unit_io.specs.Failing.{failures_with};
 
     ghost told = { λ f. U.told f.units };
 
-    ghost failures = { λ f unit. failures_with (U.failures f.units unit) (count_of f.counts unit) };
+    ghost failures = { λ f unit. failures_with (U.failures f.units unit) (failures_at f.counts unit) };
 
     fn read_record(&mut self, unit: u8) -> Result<Option<Text>, UnitFault>
         ensures ok { IfOk result (λ got.

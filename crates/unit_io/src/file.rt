@@ -1,86 +1,144 @@
 //! Units on standard input, standard output and files.
 
-ghost use Rattle.std.specs.Prelude.{◌≡◌, ◌≤◌, ℕ, IfOk, IfErr, replicate};
+ghost use Rattle.std.specs.Prelude.{◌≡◌, ◌≢◌, ◌≤◌, ◌<◌, ◌∷◌, ◌++◌, [], ℕ, List, Option, Some, None, length};
+ghost use Rattle.std.specs.Prelude.{IfOk, IfErr, OnErr, OnOk, replicate};
+ghost use Rattle.std.specs.Io.KnownBytes.{Appends, Keeps};
 ghost use Rattle.model.specs.Language.Units.{IsCounted};
-ghost use Rattle.unit_io.specs.Counts.{count_of, Same, SameBut, IfMemory};
+ghost use Rattle.unit_io.specs.Counts.{failures_at, Same, SameBut, IfMemory};
+ghost use Rattle.unit_io.specs.Files.{back_of, back_on, file_on, left_on, written_on};
+ghost use Rattle.unit_io.specs.Sides.{exposed, kept_by, left_by, TakesFirst, written_by};
+ghost use Rattle.unit_io.specs.Streams.{AppendsBeginning};
 
 use crate::counts::Counts;
 use crate::given::GivenFile;
+use crate::history::History;
 use crate::line_reader::LineReader;
 use crate::line_writer::LineWriter;
+use crate::system::UnitSystem;
 use crate::units::Units;
 use model::UnitFault;
 use std::alloc::{AllocError, Global};
-use std::fs::Files;
 use std::io;
-use std::io::{BufWriter, Input, Print, Printer};
+use std::marker::Model;
 use strings::Text;
 
 /// Unit 5 is standard input, and unit 6 is standard output, unless files are given for them. Other units are open where
 /// files are given for them. Input is read in pieces, as its records are asked for. What is written is kept back until
-/// `flush` at the latest, and for standard output until standard input is read. They don't tell their records.
-pub struct FileUnits<'a, R: Files + Input + Print> {
-    rt: &'a R,
+/// `flush` at the latest, and for standard output until standard input is read. A unit whose write failed takes no more.
+pub struct FileUnits<'a, S: UnitSystem> {
     alloc: Global,
-    input: LineReader<R::Reader>,
-    output: LineWriter<BufWriter<Printer<'a, R>>>,
-    given: Vec<GivenFile<'a, R::File>>,
+    system: &'a S,
+    input: LineReader<S::Input>,
+    output: LineWriter<S::Output>,
+    given: Vec<Option<GivenFile<'a, S>>>,
     counts: Counts,
+    history: History,
 }
 
-impl<R: Files + Input + Print> Drop for FileUnits<'_, R> {
+impl<'a, S: UnitSystem> Model for FileUnits<'a, S> {
+    ghost use Rattle.unit_io.specs.Files.{FilesView, IsKept};
+    ghost use Rattle.unit_io.specs.Sides.{kept_by, left_by, written_by};
+
+    ghost Value = { FilesView S };
+
+    ghost view = { λ f. record {
+      system = f.system.now;
+      input = left_by S.Input.remaining f.input;
+      output = written_by S.Output.contents f.output;
+      back = kept_by f.output;
+      given = f.given.items;
+      counts = f.counts;
+      records = f.history.records;
+    } };
+
+    ghost invariant = { λ f.
+        IsKept S.exposes (record {
+          system = f.system.now;
+          input = left_by S.Input.remaining f.input;
+          output = written_by S.Output.contents f.output;
+          back = kept_by f.output;
+          given = f.given.items;
+          counts = f.counts;
+          records = f.history.records;
+        }) };
+}
+
+impl<S: UnitSystem> Drop for FileUnits<'_, S> {
     fn drop(self) {
         let FileUnits {
-            rt: _,
             alloc: _,
+            system: _,
             input: _,
             output: _,
             given: _,
             counts: _,
+            history: _,
         } = self;
     }
 }
 
-impl<'a, R: Files + Input + Print> FileUnits<'a, R> {
-    /// The units of a program that runs on `rt`.
-    pub fn new(alloc: Global, rt: &'a R) -> io::Result<FileUnits<'a, R>>
-        ensures { IfOk result (λ units. units.counts ≡ replicate 256 0) }
+impl<'a, S: UnitSystem> FileUnits<'a, S> {
+    ghost use Rattle.unit_io.specs.Files.{IsKept, told_of};
+
+    /// The units of a program that runs on this system. No file is given.
+    pub fn new(alloc: Global, system: &'a S) -> io::Result<FileUnits<'a, S>>
+        ensures system { IfOk result (λ units. units.system ≡ system.now) }
+        ensures input { IfOk result (λ units.
+            Keeps (exposed (S.exposes system.now) (S.input_bytes system.now)) units.input) }
+        ensures given { IfOk result (λ units. units.given ≡ []) }
+        ensures counts { IfOk result (λ units. units.counts ≡ replicate 256 0) }
+        ensures records { IfOk result (λ units. units.records ≡ []) }
     {
         Ok(FileUnits {
-            rt,
             alloc,
-            input: LineReader::new(alloc, rt.reader()),
-            output: LineWriter::new(BufWriter::new(alloc, io::writer(rt))?),
+            system,
+            input: LineReader::new(alloc, system.input()),
+            output: LineWriter::new(alloc, system.output())?,
             given: Vec::new(alloc),
             counts: Counts::new(),
+            history: History::new(),
         })
     }
 
-    /// Gives a file for a unit. It is opened at its first use, and created or emptied if that is a write; the other use
-    /// is then refused.
+    /// Gives a file for a unit, in the place of one that was given before. It is opened at its first use, and created or
+    /// emptied if that is a write; the other use is then refused.
     pub fn give(&mut self, unit: u8, path: &'a str) -> Result<(), AllocError>
-        ensures { self.new.counts ≡ self.old.counts }
+        requires { self.old.records ≡ [] }
+        ensures given { OnOk result (file_on unit self.new.given ≡ Some (record {
+          left = exposed (S.exposes self.old.system) (S.source_bytes self.old.system path.now);
+          written = exposed (S.exposes self.old.system) [];
+          back = [];
+        })) }
+        ensures others { (u : ℕ) → u ≢ unit → file_on u self.new.given ≡ file_on u self.old.given }
+        ensures err { OnErr result (file_on unit self.new.given ≡ file_on unit self.old.given) }
+        ensures system { self.new.system ≡ self.old.system }
+        ensures input { self.new.input ≡ self.old.input }
+        ensures counts { self.new.counts ≡ self.old.counts }
+        ensures records { self.new.records ≡ [] }
     {
-        self.given.push(GivenFile::new(unit, path))?;
-        Ok(())
+        let file = GivenFile::new(self.alloc, self.system, path);
+        place_file(&mut self.given, unit as usize, file)
     }
 
-    /// Writes what was kept back, or tells the unit that could not be written, the first of them.
+    /// Writes what was kept back, or reports the unit that could not be written, the first of them.
     pub fn flush(&mut self) -> Result<(), u8>
+        // Nothing is kept back.
+        ensures all { OnOk result ((unit : ℕ) → back_on unit self.new.given self.new.back ≡ []) }
+        // On a system that exposes the bytes, those that were written to each unit are those of its records.
+        ensures kept { IsKept S.exposes self.new }
+        ensures told { told_of S.exposes self.new ≡ told_of S.exposes self.old }
         ensures counted { IfErr result (λ unit.
-            IsCounted UnitFault.WriteFailed (count_of self.old.counts unit)
-            (count_of self.new.counts unit)) }
-        ensures grows { (u : ℕ) → count_of self.old.counts u ≤ count_of self.new.counts u }
+            IsCounted UnitFault.WriteFailed (failures_at self.old.counts unit)
+            (failures_at self.new.counts unit)) }
+        ensures grows { (u : ℕ) → failures_at self.old.counts u ≤ failures_at self.new.counts u }
+        ensures same { OnOk result (self.new.counts ≡ self.old.counts) }
     {
-        let mut failed = None;
-        if self.output.flush().is_err() {
-            failed = Some(6);
-        }
-        for file in &mut self.given {
-            if file.flush().is_err() && failed.is_none() {
-                failed = Some(file.unit());
-            }
-        }
+        let output = self.output.flush();
+        let files = flush_all(&mut self.given);
+        let failed = match (output, files) {
+            (Err(_), _) => Some(6),
+            (Ok(()), failed) => failed,
+        };
         match failed {
             None => Ok(()),
             Some(unit) => {
@@ -89,81 +147,191 @@ impl<'a, R: Files + Input + Print> FileUnits<'a, R> {
             }
         }
     }
-
-    // Counts a fault of a unit, unless it is want of memory.
-    fn counted(&mut self, unit: u8, fault: UnitFault) -> UnitFault
-        ensures same { result ≡ fault }
-        ensures counted { IsCounted fault (count_of self.old.counts unit)
-            (count_of self.new.counts unit) }
-        ensures grows { (u : ℕ) → count_of self.old.counts u ≤ count_of self.new.counts u }
-        ensures kept { IfMemory fault (Same (count_of self.old.counts) (count_of self.new.counts)) }
-        ensures others { SameBut unit (count_of self.old.counts) (count_of self.new.counts) }
-    {
-        if fault != UnitFault::Memory {
-            self.counts.add(unit);
-        }
-        fault
-    }
-
-    // The first record that is left on standard input.
-    fn read_standard(&mut self) -> Result<Option<Text>, UnitFault>
-        ensures { self.new.counts ≡ self.old.counts }
-    {
-        if !self.input.is_ready() {
-            // What a program printed stands there before it reads; a failure is told at the next write.
-            let _ = self.output.flush();
-        }
-        self.input.next_record()
-    }
-
-    fn read_from(&mut self, unit: u8) -> Result<Option<Text>, UnitFault>
-        ensures { self.new.counts ≡ self.old.counts }
-    {
-        for file in &mut self.given {
-            if file.unit() == unit {
-                return file.read_record(self.alloc, self.rt);
-            }
-        }
-        if unit != 5 {
-            return Err(UnitFault::NotOpen);
-        }
-        self.read_standard()
-    }
-
-    fn write_to(&mut self, unit: u8, bytes: &[u8]) -> Result<(), UnitFault>
-        ensures { self.new.counts ≡ self.old.counts }
-    {
-        for file in &mut self.given {
-            if file.unit() == unit {
-                return file.write_record(self.alloc, self.rt, bytes);
-            }
-        }
-        if unit != 6 {
-            return Err(UnitFault::NotOpen);
-        }
-        self.output.write_record(bytes)
-    }
 }
 
-impl<R: Files + Input + Print> Units for FileUnits<'_, R> {
-    ghost use Rattle.std.specs.Prelude.{None};
-    ghost use Rattle.unit_io.specs.Counts.{count_of};
+impl<S: UnitSystem> Units for FileUnits<'_, S> {
+    ghost use Rattle.unit_io.specs.Counts.{failures_at};
+    ghost use Rattle.unit_io.specs.Files.{told_of};
 
-    ghost told = { λ units. None };
+    ghost told = { told_of S.exposes };
 
-    ghost failures = { λ units. count_of units.counts };
+    ghost failures = { λ units. failures_at units.counts };
 
     fn read_record(&mut self, unit: u8) -> Result<Option<Text>, UnitFault> {
-        match self.read_from(unit) {
+        match take(&mut self.input, &mut self.output, &mut self.given, unit) {
             Ok(got) => Ok(got),
-            Err(fault) => Err(self.counted(unit, fault)),
+            Err(fault) => {
+                count(&mut self.counts, unit, fault);
+                Err(fault)
+            }
         }
     }
 
     fn write_record(&mut self, unit: u8, bytes: &[u8]) -> Result<(), UnitFault> {
-        match self.write_to(unit, bytes) {
-            Ok(()) => Ok(()),
-            Err(fault) => Err(self.counted(unit, fault)),
+        let failures = self.counts.get(unit);
+        if failures > 0 {
+            self.counts.add(unit);
+            return Err(UnitFault::WriteFailed);
+        }
+        match put(&mut self.output, &mut self.given, unit, bytes) {
+            Ok(()) => {
+                self.history.note(unit, bytes);
+                Ok(())
+            }
+            Err(fault) => {
+                count(&mut self.counts, unit, fault);
+                Err(fault)
+            }
         }
     }
+}
+
+// Counts a fault of a unit, unless it is want of memory.
+fn count(counts: &mut Counts, unit: u8, fault: UnitFault)
+    ensures counted { IsCounted fault (failures_at counts.old unit) (failures_at counts.new unit) }
+    ensures grows { (u : ℕ) → failures_at counts.old u ≤ failures_at counts.new u }
+    ensures kept { IfMemory fault (Same (failures_at counts.old) (failures_at counts.new)) }
+    ensures others { SameBut unit (failures_at counts.old) (failures_at counts.new) }
+{
+    if fault != UnitFault::Memory {
+        counts.add(unit);
+    }
+}
+
+// Room for a file of this unit.
+fn make_room<S: UnitSystem>(
+    given: &mut Vec<Option<GivenFile<'_, S>>>,
+    unit: usize,
+) -> Result<(), AllocError>
+    ensures same { (u : ℕ) → file_on u given.new.items ≡ file_on u given.old.items }
+    ensures room { OnOk result (unit < length given.new.items) }
+{
+    'room: while given.len() <= unit {
+        given.push(None)?;
+    }
+    Ok(())
+}
+
+// Has this file given for a unit.
+fn place_file<'a, S: UnitSystem>(
+    given: &mut Vec<Option<GivenFile<'a, S>>>,
+    unit: usize,
+    file: GivenFile<'a, S>,
+) -> Result<(), AllocError>
+    ensures given { OnOk result (file_on unit given.new.items ≡ Some file.entry) }
+    ensures others { (u : ℕ) → u ≢ unit → file_on u given.new.items ≡ file_on u given.old.items }
+    ensures err { OnErr result (file_on unit given.new.items ≡ file_on unit given.old.items) }
+{
+    make_room(given, unit)?;
+    given[unit] = Some(file);
+    Ok(())
+}
+
+// The first record that is left on a unit. Before standard input is read, what was printed is written.
+fn take<S: UnitSystem>(
+    input: &mut LineReader<S::Input>,
+    output: &mut LineWriter<S::Output>,
+    given: &mut Vec<Option<GivenFile<'_, S>>>,
+    unit: u8,
+) -> Result<Option<Text>, UnitFault>
+    ensures ok { IfOk result (λ got. TakesFirst got
+        (left_on unit given.old.items (left_by S.Input.remaining input.old))
+        (left_on unit given.new.items (left_by S.Input.remaining input.new))) }
+    ensures err { OnErr result (Keeps
+        (left_on unit given.old.items (left_by S.Input.remaining input.old))
+        (left_on unit given.new.items (left_by S.Input.remaining input.new))) }
+    ensures others { (u : ℕ) → u ≢ unit
+        → left_on u given.new.items (left_by S.Input.remaining input.new)
+        ≡ left_on u given.old.items (left_by S.Input.remaining input.old) }
+    ensures written { (u : ℕ) → Keeps
+        (written_on u given.old.items (written_by S.Output.contents output.old))
+        (written_on u given.new.items (written_by S.Output.contents output.new)) }
+{
+    let k = unit as usize;
+    if k < given.len() {
+        if let Some(file) = &mut given[k] {
+            return file.read_record();
+        }
+    }
+    if unit != 5 {
+        return Err(UnitFault::NotOpen);
+    }
+    if !input.is_ready() {
+        // A failure is reported at the next write.
+        let _ = output.flush();
+    }
+    input.next_record()
+}
+
+// Writes a record to a unit.
+fn put<S: UnitSystem>(
+    output: &mut LineWriter<S::Output>,
+    given: &mut Vec<Option<GivenFile<'_, S>>>,
+    unit: u8,
+    bytes: &[u8],
+) -> Result<(), UnitFault>
+    ensures ok { OnOk result (Appends
+        (written_on unit given.old.items (written_by S.Output.contents output.old))
+        (written_on unit given.new.items (written_by S.Output.contents output.new))
+        (bytes.now ++ 10 ∷ [])) }
+    ensures err { OnErr result (AppendsBeginning
+        (written_on unit given.old.items (written_by S.Output.contents output.old))
+        (written_on unit given.new.items (written_by S.Output.contents output.new))
+        (bytes.now ++ 10 ∷ [])) }
+    ensures memory { IfErr result (λ fault. IfMemory fault (Keeps
+        (written_on unit given.old.items (written_by S.Output.contents output.old))
+        (written_on unit given.new.items (written_by S.Output.contents output.new)))) }
+    ensures others { (u : ℕ) → u ≢ unit
+        → written_on u given.new.items (written_by S.Output.contents output.new)
+        ≡ written_on u given.old.items (written_by S.Output.contents output.old) }
+    ensures left { (u : ℕ) (input : Option (List ℕ))
+        → left_on u given.new.items input ≡ left_on u given.old.items input }
+{
+    let k = unit as usize;
+    if k < given.len() {
+        if let Some(file) = &mut given[k] {
+            return file.write_record(bytes);
+        }
+    }
+    if unit != 6 {
+        return Err(UnitFault::NotOpen);
+    }
+    output.write_record(bytes)
+}
+
+// Writes what the file of a unit keeps back.
+fn flush_at<S: UnitSystem>(
+    given: &mut Vec<Option<GivenFile<'_, S>>>,
+    k: usize,
+) -> Result<(), UnitFault>
+    requires { k < length given.old.items }
+    ensures all { OnOk result (back_of (file_on k given.new.items) [] ≡ []) }
+    ensures others { (u : ℕ) → u ≢ k → file_on u given.new.items ≡ file_on u given.old.items }
+    ensures left { (u : ℕ) (input : Option (List ℕ))
+        → left_on u given.new.items input ≡ left_on u given.old.items input }
+    ensures written { (u : ℕ) (output : Option (List ℕ))
+        → Keeps (written_on u given.old.items output) (written_on u given.new.items output) }
+    ensures len { length given.new.items ≡ length given.old.items }
+{
+    match &mut given[k] {
+        Some(file) => file.flush(),
+        None => Ok(()),
+    }
+}
+
+// Writes what files keep back, or reports the first unit whose file could not be written.
+fn flush_all<S: UnitSystem>(given: &mut Vec<Option<GivenFile<'_, S>>>) -> Option<u8>
+    ensures all { result ≡ None → (u : ℕ) → back_of (file_on u given.new.items) [] ≡ [] }
+    ensures left { (u : ℕ) (input : Option (List ℕ))
+        → left_on u given.new.items input ≡ left_on u given.old.items input }
+    ensures written { (u : ℕ) (output : Option (List ℕ))
+        → Keeps (written_on u given.old.items output) (written_on u given.new.items output) }
+{
+    let mut failed = None;
+    'files: for k in 0..given.len() {
+        if flush_at(given, k).is_err() && failed.is_none() {
+            failed = Some(u8::try_from(k).unwrap_or(u8::MAX));
+        }
+    }
+    failed
 }

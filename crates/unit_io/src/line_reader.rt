@@ -1,8 +1,9 @@
 //! Records from what can be read.
 
-ghost use Rattle.std.specs.Prelude.{◌≡◌, ◌↔◌, IsTrue, ◌+◌, ◌^◌, ◌<◌, []};
-ghost use Rattle.std.specs.Io.KnownBytes.{IsAtEnd};
+ghost use Rattle.std.specs.Prelude.{◌≡◌, ◌↔◌, IsTrue, IfOk, OnErr, ◌+◌, ◌^◌, ◌<◌, []};
+ghost use Rattle.std.specs.Io.KnownBytes.{IsAtEnd, Keeps};
 ghost use Rattle.memchr.specs.Find.{IsFirstByte, is_byte};
+ghost use Rattle.unit_io.specs.Sides.{left_by, TakesFirst};
 ghost use Rattle.unit_io.specs.Streams.{HasNoFeed, Tells, TellsNext};
 
 use crate::ahead::Ahead;
@@ -36,6 +37,19 @@ impl<R: Read> LineReader<R> {
     /// Tells the next record, without its line feed; `None` at the end. After a fault nothing is told and nothing is
     /// lost, and the next call goes on.
     pub fn next_record(&mut self) -> Result<Option<Text>, UnitFault>
+        ensures told { TellsNext result (R.remaining self.old.source)
+            (R.remaining self.new.source) self.old.held self.new.held }
+        // The same in one word: it is the first record of the bytes that are left, those that are held included.
+        ensures first { IfOk result (λ got.
+            TakesFirst got (left_by R.remaining self.old) (left_by R.remaining self.new)) }
+        ensures err { OnErr result
+            (Keeps (left_by R.remaining self.old) (left_by R.remaining self.new)) }
+    {
+        self.tell_next()
+    }
+
+    // Tells the next record.
+    fn tell_next(&mut self) -> Result<Option<Text>, UnitFault>
         ensures { TellsNext result (R.remaining self.old.source)
             (R.remaining self.new.source) self.old.held self.new.held }
     {

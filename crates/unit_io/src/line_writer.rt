@@ -1,33 +1,38 @@
 //! Records to what can be written.
 
-ghost use Rattle.std.specs.Prelude.{◌≡◌, ◌∷◌, ◌++◌, [], OnOk, OnErr, IfErr};
+ghost use Rattle.std.specs.Prelude.{◌≡◌, ◌∷◌, ◌++◌, [], IfOk, OnOk, OnErr, IfErr};
+ghost use Rattle.std.specs.Io.Buffered.{writer_inner};
 ghost use Rattle.std.specs.Io.KnownBytes.{Appends, Keeps};
+ghost use Rattle.unit_io.specs.Sides.{kept_by, written_by};
 ghost use Rattle.unit_io.specs.Streams.{AppendsBeginning};
 
 use model::UnitFault;
-use std::io::{ErrorKind, Write};
+use std::alloc::Global;
+use std::io::{self, BufWriter, ErrorKind, Write};
 
-/// Writes records, and a line feed after each.
+/// Writes records, and a line feed after each. What is written is kept back until there is much of it, and until `flush`.
 #[derive(Drop)]
-pub struct LineWriter<W> {
-    target: W,
+pub struct LineWriter<W: Write + Drop> {
+    target: BufWriter<W>,
 }
 
-impl<W: Write> LineWriter<W> {
-    /// Nothing is written yet. Takes no memory.
-    pub fn new(target: W) -> LineWriter<W>
-        ensures { result.target ≡ target }
+impl<W: Write + Drop> LineWriter<W> {
+    /// Nothing is written yet. Fails only for want of memory.
+    pub fn new(alloc: Global, target: W) -> io::Result<LineWriter<W>>
+        ensures target { IfOk result (λ writer. writer_inner writer.target ≡ target) }
+        ensures empty { IfOk result (λ writer. kept_by writer ≡ []) }
     {
-        LineWriter { target }
+        let target = BufWriter::new(alloc, target)?;
+        Ok(LineWriter { target })
     }
 
     /// Writes a record, and a line feed after it. After a fault a beginning of them was written.
     pub fn write_record(&mut self, bytes: &[u8]) -> Result<(), UnitFault>
         ensures ok { OnOk result
-            (Appends (W.contents self.old.target) (W.contents self.new.target)
+            (Appends (written_by W.contents self.old) (written_by W.contents self.new)
             (bytes.now ++ 10 ∷ [])) }
         ensures err { OnErr result
-            (AppendsBeginning (W.contents self.old.target) (W.contents self.new.target)
+            (AppendsBeginning (written_by W.contents self.old) (written_by W.contents self.new)
             (bytes.now ++ 10 ∷ [])) }
         ensures fault { IfErr result (λ fault. fault ≡ UnitFault.WriteFailed) }
     {
@@ -37,9 +42,10 @@ impl<W: Write> LineWriter<W> {
         }
     }
 
-    /// Has what was kept back written.
+    /// Has what was kept back written. After a fault some of it is kept back still, and nothing is lost.
     pub fn flush(&mut self) -> Result<(), UnitFault>
-        ensures bytes { Keeps (W.contents self.old.target) (W.contents self.new.target) }
+        ensures bytes { Keeps (written_by W.contents self.old) (written_by W.contents self.new) }
+        ensures all { OnOk result (kept_by self.new ≡ []) }
         ensures fault { IfErr result (λ fault. fault ≡ UnitFault.WriteFailed) }
     {
         match self.target.flush() {

@@ -1,0 +1,28 @@
+use Rattle.std.proofs.Common.{subst, sym}
+use Rattle.unit_io.specs.Files.{told_of}
+use Rattle.driver.specs.Whole.{RefinesMeaning}
+use Rattle.driver.proofs.FileRuns.{card_kept, finished_meaning, handed_on, sound_units, writes}
+use Rattle.driver.proofs.on_files.run_module_on_files.Goals as goal
+
+pub returns-clause-meaning : goal.returns-clause-meaning
+returns-clause-meaning g c deck m =
+    let exposes = g.S.UnitSystem.exposes in
+    let before = c.args.units.now in
+    let after = c.flush.new.self in
+    let told = c.in_ok-ran.ensures.meaning deck m in
+    writes exposes c.finished.result.status before after c.flush.ensures.kept deck c.args.bound
+    (finished_meaning deck c.args.bound c.in_ok-ran.ran.status c.finished.result.status c.flush.result (told_of exposes before) (told_of exposes after) c.finished.ensures.status
+    (subst (RefinesMeaning deck c.args.bound c.in_ok-ran.ran.status (told_of exposes before)) (sym c.flush.ensures.told) told))
+
+pub returns-clause-handed_on : goal.returns-clause-handed_on
+returns-clause-handed_on g c = handed_on c.in_ok-ran.ran.status c.finished.result.status c.flush.result _ c.finished.ensures.status c.flush.ensures.all
+
+pub returns-clause-sound_units : goal.returns-clause-sound_units
+returns-clause-sound_units g c =
+    sound_units c.in_ok-ran.ran.status c.finished.result.status c.flush.result c.args.units.now.counts _ c.flush.new.self.counts
+    c.finished.ensures.status c.in_ok-ran.ensures.counts c.flush.ensures.same
+
+pub returns-clause-card : goal.returns-clause-card
+returns-clause-card g c =
+    let (m, read, card) = c.in_ok-ran.ensures.card in
+    (m, read, card_kept m.cards c.in_ok-ran.ran.status c.finished.result.status c.flush.result c.in_ok-ran.ran.card c.finished.result.card c.finished.ensures.status c.finished.ensures.card card)
