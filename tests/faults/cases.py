@@ -1,14 +1,15 @@
 """The decks whose runs fail in all ways: the worked ones, and some that have each instruction that any deck has."""
 
-import pathlib
 import re
 import shlex
 import tempfile
 import typing
 
+from case_files import unpacked
+
 from .served import Served
 
-DECKS = pathlib.Path(__file__).resolve().parents[1] / "decks"
+DECKS = unpacked("decks")
 # The subjects of which all decks are taken, and those of which none is, as their runs are long.
 WORKED = ("worked", "failing")
 LONG = ("big", "programs")

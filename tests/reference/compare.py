@@ -2,16 +2,17 @@
 
 import argparse
 import concurrent.futures
-import pathlib
 import re
 import shlex
+
+from case_files import unpacked
 
 from . import generate, worked
 from .command import seen_of
 from .replay import Replay
 from .units import Units
 
-DECKS = pathlib.Path(__file__).resolve().parents[1] / "decks"
+DECKS = unpacked("decks")
 # Words of a case that the reference has nothing for: steps, and files that can't be opened or written, as those that two
 # units have.
 LEFT_OUT = re.compile(r"--steps.*|[0-9]+=(\.|not_there.*|/dev/.*|(\./)?both)")

@@ -6,6 +6,8 @@ import sys
 import tempfile
 import typing
 
+from case_files import unpacked
+
 from .command import ROOT, run
 
 # A block of a page between lines of three backquotes, with one of these words behind the first.
@@ -96,7 +98,7 @@ def library_checks():
 def row_checks():
     """That each row of docs/porting.md has a case in tests/snobol/porting: a comment of its deck is the row's beginning."""
     page = ROOT / "docs" / "porting.md"
-    decks = [file.read_text(encoding="latin-1") for file in (ROOT / "tests/snobol/porting").glob("*.sno")]
+    decks = [file.read_text(encoding="latin-1") for file in (unpacked("snobol") / "porting").glob("*.sno")]
     said = [card[2:].rstrip() for deck in decks for card in deck.splitlines() if card.startswith("* ")]
     for row in re.findall(r"^\| (.*?)(?<!\\) \|", page.read_text(encoding="utf-8"), re.MULTILINE):
         plain = row.replace("`", "").replace("\\|", "|").strip()

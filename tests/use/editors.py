@@ -10,6 +10,7 @@ import pathlib
 import re
 import tempfile
 
+from case_files import unpacked
 from reference import cards, tokens
 
 from .command import ROOT, is_there, run
@@ -230,7 +231,7 @@ def differ(wanted, got):
 
 def decks():
     """The decks that are tried."""
-    found = [*(ROOT / "examples").glob("**/*.sno"), *(ROOT / "tests" / "decks").glob("*/*.sno")]
+    found = [*(ROOT / "examples").glob("**/*.sno"), *unpacked("decks").glob("*/*.sno")]
     return [file for file in sorted(found) if file.stat().st_size <= MOST]
 
 

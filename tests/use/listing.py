@@ -4,11 +4,13 @@ import pathlib
 import re
 import tempfile
 
+from case_files import unpacked
+
 from .command import ROOT, run
 from .decks import outcome
 
 PLACE = "docs/listing.md"
-DECKS = ROOT / "tests" / "decks"
+DECKS = unpacked("decks")
 # Decks that show each cause: what stands on the line of the caret, and the cause as it is told. `^` stands under a byte.
 CAUSES = [
     (" X = 'A' # 'B'\nEND\n", " " * 9 + "^", "statement 1 L1"),

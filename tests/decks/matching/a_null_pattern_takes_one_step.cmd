@@ -1,3 +1,0 @@
-compile deck.sno a.module
-run a.module --steps 7
-run a.module --steps 6

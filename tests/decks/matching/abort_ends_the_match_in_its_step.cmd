@@ -1,3 +1,0 @@
-compile deck.sno a.module
-run a.module --steps 8
-run a.module --steps 7

@@ -1,3 +1,0 @@
-compile deck.sno a.module
-run a.module --steps 14
-run a.module --steps 13

@@ -1,2 +1,0 @@
-compile deck.sno a.module
-show a.module

@@ -1,2 +1,0 @@
-compile deck.sno deck.sno
-run deck.sno

@@ -1,3 +1,0 @@
-compile deck.sno a.module
-< deck.sno
-compile /dev/null b.module

@@ -1,5 +1,0 @@
-compile . a.module
-check .
-show .
-run .
-upgrade . a.module

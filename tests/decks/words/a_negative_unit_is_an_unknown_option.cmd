@@ -1,1 +1,0 @@
-run hello.module -1=a

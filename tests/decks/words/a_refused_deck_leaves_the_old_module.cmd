@@ -1,2 +1,0 @@
-compile deck.sno hello.module
-run hello.module

@@ -1,2 +1,0 @@
-upgrade a_deck_of_failures.module a_deck_of_failures.module
-check a_deck_of_failures.module

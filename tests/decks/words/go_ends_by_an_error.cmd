@@ -1,2 +1,0 @@
-go deck.sno
-go deck.sno 5=not_there

@@ -1,1 +1,0 @@
-show hello.module

@@ -1,2 +1,0 @@
-check hello.module > /dev/full
-show hello.module > /dev/full

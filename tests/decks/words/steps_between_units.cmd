@@ -1,1 +1,0 @@
-run hello.module 8=a --steps 6 9=b

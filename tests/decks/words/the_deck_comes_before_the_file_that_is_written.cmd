@@ -1,1 +1,0 @@
-compile deck.sno not_there/a.module

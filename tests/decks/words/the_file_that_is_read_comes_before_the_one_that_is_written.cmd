@@ -1,2 +1,0 @@
-compile not_there not_there/a.module
-upgrade not_there not_there/a.module

@@ -1,1 +1,0 @@
-run another_version.module --steps 0 6=not_there/a

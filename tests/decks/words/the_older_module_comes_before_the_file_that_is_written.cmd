@@ -1,1 +1,0 @@
-upgrade hello.module not_there/a.module

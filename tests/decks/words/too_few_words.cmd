@@ -1,7 +1,0 @@
-compile
-compile deck.sno
-check
-show
-run
-upgrade
-upgrade hello.module

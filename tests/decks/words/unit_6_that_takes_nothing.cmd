@@ -1,2 +1,0 @@
-run hello.module > /dev/full
-> /dev/full

@@ -1,2 +1,0 @@
-compile deck.sno a.module
-run a.module > /dev/full

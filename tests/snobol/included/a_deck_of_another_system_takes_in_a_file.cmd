@@ -1,3 +1,0 @@
-deck.sno
-port deck.sno > ported.sno
---strict ported.sno

@@ -1,2 +1,0 @@
-SNOPATH=none:share/snobol deck.sno
-SNOPATH=share/snobol: check deck.sno

@@ -1,1 +1,0 @@
-json.sno deck.sno

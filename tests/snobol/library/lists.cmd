@@ -1,1 +1,0 @@
-lists.sno deck.sno

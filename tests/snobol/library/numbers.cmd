@@ -1,1 +1,0 @@
-numbers.sno deck.sno

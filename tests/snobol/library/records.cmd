@@ -1,1 +1,0 @@
-csv.sno deck.sno

@@ -1,1 +1,0 @@
-text.sno deck.sno

@@ -1,3 +1,0 @@
-check deck.sno
---strict deck.sno
-check more.sno

@@ -1,2 +1,0 @@
-check --messages=json deck.sno
---messages=json more.sno

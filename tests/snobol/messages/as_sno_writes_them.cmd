@@ -1,4 +1,0 @@
-check --messages=codes deck.sno
---messages=codes more.sno
---messages=codes not_there
---messages=codes more.sno 5=not_there

@@ -1,3 +1,0 @@
-check deck.sno
-check more.sno
-check - < /dev/null

@@ -1,2 +1,0 @@
-check deck.sno more.sno
-more.sno deck.sno more.sno

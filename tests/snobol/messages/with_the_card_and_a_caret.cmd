@@ -1,3 +1,0 @@
-check --messages=text deck.sno
---messages text deck.sno
-check --messages=text more.sno

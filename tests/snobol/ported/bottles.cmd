@@ -1,3 +1,0 @@
-port deck.sno > ported.sno
---strict ported.sno
-deck.sno

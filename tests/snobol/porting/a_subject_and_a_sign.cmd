@@ -1,2 +1,0 @@
-deck.sno
-check more.sno

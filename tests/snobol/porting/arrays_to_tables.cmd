@@ -1,2 +1,0 @@
-deck.sno
-more.sno

@@ -1,2 +1,0 @@
-check deck.sno
-deck.sno 5=more.sno

@@ -1,2 +1,0 @@
-port deck.sno
-9=nine deck.sno

@@ -1,1 +1,0 @@
---steps 10000 deck.sno

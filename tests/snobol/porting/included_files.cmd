@@ -1,2 +1,0 @@
-port deck.sno
-deck.sno

@@ -1,2 +1,0 @@
-check deck.sno
-more.sno

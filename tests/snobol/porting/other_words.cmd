@@ -1,2 +1,0 @@
-check deck.sno
-9=nine more.sno -- Ann

@@ -1,3 +1,0 @@
-check deck.sno
-deck.sno
-SNOPATH=share/snobol more.sno

@@ -1,3 +1,0 @@
-check deck.sno
-deck.sno
-more.sno

@@ -1,3 +1,0 @@
---fold deck.sno
-port --fold deck.sno
-more.sno

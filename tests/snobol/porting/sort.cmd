@@ -1,2 +1,0 @@
-check deck.sno
-SNOPATH=share/snobol more.sno

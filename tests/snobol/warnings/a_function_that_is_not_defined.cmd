@@ -1,2 +1,0 @@
-check deck.sno
-check more.sno

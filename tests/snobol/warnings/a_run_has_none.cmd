@@ -1,2 +1,0 @@
-deck.sno
-compile deck.sno a.module

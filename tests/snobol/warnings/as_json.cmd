@@ -1,1 +1,0 @@
-check --messages=json deck.sno

@@ -1,1 +1,0 @@
-deck.sno 9=a 12=b

@@ -1,1 +1,0 @@
-more.sno deck.sno

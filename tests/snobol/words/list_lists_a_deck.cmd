@@ -1,2 +1,0 @@
-list deck.sno
-list --code deck.sno

@@ -1,2 +1,0 @@
-- < deck.sno
-- 5=in < deck.sno

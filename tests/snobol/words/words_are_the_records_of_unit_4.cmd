@@ -1,3 +1,0 @@
-deck.sno -- Ann 'Bob Lee' -- --steps '' 9=x
-deck.sno --
-deck.sno 4=a
