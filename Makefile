@@ -24,6 +24,9 @@ FAILING := crates/tests_failing/out/tests_failing
 # A part of the faults that `make refuse`, `failing`, `damage` and `deep` run whole.
 FAULTS := "tests/refuse --every 50 $(PROGRAM)/out/sno $(FAILING)" "tests/failing $(PROGRAM)/out/sno $(FAILING)" \
 	"tests/damage --every 90 $(PROGRAM)/out/sno $(FAILING)" "tests/deep --part $(PROGRAM)/out/sno"
+# The decks on an unproved program that counts its ways, and fails where one is never taken.
+COUNTED := build/counted/sno
+COVERED := "tools/counted $(COUNTED)" "tests/run --coverage $(COUNTED)"
 # What a proof of the program reads, folders too, so that a file that goes is noticed.
 PARTS = $(foreach crate,$(shell tools/below $(1) 2>/dev/null),$(foreach part,src specs proofs,crates/$(crate)/$(part)))
 SOURCES := $(shell find crates.txt $(wildcard $(call PARTS,sno)) 2>/dev/null)
@@ -31,7 +34,7 @@ SNOBOL_SOURCES := $(shell find crates.txt $(wildcard $(call PARTS,snobol)) 2>/de
 LISTER_SOURCES := $(shell find crates.txt $(wildcard $(call PARTS,sno_list)) 2>/dev/null)
 PAGE_SOURCES := $(shell find crates.txt $(wildcard $(call PARTS,page)) 2>/dev/null)
 
-.PHONY: help run try sno snobol list install deb uninstall release test decks pages bound ways batch load refuse failing damage deep wrong time check bench compare variants random fmt clean page site browse toolchain program deck input
+.PHONY: help run try sno snobol list install deb uninstall release test decks coverage pages bound ways batch load refuse failing damage deep wrong time check bench compare variants random fmt clean page site browse toolchain program deck input
 .DEFAULT_GOAL := help
 
 help: ## list the targets
@@ -119,12 +122,15 @@ release: build/sno build/sno_list ## leave programs, manual pages, the page and 
 test: toolchain ## the gate: every proof from nothing, must-fail edits, tests, programs, decks (last line 'N passed, M failed')
 	@echo "test: proving every crate from nothing; this takes many minutes (all lines go to build/log)"
 	@mkdir -p build && touch build/began
-	@RT_JOBS=$${RT_JOBS:-$$(tools/jobs)} tools/progress "$(RT) ci" "tools/wrong --texts" "tests/docs $(PROGRAM)/out/sno $(LISTER)/out/sno_list $(FOR_PEOPLE)/out/snobol" "tests/run $(BUILT)" "tests/run --commands snobol $(BUILT_FOR_PEOPLE)" "tests/terminal $(FOR_PEOPLE)/out/snobol" "tests/ported $(FOR_PEOPLE)/out/snobol" "tests/pipe $(PROGRAM)/out/sno --list $(LISTER)/out/sno_list" "tests/load $(PROGRAM)/out/sno" "tests/batch $(PROGRAM)/out/sno" "tests/bound --decks 100 $(PROGRAM)/out/sno" "tests/ways $(BUILT)" $(FAULTS)
+	@RT_JOBS=$${RT_JOBS:-$$(tools/jobs)} tools/progress "$(RT) ci" "tools/wrong --texts" "tests/docs $(PROGRAM)/out/sno $(LISTER)/out/sno_list $(FOR_PEOPLE)/out/snobol" "tests/run $(BUILT)" $(COVERED) "tests/run --commands snobol $(BUILT_FOR_PEOPLE)" "tests/terminal $(FOR_PEOPLE)/out/snobol" "tests/ported $(FOR_PEOPLE)/out/snobol" "tests/pipe $(PROGRAM)/out/sno --list $(LISTER)/out/sno_list" "tests/load $(PROGRAM)/out/sno" "tests/batch $(PROGRAM)/out/sno" "tests/bound --decks 100 $(PROGRAM)/out/sno" "tests/ways $(BUILT)" $(FAULTS)
 	@cp $(PROGRAM)/out/sno build/sno.new && touch -r build/began build/sno.new && mv build/sno.new build/sno
 
 decks: build/sno build/snobol ## the decks and commands of tests/ alone, on the proved programs
 	@tests/run build/sno && tests/pipe build/sno
 	@tests/run --commands snobol build/snobol && tests/terminal build/snobol && tests/ported build/snobol
+
+coverage: toolchain ## which ways of the machine the decks of tests/ take; nothing is proved, in some two minutes
+	@tools/counted $(COUNTED) && tests/run --coverage $(COUNTED)
 
 pages: build/sno build/sno_list build/snobol ## what the pages name and show, on the proved programs
 	@tests/docs build/sno build/sno_list build/snobol
