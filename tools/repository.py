@@ -35,6 +35,16 @@ def edits(name, folder):
     return sorted((ROOT / "crates" / name / folder).glob("*.edit"))
 
 
+def copy(one, other):
+    """Copies a file; one of what was proved by a link, where that can be made, since a check replaces it and changes none."""
+    try:
+        if one.endswith(".oantt"):
+            return os.link(one, other)
+    except OSError:
+        pass
+    return shutil.copy2(one, other)
+
+
 @contextlib.contextmanager
 def copied(names):
     """A folder with a copy of these crates and of those below them, which goes afterwards."""
@@ -48,7 +58,7 @@ def copied(names):
             for part in PARTS:
                 source = ROOT / "crates" / name / part
                 if source.is_dir():
-                    shutil.copytree(source, top / "crates" / name / part)
+                    shutil.copytree(source, top / "crates" / name / part, copy_function=copy)
         yield top
 
 

@@ -1,4 +1,4 @@
-"""Names of the code: what pages say of types, types of one name, the page of calls, the gate's table, the version."""
+"""Names of the code: what pages say of types, types of one name, the page of calls, the gate's table, mutants, the version."""
 
 import collections
 import importlib.machinery
@@ -74,7 +74,7 @@ def calls_check():
 def gate_checks():
     """That the table of the gate's time is of this tree: its crates, and its functions within a tenth."""
     gate = tool("gate_time")
-    place, text = "docs/architecture.md", gate.PAGE.read_text(encoding="utf-8")
+    place, text = "docs/architecture.md", gate.ARCHITECTURE.read_text(encoding="utf-8")
     yield place, "the marks around the gate's table", gate.BLOCK.search(text) is not None
     for problem in gate.problems(text):
         yield place, f"a table of this tree, by make time: {problem}", False
@@ -99,6 +99,16 @@ def proof_checks():
     for number, now, what in told:
         there = abs(number - now) * 10 <= now
         yield "docs/proofs.md", f"the lines of {what} and what stands beside it: {number}, and there are {now}", there
+
+
+def mutant_checks():
+    """That each mutant of tests/wrong_tried.txt is there, and that docs/promises.md has how many they are."""
+    noted = tool("wrong").noted()
+    there = {f"{name}/{edit.name}" for name in CRATES for edit in repository.edits(name, "wrong")}
+    for mutant in sorted(noted - there):
+        yield "tests/wrong_tried.txt", f"the mutant {mutant}", False
+    text = " ".join((ROOT / "docs" / "promises.md").read_text(encoding="utf-8").split())
+    yield "docs/promises.md", f"has the {len(noted)} that `tools/wrong --note`", f"has the {len(noted)} that `tools" in text
 
 
 def version_checks():
@@ -134,4 +144,5 @@ def checks(spans):
     yield from gate_checks()
     yield from proof_checks()
     yield from figure_checks()
+    yield from mutant_checks()
     yield from version_checks()
