@@ -8,9 +8,9 @@ use Rattle.model.specs.declared.cards.Statement.{Statement}
 use Rattle.model.specs.declared.cards.CardFault.{CardFault}
 use Rattle.model.specs.declared.cards.CardRule.{CardRule}
 use Rattle.model.specs.declared.cards.CardRule.TheVariants as rule
-use Rattle.model.specs.declared.cards.Deck.{Deck}
 use Rattle.model.specs.Deck.Cards.{Card, CardKind, Comment, Control, UnknownControl, Continuation, Start, Column, cards, kind_of, kind_of_columns, pieces_of, ended, kept, bad_bytes, before_lost, lost_continuations, before_unknown, unknown_controls, long_statements, faults_of, fault, least, lesser, is_less, is_plain, cards_verdict, deck_of, deck}
 use Rattle.card_reader.specs.declared.reader.Reader.{Reader}
+use Rattle.card_reader.specs.declared.views.DeckView.{DeckView}
 use Rattle.card_reader.specs.Parts.{Parts, parts_of}
 use Rattle.card_reader.specs.Reading.{merge, IsClosed, Waits, pieces_now}
 use Rattle.card_reader.proofs.Keeping.{closes}
@@ -32,15 +32,15 @@ kind_columns n line = refl
 abbrev Answer : Type 0
 Answer = Result (List Statement) CardFault
 
-pub if_ok : (res : Result Deck CardFault) (a b : Answer) → b ≡ a → IfOk res (λ d. a ≡ Ok d.statements) → IfOk res (λ d. b ≡ Ok d.statements)
+pub if_ok : (res : Result DeckView CardFault) (a b : Answer) → b ≡ a → IfOk res (λ d. a ≡ Ok d.statements) → IfOk res (λ d. b ≡ Ok d.statements)
 if_ok (Ok d) a b e h = e ∙ h
 if_ok (Err f) a b e h = tt
 
-pub if_err : (res : Result Deck CardFault) (a b : Answer) → b ≡ a → IfErr res (λ f. a ≡ Err f) → IfErr res (λ f. b ≡ Err f)
+pub if_err : (res : Result DeckView CardFault) (a b : Answer) → b ≡ a → IfErr res (λ f. a ≡ Err f) → IfErr res (λ f. b ≡ Err f)
 if_err (Ok d) a b e h = tt
 if_err (Err f) a b e h = e ∙ h
 
-pub if_fault : (res : Result Deck CardFault) (a : Answer) → IfErr res (λ f. a ≡ Err f) → IfErr res (λ f. f.rule ≢ rule.Memory → a ≡ Err f)
+pub if_fault : (res : Result DeckView CardFault) (a : Answer) → IfErr res (λ f. a ≡ Err f) → IfErr res (λ f. f.rule ≢ rule.Memory → a ≡ Err f)
 if_fault (Ok d) a h = tt
 if_fault (Err f) a h = λ _. h
 
@@ -118,7 +118,7 @@ deck_memory cs None f e =
     let fs = faults_of cs ++ fault (length cs + 1) rule.NoEnd ∷ [] in
     verdict_memory cs (least fs) f (λ b k. least_memory fs (memory_append (faults_of cs) (fault (length cs + 1) rule.NoEnd ∷ []) (all_memory cs) refl) b k) e
 
-pub if_memory : (res : Result Deck CardFault) (cs : List Card) (o : Option (List Card)) → IfErr res (λ f. deck_of cs o ≡ Err f) → IfErr res (λ f. f.rule ≡ rule.Memory → f ≡ fault 0 rule.Memory)
+pub if_memory : (res : Result DeckView CardFault) (cs : List Card) (o : Option (List Card)) → IfErr res (λ f. deck_of cs o ≡ Err f) → IfErr res (λ f. f.rule ≡ rule.Memory → f ≡ fault 0 rule.Memory)
 if_memory (Ok d) cs o h = tt
 if_memory (Err f) cs o h = λ e. absurd (let m = deck_memory cs o f h in let t : is_memory f.rule ≡ true = ap is_memory e in cc)
 

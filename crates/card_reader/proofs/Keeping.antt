@@ -106,7 +106,7 @@ closed_fault r after p e ps h c k =
 -- a reader that holds the same, but for the quote
 pub record IsSame (r after : Reader) : Type 0 where
   pub statements : after.statements ≡ r.statements
-  pub piece : after.piece.items ≡ r.piece.items
+  pub piece : after.piece ≡ r.piece
   pub card : after.piece_card ≡ r.piece_card
   pub fault : after.fault ≡ r.fault
 
@@ -157,10 +157,10 @@ first_of n [] [] m h lt = absurd (omega arith)
 first_of n [] (b ∷ bs) m h lt = refl
 first_of n (x ∷ xs) text m h lt = let some : nat_lt 0 (suc (length xs)) ≡ true = grind (arith, nat_tests) in rw some (h (omega arith))
 
-pub extends : (r after : Reader) (p : Parts) (e : Option CardFault) (n : ℕ) (text : List ℕ) → Holds r p e → Others r after → after.piece.items ≡ r.piece.items ++ text
-    → after.piece_card ≡ (if nat_lt 0 (length r.piece.items) then r.piece_card else n) → Holds after (parts p.whole (p.last ++ placed n text) p.quote) e
+pub extends : (r after : Reader) (p : Parts) (e : Option CardFault) (n : ℕ) (text : List ℕ) → Holds r p e → Others r after → after.piece ≡ r.piece ++ text
+    → after.piece_card ≡ (if nat_lt 0 (length r.piece) then r.piece_card else n) → Holds after (parts p.whole (p.last ++ placed n text) p.quote) e
 extends r after p e n text h o grows card =
-    let width : length r.piece.items ≡ length p.last = ap length h.piece ∙ length-bytes p.last in
+    let width : length r.piece ≡ length p.last = ap length h.piece ∙ length-bytes p.last in
     record {
       no_end = h.no_end;
       statements = o.statements ∙ h.statements;
@@ -185,7 +185,7 @@ merge_later e l f = merge_shift e l f ∙ ap (merge e) (merge_swap l f) ∙ sym 
 
 pub record IsNoted (r after : Reader) (f : Option CardFault) : Type 0 where
   pub statements : after.statements ≡ r.statements
-  pub piece : after.piece.items ≡ r.piece.items
+  pub piece : after.piece ≡ r.piece
   pub card : after.piece_card ≡ r.piece_card
   pub quote : after.quote ≡ r.quote
   pub begun : after.begun ≡ r.begun

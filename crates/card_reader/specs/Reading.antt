@@ -56,7 +56,7 @@ card_fault begun kind n line = merge (bad_byte n line) (kind_fault begun kind n)
 pub record Holds (r : Reader) (p : Parts) (earlier : Option CardFault) : Type 0 where
   pub no_end : has_end p.whole ≡ false
   pub statements : r.statements ≡ statements_from 1 (kept p.whole)
-  pub piece : r.piece.items ≡ column_bytes p.last
+  pub piece : r.piece ≡ column_bytes p.last
   pub card : 0 < length p.last → r.piece_card ≡ first_card p.last
   pub quote : r.quote ≡ p.quote
   pub fault : r.fault ≡ merge earlier (least (long_statements (kept p.whole)))
@@ -117,11 +117,11 @@ too_long card text = if is_blank_text text then None else when (nat_lt 4000 (len
 
 -- the piece has ended
 pub record IsClosed (old new : Reader) : Type 0 where
-  pub piece : new.piece.items ≡ []
+  pub piece : new.piece ≡ []
   pub quote : new.quote ≡ old.quote
   pub begun : new.begun ≡ old.begun
-  pub statements : new.statements ≡ old.statements ++ statement_of (length old.statements + 1) old.piece_card old.piece.items
-  pub fault : new.fault ≡ merge old.fault (too_long old.piece_card old.piece.items)
+  pub statements : new.statements ≡ old.statements ++ statement_of (length old.statements + 1) old.piece_card old.piece
+  pub fault : new.fault ≡ merge old.fault (too_long old.piece_card old.piece)
 
 -- where the next piece of these bytes ends, from an open quote or none
 abbrev pub IsStop : Option ℕ → List ℕ → Stop → Type 0

@@ -5,7 +5,9 @@
 //!
 //!     let deck = read_deck(alloc, b" OUTPUT = 'HI'\nEND\n")?;
 //!
-//! Promised: it is the definition `deck` of `model`'s `Cards`, both ways, for every list of bytes; C7 says that a
+//! `view_deck(alloc, &arena, bytes)` does the same without a copy of texts that stand on one card.
+//!
+//! Promised: each is the definition `deck` of `model`'s `Cards`, both ways, for every list of bytes; C7 says that a
 //! growth of memory was refused, in place of any other answer.
 #![tactic(auto)]
 
@@ -16,17 +18,24 @@ ghost use Rattle.model.specs.Deck.Cards as cards;
 mod kinds;
 mod lines;
 mod reader;
+mod views;
 
 use crate::lines::next_line;
 use crate::reader::Reader;
+use bumpalo::Bump;
 use model::{CardFault, CardRule, Deck};
 use std::alloc::{AllocError, Global};
+pub use views::{DeckView, StatementView};
 
 /// The most bytes of a deck.
 const LONGEST_DECK: usize = 16_777_216;
 
 // The deck's statements or its first fault, for a deck that isn't too long.
-fn read_cards(alloc: Global, deck: &[u8]) -> Result<Result<Deck, CardFault>, AllocError>
+fn read_cards<'a>(
+    alloc: Global,
+    arena: &'a Bump,
+    deck: &'a [u8],
+) -> Result<Result<DeckView<'a>, CardFault>, AllocError>
     requires { length deck.now ≤ 16777216 }
     ensures statements { IfOk result (λ read.
         IfOk read (λ d. cards.deck_of (cards.cards deck.now) (cards.ended (cards.cards deck.now))
@@ -35,7 +44,7 @@ fn read_cards(alloc: Global, deck: &[u8]) -> Result<Result<Deck, CardFault>, All
         IfErr read (λ f. cards.deck_of (cards.cards deck.now) (cards.ended (cards.cards deck.now))
         ≡ Err f)) }
 {
-    let mut reader = Reader::new(alloc);
+    let mut reader = Reader::new(alloc, arena);
     let mut rest = deck;
     let mut card: u32 = 1;
     while let Some((line, more)) = next_line(rest) {
@@ -48,9 +57,19 @@ fn read_cards(alloc: Global, deck: &[u8]) -> Result<Result<Deck, CardFault>, All
     Ok(Err(reader.without_end(alloc, card)?))
 }
 
+const NO_MEMORY: CardFault = CardFault {
+    card: 0,
+    rule: CardRule::Memory,
+};
+
 /// The statements of a deck up to and with END, or its first fault: the least card's, and there the least rule's.
-/// A refused growth of memory is told at card 0 in place of any other fault.
-pub fn read_deck(alloc: Global, deck: &[u8]) -> Result<Deck, CardFault>
+/// A refused growth of memory is told at card 0 in place of any other fault. Texts that stand on several cards are kept
+/// in the arena.
+pub fn view_deck<'a>(
+    alloc: Global,
+    arena: &'a Bump,
+    deck: &'a [u8],
+) -> Result<DeckView<'a>, CardFault>
     ensures statements { IfOk result (λ d. cards.deck deck.now ≡ Ok d.statements) }
     ensures fault { IfErr result (λ f. f.rule ≢ rule.Memory → cards.deck deck.now ≡ Err f) }
     ensures memory { IfErr result (λ f. f.rule ≡ rule.Memory → f ≡ cards.fault 0 rule.Memory) }
@@ -61,11 +80,22 @@ pub fn read_deck(alloc: Global, deck: &[u8]) -> Result<Deck, CardFault>
             rule: CardRule::DeckTooLong,
         });
     }
-    match read_cards(alloc, deck) {
+    match read_cards(alloc, arena, deck) {
         Ok(read) => read,
-        Err(_) => Err(CardFault {
-            card: 0,
-            rule: CardRule::Memory,
-        }),
+        Err(_) => Err(NO_MEMORY),
+    }
+}
+
+/// The same with texts of its own.
+pub fn read_deck(alloc: Global, deck: &[u8]) -> Result<Deck, CardFault>
+    ensures statements { IfOk result (λ d. cards.deck deck.now ≡ Ok d.statements) }
+    ensures fault { IfErr result (λ f. f.rule ≢ rule.Memory → cards.deck deck.now ≡ Err f) }
+    ensures memory { IfErr result (λ f. f.rule ≡ rule.Memory → f ≡ cards.fault 0 rule.Memory) }
+{
+    let arena = Bump::new(alloc);
+    let view = view_deck(alloc, &arena, deck)?;
+    match view.to_deck(alloc) {
+        Ok(deck) => Ok(deck),
+        Err(_) => Err(NO_MEMORY),
     }
 }

@@ -14,7 +14,9 @@ ghost use Rattle.card_reader.specs.Reading.{IsClosed, bad_byte, kind_fault, card
 ghost use Rattle.card_reader.specs.Reading.{text_length, merge, pieces_now};
 
 use crate::kinds::{Kind, card_kind, columns_of, is_blank, is_end_statement, is_plain_line};
-use model::{Bytes, CardFault, CardRule, Deck, Seq, Statement};
+use crate::views::{DeckView, Growing, StatementView};
+use bumpalo::Bump;
+use model::{CardFault, CardRule, Seq};
 use std::alloc::{AllocError, Global};
 use std::mem;
 
@@ -30,11 +32,12 @@ pub(crate) enum Stop {
 }
 
 /// What is read of a deck.
-#[derive(Drop)]
-pub(crate) struct Reader {
-    statements: Seq<Statement>,
+pub(crate) struct Reader<'a> {
+    /// Where texts are kept that stand on several cards.
+    arena: &'a Bump,
+    statements: Seq<StatementView<'a>>,
     /// The piece that may go on, and the card of its first byte.
-    piece: Vec<u8>,
+    piece: Growing<'a>,
     piece_card: u32,
     /// The quote of the literal that is open at its end.
     quote: Option<u8>,
@@ -42,6 +45,20 @@ pub(crate) struct Reader {
     begun: bool,
     /// The least fault so far.
     fault: Option<CardFault>,
+}
+
+impl<'a> Drop for Reader<'a> {
+    fn drop(self) {
+        let Reader {
+            arena: _,
+            statements: _,
+            piece: _,
+            piece_card: _,
+            quote: _,
+            begun: _,
+            fault: _,
+        } = self;
+    }
 }
 
 // The quote of the literal that is open behind this byte, which is no semicolon outside literals.
@@ -101,16 +118,17 @@ fn lesser(fault: Option<CardFault>, other: CardFault) -> CardFault
     }
 }
 
-impl Reader {
+impl<'a> Reader<'a> {
     /// The reader before the first card.
-    pub(crate) fn new(alloc: Global) -> Reader
+    pub(crate) fn new(alloc: Global, arena: &'a Bump) -> Reader<'a>
         ensures empty { Holds result nothing None }
         ensures begun { result.begun ≡ false }
         ensures statements { result.statements ≡ [] }
     {
         Reader {
+            arena,
             statements: Seq::new(alloc),
-            piece: Vec::new(alloc),
+            piece: Growing::new(alloc),
             piece_card: 0,
             quote: None,
             begun: false,
@@ -129,16 +147,16 @@ impl Reader {
     }
 
     // Appends bytes of a card to the piece.
-    fn extend(&mut self, card: u32, text: &[u8]) -> Result<(), AllocError>
-        ensures piece { OnOk result (self.new.piece.items ≡ self.old.piece.items ++ text.now) }
+    fn extend(&mut self, card: u32, text: &'a [u8]) -> Result<(), AllocError>
+        ensures piece { OnOk result (self.new.piece ≡ self.old.piece ++ text.now) }
         ensures card { self.new.piece_card
-            ≡ (if nat_lt 0 (length self.old.piece.items) then self.old.piece_card else card) }
+            ≡ (if nat_lt 0 (length self.old.piece) then self.old.piece_card else card) }
         ensures others { Others self.old self.new }
     {
-        if self.piece.is_empty() {
+        if self.piece.as_slice().is_empty() {
             self.piece_card = card;
         }
-        self.piece.extend_from_slice(text)?;
+        self.piece.extend(text)?;
         Ok(())
     }
 
@@ -147,23 +165,24 @@ impl Reader {
         requires { length self.old.statements + 1 < 4294967296 }
         ensures { OnOk result (IsClosed self.old self.new) }
     {
-        let text = mem::replace(&mut self.piece, Vec::new(alloc));
-        if is_blank(&text) {
+        let piece = mem::replace(&mut self.piece, Growing::new(alloc));
+        let text = piece.into_slice(self.arena)?;
+        if is_blank(text) {
             return Ok(());
         }
         if text.len() > LONGEST_STATEMENT {
             self.note(self.piece_card, CardRule::StatementTooLong);
         }
         let number = self.statements.as_slice().len() as u32 + 1;
-        self.statements.push(Statement {
+        self.statements.push(StatementView {
             number,
             card: self.piece_card,
-            text: Bytes::from_vec(text),
+            text,
         })
     }
 
     // Ends the piece behind these bytes of a card. Says whether it is END.
-    fn end_piece(&mut self, alloc: Global, card: u32, text: &[u8]) -> Result<bool, AllocError>
+    fn end_piece(&mut self, alloc: Global, card: u32, text: &'a [u8]) -> Result<bool, AllocError>
         requires { length self.old.statements + 1 < 4294967296 }
         ensures read { (p : Parts) (e : Option CardFault) → Holds self.old p e
             → IsPieceEnd result self.new p.whole (p.last ++ cards.placed card text.now) e }
@@ -171,7 +190,7 @@ impl Reader {
         ensures count { OnOk result (length self.new.statements ≤ length self.old.statements + 1) }
     {
         self.extend(card, text)?;
-        let is_end = is_end_statement(&self.piece);
+        let is_end = is_end_statement(self.piece.as_slice());
         self.close_piece(alloc)?;
         self.quote = None;
         Ok(is_end)
@@ -182,7 +201,7 @@ impl Reader {
         &mut self,
         alloc: Global,
         card: u32,
-        text: &[u8],
+        text: &'a [u8],
         quote: Option<u8>,
     ) -> Result<bool, AllocError>
         requires { length self.old.statements + 1 < 4294967296 }
@@ -194,7 +213,7 @@ impl Reader {
     {
         self.extend(card, text)?;
         self.quote = quote;
-        let is_end = is_end_statement(&self.piece);
+        let is_end = is_end_statement(self.piece.as_slice());
         if is_end {
             self.close_piece(alloc)?;
         }
@@ -202,7 +221,7 @@ impl Reader {
     }
 
     // Appends a card's columns to the last text. Says whether a piece is END then.
-    fn append(&mut self, alloc: Global, card: u32, text: &[u8]) -> Result<bool, AllocError>
+    fn append(&mut self, alloc: Global, card: u32, text: &'a [u8]) -> Result<bool, AllocError>
         requires { length self.old.statements + length text.now + 1 < 4294967296 }
         ensures read { (p : Parts) (e : Option CardFault) → Holds self.old p e
             → IsRead result self.new (appended p (cards.placed card text.now)) e }
@@ -224,7 +243,7 @@ impl Reader {
     }
 
     // Begins a text with these columns. Says whether a piece is END then.
-    fn begin_text(&mut self, alloc: Global, card: u32, text: &[u8]) -> Result<bool, AllocError>
+    fn begin_text(&mut self, alloc: Global, card: u32, text: &'a [u8]) -> Result<bool, AllocError>
         requires { length self.old.statements + length text.now + 2 < 4294967296 }
         ensures read { (o : Option Parts) (e : Option CardFault) → Waits self.old o e
             → IsRead result self.new (appended (parts.next_text o) (cards.placed card text.now)) e }
@@ -251,7 +270,7 @@ impl Reader {
     }
 
     // Reads a card of this kind. Says whether a piece is END then.
-    fn read_kind(&mut self, alloc: Global, card: u32, kind: Kind<'_>) -> Result<bool, AllocError>
+    fn read_kind(&mut self, alloc: Global, card: u32, kind: Kind<'a>) -> Result<bool, AllocError>
         requires { length self.old.statements + text_length (kind_of kind) + 2 < 4294967296 }
         ensures read { (o : Option Parts) (e : Option CardFault) → Waits self.old o e
             → IsCardRead result self.new (step o (kind_of kind.entry) card)
@@ -280,7 +299,7 @@ impl Reader {
         &mut self,
         alloc: Global,
         card: u32,
-        line: &[u8],
+        line: &'a [u8],
     ) -> Result<bool, AllocError>
         requires { length self.old.statements + length line.now + 2 < 4294967296 }
         ensures read { (o : Option Parts) (e : Option CardFault) → Waits self.old o e
@@ -295,16 +314,23 @@ impl Reader {
     }
 
     /// The statements, or the least fault, once END is read.
-    pub(crate) fn finish(self) -> Result<Deck, CardFault>
+    pub(crate) fn finish(self) -> Result<DeckView<'a>, CardFault>
         ensures statements { IfOk result (λ d.
-            answer self.statements self.fault ≡ Ok d.statements) }
-        ensures fault { IfErr result (λ f. answer self.statements self.fault ≡ Err f) }
+            answer self.entry.statements self.entry.fault ≡ Ok d.statements) }
+        ensures fault { IfErr result (λ f. answer self.entry.statements self.entry.fault ≡ Err f) }
     {
-        match self.fault {
+        let Reader {
+            arena: _,
+            statements,
+            piece: _,
+            piece_card: _,
+            quote: _,
+            begun: _,
+            fault,
+        } = self;
+        match fault {
             Some(fault) => Err(fault),
-            None => Ok(Deck {
-                statements: self.statements,
-            }),
+            None => Ok(DeckView { statements }),
         }
     }
 
@@ -312,7 +338,7 @@ impl Reader {
     pub(crate) fn without_end(mut self, alloc: Global, card: u32) -> Result<CardFault, AllocError>
         requires { length self.statements + 1 < 4294967296 }
         ensures { IfOk result (λ f.
-            (o : Option Parts) (e : Option CardFault) → Waits self o e
+            (o : Option Parts) (e : Option CardFault) → Waits self.entry o e
             → Some f ≡ merge (merge e
             (cards.least (cards.long_statements (cards.kept (pieces_now o)))))
             (Some (cards.fault card rule.NoEnd))) }

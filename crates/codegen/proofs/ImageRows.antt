@@ -4,7 +4,7 @@ use Rattle.model.specs.declared.image.Level.TheVariants as levels
 use Rattle.model.specs.declared.instr.Instr.TheVariants as op
 use Rattle.model.specs.declared.trees.Unary.TheVariants as u
 use Rattle.model.specs.declared.trees.Binary.TheVariants as b
-use Rattle.model.specs.Deck.Trees.{Expr, Name, Literal, Apply, Combine, Label, Goto, Next, OnSuccess, OnFailure, Body, Assign, Replace, Plain, End}
+use Rattle.model.specs.Deck.Trees.{Name, Literal, Apply, Combine, Label, Next, OnSuccess, OnFailure, Assign, Replace, Plain, End}
 use Rattle.expr_codegen.specs.Code.{nothing, one, with_string, unevaluated, ◌>>◌, handled}
 use Rattle.codegen.specs.Layout.{generated_image}
 

@@ -1,23 +1,25 @@
 -- The image of a program, from what was put.
 use Rattle.std.proofs.Common.{◌≡◌, ℕ, suc, ◌+◌, ◌<◌, ◌≤◌, List, [], ◌∷◌, ◌++◌, length, map, refl, sym, ap, ◌∙◌, subst, append_assoc, append-nil, arith, drop, get_or, Option, Some, None}
 use Rattle.std.specs.List.{AllByRecursion}
-use Rattle.model.specs.declared.image.Level.TheVariants as levels
 use Rattle.model.specs.declared.image.Label as image
 use Rattle.std.specs.Borrow.{Bor}
 use Rattle.model.specs.Module.Images.{code_size}
 use Rattle.model.specs.Language.Programs.{labelled_from, entry_label, entry_in}
 use Rattle.model.specs.Deck.Trees.{Bytes, Stmt, Plain, End}
 use Rattle.model.specs.Deck.Weights as weights
+use Rattle.model.proofs.Module.CodeBytes.{code_long}
+use Rattle.expr_codegen.specs.Code.{Part}
 use Rattle.expr_codegen.specs.Texts.{number_of_text, with_texts}
 use Rattle.expr_codegen.specs.Emitting.{Gen, Emits, Longer, Countable, Numbered, size}
 use Rattle.expr_codegen.proofs.Joins.{both, longer_trans, longer_texts}
 use Rattle.expr_codegen.proofs.TextPlaces.{place_stays}
 use Rattle.codegen.specs.Countable.{Fits}
 use Rattle.codegen.specs.Labels.{but_end, entry_by, name_of, own_label}
-use Rattle.codegen.specs.Building.{IsNamed, own_entries, own_texts}
+use Rattle.codegen.specs.Building.{IsDraftOf, IsNamed, own_entries, own_texts}
 use Rattle.codegen.specs.Laying.{Laid, empty, left, retaken}
 use Rattle.codegen.specs.Layout as layout
 use Rattle.codegen.specs.Layout.{joined_parts, program_parts, expressions_of, code_of, texts_of, generated_image, label_texts}
+use Rattle.codegen.specs.declared.building.Draft.{Draft}
 use Rattle.codegen.proofs.Laying.{still_put, next}
 use Rattle.codegen.proofs.Unevaluated.{statements_later}
 
@@ -125,11 +127,22 @@ entry_is : (ss : List Stmt) (o : Option Bytes) → entry_by (labelled_from 1 ss)
 entry_is ss None = refl
 entry_is ss (Some l) = refl
 
-pub image_is : (cards : List ℕ) (ss : List Stmt) (f : Bytes → Option ℕ) (os es : List ℕ) (ls : List image.Label) (entry : ℕ) (strings : List Bytes) (g0 g1 g2 g3 : Gen) → ((l : Bytes) → f l ≡ labelled_from 1 ss l) → g0 ≡ empty
+-- what is ready to be written has these tables and these bytes of code
+pub record Drafted (d : Draft) (first : ℕ) (texts : List Bytes) (ls : List image.Label) (os cs es bytes : List ℕ) : Type 0 where
+  pub entry : d.entry ≡ first
+  pub strings : d.strings ≡ texts
+  pub labels : d.labels.items ≡ ls
+  pub statements : d.statements.items ≡ os
+  pub cards : d.cards ≡ cs
+  pub expressions : d.expressions.items ≡ es
+  pub patterns : d.patterns ≡ []
+  pub code : d.code.items ≡ bytes
+
+pub draft_of : (cards : List ℕ) (ss : List Stmt) (f : Bytes → Option ℕ) (os es : List ℕ) (ls : List image.Label) (entry : ℕ) (g0 g1 g2 g3 : Gen) (d : Draft) → ((l : Bytes) → f l ≡ labelled_from 1 ss l) → g0 ≡ empty
     → Laid (layout.statements f 1 ss) os g0 g1 → g1.taken ≡ g0.taken → ((fuel : ℕ) → weights.total weights.of_expr (left g1) ≤ fuel → Laid (layout.expressions fuel (left g1)) es g1 g2) → Fits ss
-    → g3.texts ≡ with_texts (label_texts ss) g2.texts → g3.code ≡ g2.code → ls ≡ layout.label_entries g3.texts 1 ss → entry ≡ entry_by f (entry_label ss) → strings ≡ g3.texts
-    → record { level = levels.Two; entry = entry; strings = strings; labels = ls; statements = os; cards = cards; expressions = es; patterns = []; code = g3.code } ≡ generated_image cards ss
-image_is cards ss f os es ls entry strings g0 g1 g2 g3 known begin laid taken work fits named same labels enters all =
+    → g3.texts ≡ with_texts (label_texts ss) g2.texts → g3.code ≡ g2.code → ls ≡ layout.label_entries g3.texts 1 ss → entry ≡ entry_by f (entry_label ss)
+    → Drafted d entry g3.texts ls os cards es g3.code → IsDraftOf (generated_image cards ss) d
+draft_of cards ss f os es ls entry g0 g1 g2 g3 d known begin laid taken work fits named same labels enters drafted =
     let fe : f ≡ labelled_from 1 ss = λ j l. known l j in
     let laid1 : Laid (program_parts ss) os empty g1 = subst (λ g. Laid (program_parts ss) os g g1) begin (subst (λ f. Laid (layout.statements f 1 ss) os g0 g1) fe laid) in
     let left1 : left g1 ≡ (joined_parts (program_parts ss)).later = left_is ss (labelled_from 1 ss) os empty g1 refl laid1 (taken ∙ ap (λ (g : Gen). g.taken) begin) in
@@ -138,10 +151,17 @@ image_is cards ss f os es ls entry strings g0 g1 g2 g3 known begin laid taken wo
     let t : g3.texts ≡ texts_of ss = named ∙ ap (with_texts (label_texts ss)) whole.texts in
     let l2 : Longer g2.texts (texts_of ss) = subst (λ u. Longer g2.texts u) (ap (with_texts (label_texts ss)) whole.texts) (longer_texts (label_texts ss) g2.texts) in
     let l1 : Longer g1.texts (texts_of ss) = longer_trans g1.texts g2.texts (texts_of ss) (subst (λ u. Longer g1.texts u) (sym x.parts.texts) (longer_texts (joined_parts (expressions_of ss)).texts g1.texts)) l2 in
-    let s : os ≡ (generated_image cards ss).statements = laid1.offsets (texts_of ss) l1 in
-    let e : es ≡ (generated_image cards ss).expressions = x.offsets (texts_of ss) l2 ∙ ap (λ w. layout.offsets (expressions_of ss) (texts_of ss) (length w) (code_size g1.code)) laid1.parts.waiting ∙ ap (λ c. layout.offsets (expressions_of ss) (texts_of ss) (length (joined_parts (program_parts ss)).later) (code_size c)) (laid1.parts.code (texts_of ss) l1) in
-    let c : g3.code ≡ (generated_image cards ss).code = same ∙ whole.code (texts_of ss) l2 in
-    let n : entry ≡ (generated_image cards ss).entry = enters ∙ ap (λ f. entry_by f (entry_label ss)) fe ∙ entry_is ss (entry_label ss) in
-    let l : ls ≡ (generated_image cards ss).labels = labels ∙ ap (λ u. layout.label_entries u 1 ss) t in
-    let u : strings ≡ (generated_image cards ss).strings = all ∙ t in
-    λ j. record { level = levels.Two; entry = n j; strings = u j; labels = l j; statements = s j; cards = cards; expressions = e j; patterns = []; code = c j }
+    let statements : Part = joined_parts (program_parts ss) in
+    let put : length g1.code ≡ code_size (statements.code (texts_of ss) 0 0) = ap length (laid1.parts.code (texts_of ss) l1) ∙ code_long (statements.code (texts_of ss) 0 0) in
+    record {
+      level = refl;
+      entry = sym (drafted.entry ∙ enters ∙ ap (λ f. entry_by f (entry_label ss)) fe ∙ entry_is ss (entry_label ss));
+      strings = sym (drafted.strings ∙ t);
+      labels = sym (drafted.labels ∙ labels ∙ ap (λ u. layout.label_entries u 1 ss) t);
+      statements = sym (drafted.statements ∙ laid1.offsets (texts_of ss) l1);
+      cards = sym drafted.cards;
+      expressions = sym (drafted.expressions ∙ x.offsets (texts_of ss) l2 ∙ ap (λ w. layout.offsets (expressions_of ss) (texts_of ss) (length w) (length g1.code)) laid1.parts.waiting
+          ∙ ap (λ n. layout.offsets (expressions_of ss) (texts_of ss) (length statements.later) n) put);
+      patterns = sym drafted.patterns;
+      code = drafted.code ∙ same ∙ whole.code (texts_of ss) l2;
+    }

@@ -1,8 +1,7 @@
 -- Unevaluated expressions are put one by one, as the queue of the definitions is worked off.
-use Rattle.std.proofs.Common.{◌≡◌, ℕ, zero, suc, ◌+◌, ◌*◌, ◌<◌, ◌≤◌, List, [], ◌∷◌, ◌++◌, length, refl, sym, ap, ◌∙◌, subst, append_assoc, append-nil, arith, drop, Option, Some, None}
+use Rattle.std.proofs.Common.{◌≡◌, ℕ, zero, suc, ◌+◌, ◌*◌, ◌≤◌, List, [], ◌∷◌, ◌++◌, length, sym, ap, ◌∙◌, subst, append_assoc, append-nil, arith, drop, Some, None}
 use Rattle.std.specs.List.{AllByRecursion}
 use Rattle.model.specs.declared.instr.Instr.TheVariants as op
-use Rattle.model.specs.Module.Images.{code_size}
 use Rattle.model.specs.Deck.Trees.{Expr}
 use Rattle.model.specs.Deck.Weights as weights
 use Rattle.model.specs.Deck.Weights.{of_expr}
@@ -72,7 +71,7 @@ turn e h i k within c all x put =
       countable = subst (AllByRecursion Countable) (sym is) (all_join (left h) (layout.expression e).later all l.1.countable);
     }
 
-pub step : (e : Expr) (os now : List ℕ) (at : ℕ) (g h h1 i k : Gen) → Takes (Some e) h h1 → at ≡ code_size h1.code → now ≡ os ++ at ∷ [] → Kept g os h → Emits (value e) h1 i → k ≡ with_instr op.Ret i
+pub step : (e : Expr) (os now : List ℕ) (at : ℕ) (g h h1 i k : Gen) → Takes (Some e) h h1 → at ≡ length h1.code → now ≡ os ++ at ∷ [] → Kept g os h → Emits (value e) h1 i → k ≡ with_instr op.Ret i
     → size i ≤ size h1 + 9 * of_expr e → size k ≡ size i + 1 → Kept g now k
 step e os now at g h h1 i k takes place put (all, countable, room) x ret s r =
     let t : Taken e h h1 = taken e h h1 takes in
@@ -91,9 +90,9 @@ step e os now at g h h1 i k takes place put (all, countable, room) x ret s r =
       λ j ps z.
           let rest = layout.expressions m (left h1 ++ (layout.expression e).later) in
           let z1 : Laid rest ps k j = subst (λ l. Laid (layout.expressions m l) ps k j) u.joined z in
-          let z2 : Laid (layout.expressions (suc m) (e ∷ left h1)) (code_size h1.code ∷ ps) h1 j = laid_more (layout.expression e) rest ps u.emits z1 in
-          let z3 : Laid (layout.expressions (suc m) (e ∷ left h1)) (code_size h1.code ∷ ps) h j = earlier (layout.expressions (suc m) (e ∷ left h1)) (code_size h1.code ∷ ps) e h h1 j takes z2 in
-          let z4 = f j (code_size h1.code ∷ ps) (subst (λ l. Laid (layout.expressions (suc m) l) (code_size h1.code ∷ ps) h j) (sym t.is) z3) in
+          let z2 : Laid (layout.expressions (suc m) (e ∷ left h1)) (length h1.code ∷ ps) h1 j = laid_more (layout.expression e) rest ps u.emits z1 in
+          let z3 : Laid (layout.expressions (suc m) (e ∷ left h1)) (length h1.code ∷ ps) h j = earlier (layout.expressions (suc m) (e ∷ left h1)) (length h1.code ∷ ps) e h h1 j takes z2 in
+          let z4 = f j (length h1.code ∷ ps) (subst (λ l. Laid (layout.expressions (suc m) l) (length h1.code ∷ ps) h j) (sym t.is) z3) in
           subst (λ o. Laid (layout.expressions fuel (left g)) o g j) (sym (ap (λ l. l ++ ps) put ∙ append_assoc os (at ∷ []) ps ∙ ap (λ a. os ++ a ∷ ps) place)) z4,
     )
 

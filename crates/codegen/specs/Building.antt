@@ -1,7 +1,10 @@
 -- An image that is made statement by statement.
 use Rattle.std.specs.Prelude.{◌≡◌, ◌≤◌, ℕ, suc, ◌+◌, ◌*◌, List, [], ◌∷◌, ◌++◌, length, Option, None, Some}
 use Rattle.std.specs.List.{AllByRecursion}
+use Rattle.model.specs.declared.image.Image.{Image}
 use Rattle.model.specs.declared.image.Label as image
+use Rattle.model.specs.declared.image.Level.TheVariants as levels
+use Rattle.model.specs.Module.Spelling.{code_bytes}
 use Rattle.model.specs.Deck.Trees.{Bytes, Stmt}
 use Rattle.model.specs.Deck.Weights as weights
 use Rattle.expr_codegen.specs.Emitting.{Gen, Numbered, size}
@@ -11,6 +14,7 @@ use Rattle.codegen.specs.Countable.{CountableStmt}
 use Rattle.codegen.specs.Labels.{entry_noted, number_in, number_among}
 use Rattle.codegen.specs.Laying.{Laid, empty}
 use Rattle.codegen.specs.Layout as layout
+use Rattle.codegen.specs.declared.building.Draft.{Draft}
 use Rattle.codegen.specs.declared.building.ImageBuilder.{ImageBuilder}
 
 -- these statements are put, of a program whose statements give these labels: their code stands, and that of others may
@@ -43,3 +47,17 @@ own_entries texts n (Some l ∷ ns) = record { string = number_of_text l texts; 
 abbrev pub IsNamed : Option Bytes → ℕ → (ls ms : List image.Label) → (g h : Gen) → Type 0
 IsNamed None n ls ms g h = (ms ≡ ls) × (h ≡ g)
 IsNamed (Some l) n ls ms g h = (k : ℕ) × (ms ≡ ls ++ record { string = k; statement = n } ∷ []) × Numbered l k g h × (size h ≤ size g + 1)
+
+-- ---- the end
+
+-- what is ready to be written is this image
+pub record IsDraftOf (m : Image) (d : Draft) : Type 0 where
+  pub level : m.level ≡ levels.Two
+  pub entry : m.entry ≡ d.entry
+  pub strings : m.strings ≡ d.strings
+  pub labels : m.labels ≡ d.labels.items
+  pub statements : m.statements ≡ d.statements.items
+  pub cards : m.cards ≡ d.cards
+  pub expressions : m.expressions ≡ d.expressions.items
+  pub patterns : m.patterns ≡ d.patterns
+  pub code : d.code.items ≡ code_bytes m.code

@@ -1,6 +1,5 @@
 -- Parts that were put one behind the other, with their offsets.
 use Rattle.std.specs.Prelude.{◌≡◌, ℕ, List, [], length, drop}
-use Rattle.model.specs.Module.Images.{code_size}
 use Rattle.model.specs.Deck.Trees.{Bytes, Expr}
 use Rattle.expr_codegen.specs.Code.{Part}
 use Rattle.expr_codegen.specs.Emitting.{Gen, Emits, Longer}
@@ -17,7 +16,7 @@ retaken n g = record { code = g.code; texts = g.texts; waiting = g.waiting; take
 -- expressions may have been taken meanwhile
 pub record Laid (ps : List Part) (os : List ℕ) (g h : Gen) : Type 0 where
   pub parts : Emits (joined_parts ps) (retaken h.taken g) h
-  pub offsets : (texts : List Bytes) → Longer h.texts texts → os ≡ offsets ps texts (length g.waiting) (code_size g.code)
+  pub offsets : (texts : List Bytes) → Longer h.texts texts → os ≡ offsets ps texts (length g.waiting) (length g.code)
 
 -- the unevaluated expressions that weren't taken yet
 abbrev pub left : Gen → List Expr

@@ -28,7 +28,7 @@ fn key_target(subject: &Expr) -> Option<&[u8]>
 }
 
 // Puts the code of an object, which is null where it is absent.
-fn object(alloc: Global, g: &mut Generator, o: &Option<Expr>) -> Result<(), AllocError>
+fn object(alloc: Global, g: &mut Generator<'_>, o: &Option<Expr>) -> Result<(), AllocError>
     requires countable { CountableObject (object_of o.now) }
     requires room { size (gen_of g.old) + 9 * weights.of_object (object_of o.now) + 1 < 2 ^ 31 }
     ensures emits { OnOk result
@@ -44,7 +44,7 @@ fn object(alloc: Global, g: &mut Generator, o: &Option<Expr>) -> Result<(), Allo
 }
 
 // Puts an assignment to a keyword.
-fn key_set(g: &mut Generator, name: &[u8]) -> Result<(), AllocError>
+fn key_set(g: &mut Generator<'_>, name: &[u8]) -> Result<(), AllocError>
     requires { size (gen_of g.old) + 2 < 2 ^ 31 }
     ensures emits { OnOk result
         (Emits (with_key (λ k. Instr.KeySet k) (key_named name.now)) (gen_of g.old)
@@ -61,7 +61,7 @@ fn key_set(g: &mut Generator, name: &[u8]) -> Result<(), AllocError>
 // Puts the code of an assignment.
 fn assignment(
     alloc: Global,
-    g: &mut Generator,
+    g: &mut Generator<'_>,
     subject: &Expr,
     o: &Option<Expr>,
 ) -> Result<(), AllocError>
@@ -94,7 +94,7 @@ fn assignment(
 // Puts the code of a replacement.
 fn replacement(
     alloc: Global,
-    g: &mut Generator,
+    g: &mut Generator<'_>,
     subject: &Expr,
     pattern: &Expr,
     o: &Option<Expr>,
@@ -123,7 +123,7 @@ fn replacement(
 }
 
 /// Puts the code of a body.
-pub fn body(alloc: Global, g: &mut Generator, b: &Body) -> Result<(), AllocError>
+pub fn body(alloc: Global, g: &mut Generator<'_>, b: &Body) -> Result<(), AllocError>
     requires countable { CountableBody (body_of b.now) }
     requires room { size (gen_of g.old) + 9 * weights.of_body (body_of b.now) < 2 ^ 31 }
     ensures emits { OnOk result

@@ -10,7 +10,9 @@ ghost use Rattle.model.specs.Language.Programs.{number_or};
 ghost use Rattle.expr_codegen.specs.Emitting.{Countable, size};
 ghost use Rattle.expr_codegen.specs.Texts.{with_texts};
 ghost use Rattle.expr_codegen.specs.Views.{gen_of};
-ghost use Rattle.codegen.specs.Building.{HasPut, IsNamed, own_entries, own_texts};
+ghost use Rattle.model.specs.declared.image.Image.{Image};
+ghost use Rattle.model.specs.Module.Spelling.{IsImage, spelling};
+ghost use Rattle.codegen.specs.Building.{HasPut, IsDraftOf, IsNamed, own_entries, own_texts};
 ghost use Rattle.codegen.specs.Countable.{CountableStmt, Fits};
 ghost use Rattle.codegen.specs.Labels.{AreNames, but_end, name_of};
 ghost use Rattle.codegen.specs.Laying.{Laid, left};
@@ -18,21 +20,23 @@ ghost use Rattle.codegen.specs.Layout as layout;
 
 use crate::labels::{Labels, entry_after, labels_of, own_label};
 use crate::statements::statement;
-use expr_codegen::{Generator, value};
-use model::{Image, Instr, Label, Level, Seq, Stmt};
+use bumpalo::Bump;
+use expr_codegen::{Generator, Strings, value};
+use model::{Instr, Label, Level, PatInstr, Seq, Stmt};
+use module_format::{ImageParts, write_parts};
 use std::alloc::{AllocError, Global};
 
 /// An image that is made statement by statement.
-pub struct ImageBuilder<'a> {
-    labels: Labels<'a>,
-    generator: Generator,
+pub struct ImageBuilder<'n, 'a> {
+    labels: Labels<'n>,
+    generator: Generator<'a>,
     /// Where the statements so far begin.
     offsets: Vec<u32>,
     /// The number of the first statement to run, once END is put.
     entry: Option<u32>,
 }
 
-impl<'a> Drop for ImageBuilder<'a> {
+impl<'n, 'a> Drop for ImageBuilder<'n, 'a> {
     fn drop(self) {
         let ImageBuilder {
             labels: _,
@@ -44,7 +48,7 @@ impl<'a> Drop for ImageBuilder<'a> {
 }
 
 // Puts the code of each unevaluated expression; the offsets.
-fn put_expressions(alloc: Global, g: &mut Generator) -> Result<Vec<u32>, AllocError>
+fn put_expressions(alloc: Global, g: &mut Generator<'_>) -> Result<Vec<u32>, AllocError>
     requires countable { AllByRecursion Countable (left (gen_of g.old)) }
     requires room { size (gen_of g.old) < 2 ^ 31 }
     ensures laid { IfOk result (λ os.
@@ -64,8 +68,7 @@ fn put_expressions(alloc: Global, g: &mut Generator) -> Result<Vec<u32>, AllocEr
 
 // Notes the label of a statement as a string, unless it is END, and where the statement is.
 fn put_label(
-    alloc: Global,
-    g: &mut Generator,
+    g: &mut Generator<'_>,
     labels: &mut Vec<Label>,
     name: Option<&[u8]>,
     number: u32,
@@ -76,7 +79,7 @@ fn put_label(
 {
     match own_label(name) {
         Some(label) => {
-            let string = g.string(alloc, label)?;
+            let string = g.string(label)?;
             labels.push(Label {
                 string,
                 statement: number,
@@ -90,7 +93,7 @@ fn put_label(
 // Notes the labels but END as strings, and where their statements are.
 fn put_labels(
     alloc: Global,
-    g: &mut Generator,
+    g: &mut Generator<'_>,
     names: &[Option<&[u8]>],
 ) -> Result<Vec<Label>, AllocError>
     requires few { length names.now < 2 ^ 30 }
@@ -104,7 +107,7 @@ fn put_labels(
     let mut labels = Vec::new(alloc);
     let mut number = 1;
     for name in names {
-        put_label(alloc, g, &mut labels, *name, number)?;
+        put_label(g, &mut labels, *name, number)?;
         number += 1;
     }
     Ok(labels)
@@ -128,16 +131,20 @@ fn next_number(offsets: &[u32]) -> u32
     offsets.len() as u32 + 1
 }
 
-impl<'a> ImageBuilder<'a> {
-    /// No statement is put, of a program whose statements give these labels.
-    pub fn new(alloc: Global, names: &[Option<&'a [u8]>]) -> Result<ImageBuilder<'a>, AllocError>
+impl<'n, 'a> ImageBuilder<'n, 'a> {
+    /// No statement is put, of a program whose statements give these labels. Strings are kept in the arena.
+    pub fn new(
+        alloc: Global,
+        arena: &'a Bump,
+        names: &[Option<&'n [u8]>],
+    ) -> Result<ImageBuilder<'n, 'a>, AllocError>
         requires { length names.now ≤ 16777216 }
         ensures { IfOk result (HasPut (map name_of names.now) []) }
     {
         let labels = labels_of(alloc, names)?;
         Ok(ImageBuilder {
             labels,
-            generator: Generator::new(alloc),
+            generator: Generator::new(alloc, arena),
             offsets: Vec::new(alloc),
             entry: None,
         })
@@ -160,19 +167,19 @@ impl<'a> ImageBuilder<'a> {
         Ok(())
     }
 
-    /// The image of the program, whose statements give these labels and begin at these cards.
+    /// The image of the program, whose statements give these labels and begin at these cards, ready to be written.
     pub fn finish(
         self,
         alloc: Global,
         names: &[Option<&[u8]>],
         cards: Seq<u32>,
-    ) -> Result<Image, AllocError>
+    ) -> Result<Draft<'a>, AllocError>
         requires few { length names.now ≤ 16777216 }
         requires put { (ss : List trees.Stmt) × HasPut (map name_of names.now) ss self × Fits ss }
-        ensures { IfOk result (λ image. (ss : List trees.Stmt)
+        ensures { IfOk result (λ draft. (ss : List trees.Stmt)
             → HasPut (map name_of names.now) ss self.entry
             → Fits ss → AreNames (map name_of names.now) ss
-            → image ≡ layout.generated_image cards ss) }
+            → IsDraftOf (layout.generated_image cards ss) draft) }
     {
         let ImageBuilder {
             labels: _,
@@ -183,17 +190,75 @@ impl<'a> ImageBuilder<'a> {
         let mut g = generator;
         let expressions = put_expressions(alloc, &mut g)?;
         let named = put_labels(alloc, &mut g, names)?;
-        let (code, strings) = g.into_parts(alloc)?;
-        Ok(Image {
-            level: Level::Two,
+        let (code, strings) = g.into_parts();
+        Ok(Draft {
             entry: entry_or_first(entry),
             strings,
-            labels: Seq::from_vec(named),
-            statements: Seq::from_vec(offsets),
+            labels: named,
+            statements: offsets,
             cards,
-            expressions: Seq::from_vec(expressions),
+            expressions,
             patterns: Seq::new(alloc),
             code,
         })
+    }
+}
+
+/// An image that is ready to be written: its code is bytes.
+pub struct Draft<'a> {
+    entry: u32,
+    strings: Strings<'a>,
+    labels: Vec<Label>,
+    statements: Vec<u32>,
+    cards: Seq<u32>,
+    expressions: Vec<u32>,
+    patterns: Seq<Seq<PatInstr>>,
+    code: Vec<u8>,
+}
+
+impl<'a> Drop for Draft<'a> {
+    fn drop(self) {
+        let Draft {
+            entry: _,
+            strings: _,
+            labels: _,
+            statements: _,
+            cards: _,
+            expressions: _,
+            patterns: _,
+            code: _,
+        } = self;
+    }
+}
+
+impl<'a> Draft<'a> {
+    /// The bytes that spell the image.
+    pub fn write(self, alloc: Global) -> Result<Vec<u8>, AllocError>
+        requires { (m : Image) × IsDraftOf m self × IsImage m }
+        ensures { IfOk result (λ bytes. (m : Image) → IsDraftOf m self.entry → bytes.items ≡ spelling m) }
+    {
+        let Draft {
+            entry,
+            strings,
+            labels,
+            statements,
+            cards,
+            expressions,
+            patterns,
+            code,
+        } = self;
+        let strings = strings.into_vec(alloc)?;
+        let parts = ImageParts {
+            level: Level::Two,
+            entry,
+            strings: &strings,
+            labels: &labels,
+            statements: &statements,
+            cards: cards.as_slice(),
+            expressions: &expressions,
+            patterns: patterns.as_slice(),
+            code: &code,
+        };
+        write_parts(alloc, &parts)
     }
 }

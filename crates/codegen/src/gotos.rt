@@ -33,7 +33,7 @@ fn to_label(labels: &Labels<'_>, label: &[u8]) -> Instr
 /// Puts the code that goes to a place.
 pub fn place(
     alloc: Global,
-    g: &mut Generator,
+    g: &mut Generator<'_>,
     labels: &Labels<'_>,
     p: &Place,
 ) -> Result<(), AllocError>
@@ -58,7 +58,7 @@ pub fn place(
 /// Puts the code behind a statement's body, up to where a failed statement goes on.
 pub fn after_success(
     alloc: Global,
-    g: &mut Generator,
+    g: &mut Generator<'_>,
     labels: &Labels<'_>,
     number: u32,
     goto: &Goto,
@@ -86,7 +86,7 @@ pub fn after_success(
 /// Puts the code with which a failed statement goes on.
 pub fn after_failure(
     alloc: Global,
-    g: &mut Generator,
+    g: &mut Generator<'_>,
     labels: &Labels<'_>,
     goto: &Goto,
 ) -> Result<(), AllocError>

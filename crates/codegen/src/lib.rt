@@ -2,12 +2,14 @@
 //!
 //! An `ImageBuilder` takes the statements of a program one by one, once the labels that they give are known.
 //!
-//!     let mut builder = ImageBuilder::new(alloc, &names)?;
+//!     let arena = Bump::new(alloc);
+//!     let mut builder = ImageBuilder::new(alloc, &arena, &names)?;
 //!     builder.put(alloc, &statement)?;
-//!     let image = builder.finish(alloc, &names, cards)?;
+//!     let draft = builder.finish(alloc, &names, cards)?;
+//!     let module = draft.write(alloc)?;
 //!
-//! Promised: exactly the image that the definitions give the program, for the whole language; it is refused by want of
-//! memory alone. It asks that the program's counts fit (`Fits`), as those of each accepted deck do. That such an image
+//! Promised: exactly the image that the definitions give the program, for the whole language, and its one spelling; it
+//! is refused by want of memory alone. It asks that the program's counts fit (`Fits`), as those of each accepted deck do. That such an image
 //! is well-formed and does what the deck means are laws of the definitions, proved in `codegen_laws`.
 #![tactic(auto)]
 
@@ -18,7 +20,7 @@ mod labels;
 mod statements;
 
 pub use bodies::body;
-pub use building::ImageBuilder;
+pub use building::{Draft, ImageBuilder};
 pub use gotos::{after_failure, after_success, place};
 pub use labels::{Labels, labels_of};
 pub use statements::statement;

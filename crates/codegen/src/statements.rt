@@ -20,7 +20,7 @@ use std::alloc::{AllocError, Global};
 // Puts the code of a statement that isn't END.
 fn plain(
     alloc: Global,
-    g: &mut Generator,
+    g: &mut Generator<'_>,
     labels: &Labels<'_>,
     number: u32,
     b: &Body,
@@ -39,21 +39,21 @@ fn plain(
         + 6) (gen_of g.old) (gen_of g.new)) }
     ensures extends { Extends (gen_of g.old) (gen_of g.new) }
 {
-    let begin = g.len();
+    let begin = g.at();
     g.put(Instr::Begin(0))?;
     body(alloc, g, b)?;
     g.put(Instr::Body)?;
     after_success(alloc, g, labels, number, goto)?;
     let failed = g.at();
     after_failure(alloc, g, labels, goto)?;
-    g.change(begin, Instr::Begin(failed));
+    g.set_number(begin, failed);
     Ok(())
 }
 
 /// Puts the code of a statement.
 pub fn statement(
     alloc: Global,
-    g: &mut Generator,
+    g: &mut Generator<'_>,
     labels: &Labels<'_>,
     number: u32,
     s: &Stmt,

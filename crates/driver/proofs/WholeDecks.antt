@@ -6,14 +6,15 @@ use Rattle.model.specs.declared.cards.Statement.{Statement}
 use Rattle.model.specs.declared.causes.DeckFault.{DeckFault}
 use Rattle.model.specs.declared.causes.DeckFault.TheVariants as fault
 use Rattle.model.specs.declared.causes.StmtFault.{StmtFault}
-use Rattle.model.specs.declared.image.Image.{Image}
 use Rattle.model.specs.Deck.Cards as cards
 use Rattle.model.specs.Deck.Faults.{verdict, verdict_of_cards, verdict_of_faults, CardRefused, Refused, Accepted, faults, deck_trees}
 use Rattle.model.specs.Module.Spelling.{spelling}
 use Rattle.model.specs.Deck.Trees.{Stmt}
 use Rattle.parser.specs.Refusals.{IsRefusal}
 use Rattle.codegen.specs.Countable.{Fits}
+use Rattle.codegen.specs.Building.{IsDraftOf}
 use Rattle.codegen.specs.Layout.{generated_image}
+use Rattle.codegen.specs.declared.building.Draft.{Draft}
 use Rattle.codegen_laws.proofs.Images.{are_fit, are_countable, spelt as is_spelt, sound as is_sound, agrees as does_as_meant, in_time as ends_in_time, prints as prints_in_time}
 use Rattle.driver.specs.declared.refusal.Refusal.{Refusal}
 use Rattle.driver.specs.declared.refusal.Refusal.TheVariants as refusal
@@ -40,8 +41,8 @@ card_is deck f e = ap verdict_of_cards e
 pub cards_are : (deck : List ℕ) (statements : List Statement) (cs : List ℕ) → cards.deck deck ≡ Ok statements → cs ≡ map (λ (s : Statement). s.card) statements → cs ≡ cards.first_cards deck
 cards_are deck statements cs e c = c ∙ sym (ap cards.cards_of e)
 
-pub image_is : (deck : List ℕ) (cs : List ℕ) (ss : List Stmt) (image : Image) → image ≡ generated_image cs ss → cs ≡ cards.first_cards deck → image ≡ generated_image (cards.first_cards deck) ss
-image_is deck cs ss image i c = i ∙ ap (λ (xs : List ℕ). generated_image xs ss) c
+pub draft_is : (deck : List ℕ) (cs : List ℕ) (ss : List Stmt) (draft : Draft) → IsDraftOf (generated_image cs ss) draft → cs ≡ cards.first_cards deck → IsDraftOf (generated_image (cards.first_cards deck) ss) draft
+draft_is deck cs ss draft d c = subst (λ (xs : List ℕ). IsDraftOf (generated_image xs ss) draft) c d
 
 -- ---- refusals
 
@@ -59,14 +60,14 @@ of_statements deck statements fault.Memory r e i o = subst (IsRefusalOf deck) (s
 pub fits : (deck : List ℕ) (ss : List Stmt) → verdict deck ≡ Accepted ss → Fits ss
 fits deck ss a = let f = are_fit deck ss a in record { countable = are_countable deck ss a; together = f.together; count = f.count }
 
-pub is_module : (deck bytes : List ℕ) (ss : List Stmt) (image : Image) → verdict deck ≡ Accepted ss → image ≡ generated_image (cards.first_cards deck) ss → bytes ≡ spelling image → IsModuleOf deck bytes
-is_module deck bytes ss image a i s = record {
+pub is_module : (deck bytes : List ℕ) (ss : List Stmt) → verdict deck ≡ Accepted ss → bytes ≡ spelling (generated_image (cards.first_cards deck) ss) → IsModuleOf deck bytes
+is_module deck bytes ss a s = record {
   statements = ss;
   trees = a;
   image = generated_image (cards.first_cards deck) ss;
   generated = refl;
   has_spelling = is_spelt deck ss a;
-  spelt = s ∙ ap spelling i;
+  spelt = s;
   sound = is_sound deck (cards.first_cards deck) ss a;
   agrees = does_as_meant deck (cards.first_cards deck) ss a;
   in_time = ends_in_time deck (cards.first_cards deck) ss a;

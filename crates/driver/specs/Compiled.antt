@@ -12,17 +12,19 @@ use Rattle.model.specs.Module.Spelling.{IsImage, spelling}
 use Rattle.model.specs.Laws.StepBound.{EndsInTime, PrintsInTime}
 use Rattle.model.specs.Deck.Trees.{Stmt}
 use Rattle.model.specs.Module.WellFormed.{IsWellFormed}
+use Rattle.codegen.specs.Building.{IsDraftOf}
 use Rattle.codegen.specs.Layout.{generated_image}
+use Rattle.codegen.specs.declared.building.Draft.{Draft}
 use Rattle.driver.specs.declared.refusal.Refusal.{Refusal}
 use Rattle.driver.specs.declared.refusal.Refusal.TheVariants as refusal
 
 -- ---- decks that are accepted
 
--- the image is that of the deck's statements, with the card where each begins
-pub record IsImageOf (deck : List ℕ) (image : Image) : Type 0 where
+-- what is ready to be written is the image of the deck's statements, with the card where each begins
+pub record IsDraftFor (deck : List ℕ) (draft : Draft) : Type 0 where
   pub statements : List Stmt
   pub trees : verdict deck ≡ Accepted statements
-  pub generated : image ≡ generated_image (first_cards deck) statements
+  pub generated : IsDraftOf (generated_image (first_cards deck) statements) draft
 
 -- the bytes are the module of the deck: they spell its image, of level 2 and with the card where each statement begins.
 -- It is well-formed, and does what the deck's statements mean, and ends and prints in as many steps as the step bound says

@@ -7,13 +7,13 @@ ghost use Rattle.model.specs.Deck.Trees.{Bytes};
 ghost use Rattle.driver.specs.Reading.{Kept};
 ghost use Rattle.model.specs.Deck.Faults.{verdict, Accepted};
 ghost use Rattle.model.specs.Deck.Trees as tree;
-ghost use Rattle.driver.specs.Compiled.{IsImageOf, IsModuleOf, IsRefusalOf, OfCards, OfStatements};
+ghost use Rattle.driver.specs.Compiled.{IsDraftFor, IsModuleOf, IsRefusalOf, OfCards, OfStatements};
 
 use crate::refusal::Refusal;
-use card_reader::read_deck;
-use codegen::ImageBuilder;
-use model::{CardFault, CardRule, DeckFault, Image, Statement, decks_fit, trees_fit};
-use module_format::write_image;
+use bumpalo::Bump;
+use card_reader::{StatementView, view_deck};
+use codegen::{Draft, ImageBuilder};
+use model::{CardFault, CardRule, DeckFault, decks_fit, trees_fit};
 use parser::{Reader, cards_of, labels_of};
 use std::alloc::{AllocError, Global};
 
@@ -43,8 +43,8 @@ impl From<DeckFault> for Refusal {
 fn put_next<'a>(
     alloc: Global,
     reader: &mut Reader<'a>,
-    builder: &mut ImageBuilder<'_>,
-    statement: &'a Statement,
+    builder: &mut ImageBuilder<'_, '_>,
+    statement: &StatementView<'a>,
 ) -> Result<(), AllocError>
     requires { (text : List ℕ) × (names : List (Option Bytes)) × (ss : List Statement) × (i : ℕ)
         × (spec.deck text ≡ Ok ss) × (i < length ss) × (statement.now ≡ get_or ss i statement.now)
@@ -63,23 +63,25 @@ fn put_next<'a>(
 }
 
 // The image of a deck without faults, made statement by statement: the tree of each goes before the next is read.
-fn image_of(alloc: Global, deck: &[u8]) -> Result<Image, Refusal>
-    ensures image { IfOk result (IsImageOf deck.now) }
+// Strings are kept in the arena.
+fn draft_of<'a>(alloc: Global, arena: &'a Bump, deck: &[u8]) -> Result<Draft<'a>, Refusal>
+    ensures draft { IfOk result (IsDraftFor deck.now) }
     ensures refused { IfErr result (IsRefusalOf deck.now) }
 {
     decks_fit();
-    let deck = read_deck(alloc, deck)?;
+    let texts = Bump::new(alloc);
+    let deck = view_deck(alloc, &texts, deck)?;
     let statements = deck.statements.as_slice();
     let labels = labels_of(alloc, statements)?;
-    let mut builder = ImageBuilder::new(alloc, &labels)?;
+    let mut builder = ImageBuilder::new(alloc, arena, &labels)?;
     let mut reader = Reader::new(alloc);
     for statement in statements {
         put_next(alloc, &mut reader, &mut builder, statement)?;
     }
     reader.finish(alloc)?;
     let cards = cards_of(alloc, statements)?;
-    let image = builder.finish(alloc, &labels, cards)?;
-    Ok(image)
+    let draft = builder.finish(alloc, &labels, cards)?;
+    Ok(draft)
 }
 
 /// The module of a deck, or why the deck is refused.
@@ -91,7 +93,8 @@ pub fn compile_deck(alloc: Global, deck: &[u8]) -> Result<Vec<u8>, Refusal>
     // A deck is refused by exactly its faults; want of memory says nothing of the deck.
     ensures refused { IfErr result (IsRefusalOf deck.now) }
 {
-    let image = image_of(alloc, deck)?;
-    let module = write_image(alloc, &image)?;
+    let arena = Bump::new(alloc);
+    let draft = draft_of(alloc, &arena, deck)?;
+    let module = draft.write(alloc)?;
     Ok(module)
 }

@@ -1,5 +1,5 @@
 -- Code of arguments, one after another.
-use Rattle.std.proofs.Common.{◌≡◌, ℕ, zero, suc, ◌+◌, ◌*◌, ◌<◌, ◌≤◌, List, [], ◌∷◌, length, refl, sym, ap, ◌∙◌, subst, arith, drop, get_or, max}
+use Rattle.std.proofs.Common.{◌≡◌, ℕ, zero, suc, ◌+◌, ◌*◌, ◌<◌, ◌≤◌, List, [], ◌∷◌, length, refl, sym, ap, ◌∙◌, subst, arith, drop, get_or}
 use Rattle.std.proofs.lemmas.List.{at_drop_more}
 use Rattle.std.specs.declared.vec.Vec.{Vec}
 use Rattle.std.specs.declared.alloc.Global.{Global}
@@ -9,11 +9,10 @@ use Rattle.model.specs.declared.trees.Expr.TheVariants as e
 use Rattle.model.specs.Deck.Trees as m
 use Rattle.model.specs.Deck.Trees.{Bytes, Arg, Args, More, Absent, Given}
 use Rattle.model.specs.Deck.TreeViews.{expr_of, arg_of, args_of}
-use Rattle.model.specs.Deck.Faults.{count}
 use Rattle.model.specs.Deck.Weights.{of_name, of_arg, of_args}
-use Rattle.model.proofs.Decks.ArgumentLists.{call_is, reference_is, count_is}
-use Rattle.expr_codegen.specs.Code.{Part, nothing, one, ◌>>◌, value, arguments}
-use Rattle.expr_codegen.specs.Emitting.{Gen, Emits, Extends, Countable, AllCountable, size}
+use Rattle.model.proofs.Decks.ArgumentLists.{call_is, reference_is}
+use Rattle.expr_codegen.specs.Code.{Part, one, ◌>>◌, value, arguments}
+use Rattle.expr_codegen.specs.Emitting.{Gen, Emits, Extends, AllCountable, size}
 use Rattle.expr_codegen.proofs.Joins.{both, nothing_put}
 use Rattle.expr_codegen.proofs.Extensions.{extends_same, extends_trans}
 

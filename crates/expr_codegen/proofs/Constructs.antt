@@ -1,5 +1,5 @@
 -- Code of each construct, from that of its parts.
-use Rattle.std.proofs.Common.{◌≡◌, ℕ, zero, suc, ◌+◌, ◌*◌, ◌<◌, ◌≤◌, List, [], ◌∷◌, ◌++◌, length, refl, sym, ap, ◌∙◌, subst, arith, Bool, true, false, drop, append_assoc, Option, Some, None, if◌then◌else◌, length-append, ℤ, ◌⊎◌, inl, inr, Vec, Box, Global}
+use Rattle.std.proofs.Common.{◌≡◌, ℕ, ◌+◌, List, ◌++◌, length, refl, sym, ap, ◌∙◌, subst, arith, Bool, true, false, append_assoc, Option, Some, None, if◌then◌else◌, length-append, ℤ, ◌⊎◌, inl, inr, Vec, Box, Global}
 use Rattle.model.specs.declared.instr.Instr.{Instr}
 use Rattle.model.specs.declared.instr.Instr.TheVariants as op
 use Rattle.model.specs.declared.keys.KeyId.{KeyId}
@@ -8,18 +8,19 @@ use Rattle.model.specs.declared.trees.Binary.{Binary}
 use Rattle.model.specs.declared.trees.Binary.TheVariants as b
 use Rattle.model.specs.Language.Names.{prim_named}
 use Rattle.model.specs.Module.Images.{code_size}
+use Rattle.model.specs.Module.Spelling.{code_bytes}
 use Rattle.model.specs.declared.trees.Expr.{Expr as Tree}
 use Rattle.model.specs.declared.trees.Expr.TheVariants as e
 use Rattle.model.specs.declared.trees.Unary.{Unary}
 use Rattle.model.specs.declared.trees.Unary.TheVariants as u
-use Rattle.model.specs.Deck.Trees.{Bytes, Expr, Args, Apply, Combine}
+use Rattle.model.specs.Deck.Trees.{Bytes, Expr, Apply, Combine}
 use Rattle.model.specs.Deck.TreeViews.{expr_of}
 use Rattle.model.proofs.Module.CodeBytes.{total_append}
-use Rattle.expr_codegen.specs.Code.{Part, nothing, one, with_string, with_key, call, ◌>>◌, handled, value, name, arguments}
+use Rattle.expr_codegen.specs.Code.{Part, nothing, one, with_key, call, ◌>>◌, value, name}
 use Rattle.expr_codegen.specs.Texts.{with_texts}
 use Rattle.expr_codegen.specs.Emitting.{Gen, Emits, Numbered, with_instr}
 use Rattle.expr_codegen.specs.Views.{takes_target, instr_of, wanted, call_of}
-use Rattle.expr_codegen.proofs.Joins.{both, instr, text, nothing_put}
+use Rattle.expr_codegen.proofs.Joins.{instr, text, nothing_put}
 
 -- ---- the same of equal parts
 pub as_part : {p q : Part} {g h : Gen} → Emits p g h → p ≡ q → Emits q g h
@@ -34,7 +35,7 @@ record Same (p q : Part) : Type 0 where
 
 as_same : {g h : Gen} (p q : Part) → Same p q → Emits p g h → Emits q g h
 as_same {g} {h} p q s x = record {
-  code = λ texts l. x.code texts l ∙ ap (λ c. g.code ++ c) (s.code texts (length g.waiting) (code_size g.code));
+  code = λ texts l. x.code texts l ∙ ap (λ c. g.code ++ code_bytes c) (s.code texts (length g.waiting) (length g.code));
   texts = x.texts ∙ ap (λ t. with_texts t g.texts) s.texts;
   waiting = x.waiting ∙ ap (λ w. g.waiting ++ w) s.later;
   taken = x.taken;

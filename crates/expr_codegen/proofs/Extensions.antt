@@ -1,10 +1,11 @@
 -- What was put stands.
-use Rattle.std.proofs.Common.{◌≡◌, ℕ, List, [], ◌∷◌, ◌++◌, length, refl, sym, ap, ◌∙◌, subst, slice_set}
+use Rattle.std.proofs.Common.{◌≡◌, ℕ, List, [], ◌++◌, ◌+◌, length, refl, sym, ap, ◌∙◌, subst, append_assoc, take, drop}
 use Rattle.std.specs.Prelude.{Result, Ok, Err, OnOk, OnErr}
-use Rattle.model.specs.declared.instr.Instr.{Instr}
+use Rattle.std.proofs.Math.Seq.{drop-append-add, take-append-add}
+use Rattle.model.specs.Module.Spelling.{u32}
 use Rattle.model.specs.Deck.Trees.{Bytes}
 use Rattle.expr_codegen.specs.Texts.{with_text}
-use Rattle.expr_codegen.specs.Emitting.{Gen, Extends, Longer, with_changed}
+use Rattle.expr_codegen.specs.Emitting.{Gen, Extends, Longer, overwritten, with_number}
 use Rattle.expr_codegen.proofs.Joins.{nil_right, longer_text, longer_trans}
 
 pub extends_same : (g h : Gen) → h ≡ g → Extends g h
@@ -26,14 +27,16 @@ pub longer_numbered : {T E : Type 0} (r : Result T E) (t : Bytes) (ss ts : List 
 longer_numbered (Ok k) t ss ts put same = subst (Longer ss) (sym put) (longer_text t ss)
 longer_numbered (Err e) t ss ts put same = subst (Longer ss) (sym same) ([], nil_right ss)
 
--- an instruction behind the old ones may change
-set_behind : (a b : List Instr) (i : Instr) → slice_set (a ++ b) (length a) i ≡ a ++ slice_set b 0 i
-set_behind [] b i = refl
-set_behind (x ∷ a) b i = ap (λ l. x ∷ l) (set_behind a b i)
+-- a number behind the old bytes may change
+set_behind : (a b : List ℕ) (k n : ℕ) → overwritten (length a + k) n (a ++ b) ≡ a ++ overwritten k n b
+set_behind a b k n =
+    ap (λ z. z ++ (u32 n ++ drop 4 (drop (length a + k) (a ++ b)))) (take-append-add a b k)
+    ∙ ap (λ z. (a ++ take k b) ++ (u32 n ++ drop 4 z)) (drop-append-add a b k)
+    ∙ append_assoc a (take k b) (u32 n ++ drop 4 (drop k b))
 
-pub extends_changed : {g h k : Gen} (n : ℕ) (i : Instr) → Extends g h → n ≡ length g.code → k ≡ with_changed n i h → Extends g k
-extends_changed {g} {h} {k} n i x at e = subst (Extends g) (sym e) (record {
-  code = (slice_set x.code.0 0 i, ap (λ m. slice_set h.code m i) at ∙ ap (λ c. slice_set c (length g.code) i) x.code.1 ∙ set_behind g.code x.code.0 i);
+pub extends_changed : {g h k : Gen} (at n : ℕ) → Extends g h → at ≡ length g.code → k ≡ with_number at n h → Extends g k
+extends_changed {g} {h} {k} at n x place e = subst (Extends g) (sym e) (record {
+  code = (overwritten 1 n x.code.0, ap (λ m. overwritten (m + 1) n h.code) place ∙ ap (overwritten (length g.code + 1) n) x.code.1 ∙ set_behind g.code x.code.0 1 n);
   texts = x.texts;
   waiting = x.waiting;
   taken = x.taken;

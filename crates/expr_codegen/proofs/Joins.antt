@@ -1,16 +1,20 @@
 -- Parts that were put, joined.
-use Rattle.std.proofs.Common.{◌≡◌, ℕ, zero, suc, ◌+◌, List, [], ◌∷◌, ◌++◌, length, refl, sym, ap, ◌∙◌, subst, append_assoc, arith, Bool, true, false, bytes_eq, if◌then◌else◌, Some, slice_get, slice_set, map, length-append, ◌*◌, ◌≤◌, ◌<◌, drop, nat_lt, slice_index_or, get_or}
+use Rattle.std.proofs.Common.{◌≡◌, ℕ, zero, suc, ◌+◌, List, [], ◌∷◌, ◌++◌, length, refl, sym, ap, ◌∙◌, subst, append_assoc, append-nil, arith, true, false, bytes_eq, if◌then◌else◌, map, length-append, ◌*◌, ◌≤◌, ◌<◌, drop, nat_lt, slice_index_or, get_or}
 use Rattle.std.specs.Prelude.{Result, Ok, Err, OnOk}
+use Rattle.std.proofs.lemmas.Grind.{flat_map-append}
 use Rattle.std.proofs.lemmas.List.{drop-map, drop_more}
+use Rattle.std.proofs.Math.Seq.{drop-append_seam, take-append_seam}
 use Rattle.model.specs.declared.instr.Instr.{Instr}
 use Rattle.model.specs.declared.instr.Instr.TheVariants as op
 use Rattle.model.specs.Deck.Trees.{Bytes, Expr}
-use Rattle.model.specs.Module.Images.{instr_size, code_size}
+use Rattle.model.specs.Module.Images.{code_size, instr_size}
+use Rattle.model.specs.Module.Spelling.{code_bytes, instr as spelt, u32}
 use Rattle.model.specs.Deck.Weights.{of_expr}
-use Rattle.model.proofs.Module.CodeBytes.{total_append}
+use Rattle.model.proofs.Module.CodeBytes.{code_long, instr_long}
+use Rattle.model.proofs.Module.SpeltNumbers.{wide32}
 use Rattle.expr_codegen.specs.Texts.{number_of_text, with_text, with_texts}
 use Rattle.expr_codegen.specs.Code.{Part, nothing, one, with_string, unevaluated, ◌>>◌, handled}
-use Rattle.expr_codegen.specs.Emitting.{Gen, Emits, Longer, Numbered, SameBytes, due, size, with_instr, with_changed, with_waiting}
+use Rattle.expr_codegen.specs.Emitting.{Gen, Emits, Longer, Numbered, due, overwritten, size, with_instr, with_number, with_waiting}
 use Rattle.expr_codegen.proofs.TextPlaces.{place_stays}
 
 -- ---- the result of a last call, returned as it is
@@ -21,14 +25,6 @@ on_ok (Err e) P Q h f = tt
 
 -- ---- lists
 
-pub total_snoc : (a : List Instr) (i : Instr) → code_size (a ++ i ∷ []) ≡ code_size a + instr_size i
-total_snoc a i = let x = total_append a (i ∷ []) in omega (arith, x)
-
-pub total_same : (a : List Instr) (k : ℕ) (i j : Instr) → slice_get a k ≡ Some j → instr_size j ≡ instr_size i → code_size (slice_set a k i) ≡ code_size a
-total_same [] k i j h e = cc
-total_same (x ∷ a) zero i j h e = let z : x ≡ j = cc in let y = ap instr_size z in omega (arith, e, y)
-total_same (x ∷ a) (suc k) i j h e = let y = total_same a k i j h e in omega (arith, y)
-
 pub nil_right : {A : Type 0} (xs : List A) → xs ≡ xs ++ []
 nil_right [] = refl
 nil_right (x ∷ xs) = ap (λ l. x ∷ l) (nil_right xs)
@@ -37,13 +33,19 @@ pub map_snoc : {A B : Type 0} (f : A → B) (xs : List A) (x : A) → map f (xs 
 map_snoc f [] x = refl
 map_snoc f (y ∷ xs) x = ap (λ l. f y ∷ l) (map_snoc f xs x)
 
-set_at : (a b : List Instr) (i j : Instr) → slice_set (a ++ i ∷ b) (length a) j ≡ a ++ j ∷ b
-set_at [] b i j = refl
-set_at (x ∷ a) b i j = ap (λ l. x ∷ l) (set_at a b i j)
+-- a number of 4 bytes behind others gets another value
+number_set : (a rest : List ℕ) (m n : ℕ) → overwritten (length a) n (a ++ (u32 m ++ rest)) ≡ a ++ (u32 n ++ rest)
+number_set a rest m n =
+    let seam : drop (length (u32 m)) (u32 m ++ rest) ≡ rest = drop-append_seam (u32 m) rest in
+    let behind : drop 4 (drop (length a) (a ++ (u32 m ++ rest))) ≡ rest = ap (drop 4) (drop-append_seam a (u32 m ++ rest)) ∙ ap (λ k. drop k (u32 m ++ rest)) (sym (wide32.len m)) ∙ seam in
+    ap (λ z. z ++ (u32 n ++ drop 4 (drop (length a) (a ++ (u32 m ++ rest))))) (take-append_seam a (u32 m ++ rest)) ∙ ap (λ z. a ++ (u32 n ++ z)) behind
 
-get_at : (a : List Instr) (i : Instr) (b : List Instr) → slice_get (a ++ i ∷ b) (length a) ≡ Some i
-get_at [] i b = refl
-get_at (y ∷ a) i b = get_at a i b
+-- the bytes of instructions
+pub bytes_append : (xs ys : List Instr) → code_bytes (xs ++ ys) ≡ code_bytes xs ++ code_bytes ys
+bytes_append xs ys = flat_map-append spelt xs ys
+
+pub bytes_behind : (bytes : List ℕ) (is : List Instr) → length (bytes ++ code_bytes is) ≡ length bytes + code_size is
+bytes_behind bytes is = length-append bytes (code_bytes is) ∙ ap (λ n. length bytes + n) (code_long is)
 
 pub drop_join : {A : Type 0} (n : ℕ) (xs ys : List A) → n ≤ length xs → drop n (xs ++ ys) ≡ drop n xs ++ ys
 drop_join zero xs ys h = refl
@@ -102,22 +104,29 @@ unfolding ◌>>◌
 both {a} {b} {g} {h} {k} x y = record {
   code = λ texts l.
       let l1 : Longer h.texts texts = longer_trans h.texts k.texts texts (subst (λ t. Longer h.texts t) (sym y.texts) (longer_texts b.texts h.texts)) l in
-      let first : List Instr = a.code texts (length g.waiting) (code_size g.code) in
+      let first : List Instr = a.code texts (length g.waiting) (length g.code) in
+      let more : List Instr = b.code texts (length g.waiting + length a.later) (length g.code + code_size first) in
       let waits : length h.waiting ≡ length g.waiting + length a.later = ap length x.waiting ∙ length-append g.waiting a.later in
-      let at : code_size h.code ≡ code_size g.code + code_size first = ap code_size (x.code texts l1) ∙ total_append g.code first in
-      y.code texts l ∙ ap (λ c. c ++ b.code texts (length h.waiting) (code_size h.code)) (x.code texts l1)
-      ∙ ap (λ n. (g.code ++ first) ++ b.code texts n (code_size h.code)) waits
-      ∙ ap (λ o. (g.code ++ first) ++ b.code texts (length g.waiting + length a.later) o) at
-      ∙ append_assoc g.code first (b.code texts (length g.waiting + length a.later) (code_size g.code + code_size first));
+      let at : length h.code ≡ length g.code + code_size first = ap length (x.code texts l1) ∙ bytes_behind g.code first in
+      y.code texts l ∙ ap (λ c. c ++ code_bytes (b.code texts (length h.waiting) (length h.code))) (x.code texts l1)
+      ∙ ap (λ n. (g.code ++ code_bytes first) ++ code_bytes (b.code texts n (length h.code))) waits
+      ∙ ap (λ o. (g.code ++ code_bytes first) ++ code_bytes (b.code texts (length g.waiting + length a.later) o)) at
+      ∙ append_assoc g.code (code_bytes first) (code_bytes more) ∙ ap (λ c. g.code ++ c) (sym (bytes_append first more));
   texts = y.texts ∙ ap (with_texts b.texts) x.texts ∙ sym (texts_append a.texts b.texts g.texts);
   waiting = y.waiting ∙ ap (λ w. w ++ b.later) x.waiting ∙ append_assoc g.waiting a.later b.later;
   taken = y.taken ∙ x.taken;
 }
 
+pub instr_behind : (bytes : List ℕ) (i : Instr) → length (bytes ++ spelt i) ≡ length bytes + instr_size i
+instr_behind bytes i = length-append bytes (spelt i) ∙ ap (λ n. length bytes + n) (instr_long i)
+
+one_put : (code : List ℕ) (i : Instr) → code ++ spelt i ≡ code ++ code_bytes (i ∷ [])
+one_put code i = ap (λ c. code ++ c) (sym (append-nil (spelt i)))
+
 -- an instruction
 pub instr : (i : Instr) (g h : Gen) → h ≡ with_instr i g → Emits (one i) g h
 unfolding one
-instr i g h e = subst (Emits (one i) g) (sym e) (record { code = λ texts l. refl; texts = refl; waiting = nil_right g.waiting; taken = refl })
+instr i g h e = subst (Emits (one i) g) (sym e) (record { code = λ texts l. one_put g.code i; texts = refl; waiting = nil_right g.waiting; taken = refl })
 
 -- an instruction with a string
 pub text : (i : ℕ → Instr) (s : Bytes) (k : ℕ) (g h j : Gen) → Numbered s k g h → j ≡ with_instr (i k) h → Emits (with_string i s) g j
@@ -125,7 +134,7 @@ unfolding with_string
 text i s k g h j n e = subst (Emits (with_string i s) g) (sym e) (record {
   code = λ texts l.
       let place : k ≡ number_of_text s texts = n.at ∙ ap (number_of_text s) n.texts ∙ sym (place_stays s g.texts l.0) ∙ ap (λ t. number_of_text s (t ++ l.0)) (sym n.texts) ∙ ap (number_of_text s) (sym l.1) in
-      ap (λ c. c ++ i k ∷ []) n.code ∙ ap (λ m. g.code ++ i m ∷ []) place;
+      ap (λ c. c ++ spelt (i k)) n.code ∙ one_put g.code (i k) ∙ ap (λ m. g.code ++ code_bytes (i m ∷ [])) place;
   texts = n.texts;
   waiting = n.waiting ∙ nil_right g.waiting;
   taken = n.taken;
@@ -134,32 +143,34 @@ text i s k g h j n e = subst (Emits (with_string i s) g) (sym e) (record {
 -- an unevaluated expression
 pub deferred : (x : Expr) (g h j : Gen) → h ≡ with_instr (op.Expr (length g.waiting)) g → j ≡ with_waiting x h → Emits (unevaluated x) g j
 unfolding unevaluated
-deferred x g h j e f = subst (Emits (unevaluated x) g) (sym (f ∙ ap (with_waiting x) e)) (record { code = λ texts l. refl; texts = refl; waiting = refl; taken = refl })
+deferred x g h j e f = subst (Emits (unevaluated x) g) (sym (f ∙ ap (with_waiting x) e)) (record { code = λ texts l. one_put g.code (op.Expr (length g.waiting)); texts = refl; waiting = refl; taken = refl })
 
--- an instruction that is changed once what follows it is put: i is its operand at first, t the offset after the first part
-pub changed : {a b : Part} (i : ℕ → Instr) (n t : ℕ) (g g1 h k k1 : Gen) → ((m : ℕ) → instr_size (i m) ≡ 5) → g1 ≡ with_instr (i n) g → Emits a g1 h → t ≡ code_size h.code → Emits b h k
-    → k1 ≡ with_changed (length g.code) (i t) k → Emits (handled i a b) g k1
+-- an instruction whose number is changed once what follows it is put: n is the number at first, t the offset after the first part
+pub changed : {a b : Part} (i : ℕ → Instr) (c n t : ℕ) (g g1 h k k1 : Gen) → ((m : ℕ) → spelt (i m) ≡ c ∷ u32 m) → ((m : ℕ) → instr_size (i m) ≡ 5) → g1 ≡ with_instr (i n) g → Emits a g1 h → t ≡ length h.code → Emits b h k
+    → k1 ≡ with_number (length g.code) t k → Emits (handled i a b) g k1
 unfolding handled ◌>>◌
-changed {a} {b} i n t g g1 h k k1 five put x at y set = subst (Emits (handled i a b) g) (sym set) (record {
+changed {a} {b} i c n t g g1 h k k1 is five put x at y set = subst (Emits (handled i a b) g) (sym set) (record {
   code = λ texts l.
       let w : length g1.waiting ≡ length g.waiting = ap (λ (z : Gen). length z.waiting) put in
-      let o : code_size g1.code ≡ code_size g.code + 5 = ap (λ (z : Gen). code_size z.code) put ∙ total_snoc g.code (i n) ∙ ap (λ m. code_size g.code + m) (five n) in
+      let o : length g1.code ≡ length g.code + 5 = ap (λ (z : Gen). length z.code) put ∙ instr_behind g.code (i n) ∙ ap (λ m. length g.code + m) (five n) in
       let l1 : Longer h.texts texts = longer_trans h.texts k.texts texts (subst (λ t. Longer h.texts t) (sym y.texts) (longer_texts b.texts h.texts)) l in
-      let first : List Instr = a.code texts (length g.waiting) (code_size g.code + 5) in
-      let whole : List Instr = (a >> b).code texts (length g.waiting) (code_size g.code + 5) in
-      let begins : h.code ≡ g1.code ++ first = x.code texts l1 ∙ ap (λ m. g1.code ++ a.code texts m (code_size g1.code)) w ∙ ap (λ m. g1.code ++ a.code texts (length g.waiting) m) o in
-      let all : k.code ≡ g.code ++ i n ∷ whole = (both x y).code texts l ∙ ap (λ m. g1.code ++ (a >> b).code texts m (code_size g1.code)) w ∙ ap (λ m. g1.code ++ (a >> b).code texts (length g.waiting) m) o
-      ∙ ap (λ (z : Gen). z.code ++ whole) put ∙ append_assoc g.code (i n ∷ []) whole in
-      let there : t ≡ code_size g.code + 5 + code_size first = at ∙ ap code_size begins ∙ total_append g1.code first ∙ ap (λ m. m + code_size first) o in
-      ap (λ c. slice_set c (length g.code) (i t)) all ∙ set_at g.code whole (i n) (i t) ∙ ap (λ m. g.code ++ i m ∷ whole) there;
+      let first : List Instr = a.code texts (length g.waiting) (length g.code + 5) in
+      let whole : List Instr = (a >> b).code texts (length g.waiting) (length g.code + 5) in
+      let begins : h.code ≡ g1.code ++ code_bytes first = x.code texts l1 ∙ ap (λ m. g1.code ++ code_bytes (a.code texts m (length g1.code))) w ∙ ap (λ m. g1.code ++ code_bytes (a.code texts (length g.waiting) m)) o in
+      let all : k.code ≡ (g.code ++ c ∷ []) ++ (u32 n ++ code_bytes whole) = (both x y).code texts l ∙ ap (λ m. g1.code ++ code_bytes ((a >> b).code texts m (length g1.code))) w ∙ ap (λ m. g1.code ++ code_bytes ((a >> b).code texts (length g.waiting) m)) o
+      ∙ ap (λ (z : Gen). z.code ++ code_bytes whole) put ∙ ap (λ z. (g.code ++ z) ++ code_bytes whole) (is n) ∙ append_assoc g.code (c ∷ u32 n) (code_bytes whole) ∙ sym (append_assoc g.code (c ∷ []) (u32 n ++ code_bytes whole)) in
+      let there : t ≡ length g.code + 5 + code_size first = at ∙ ap length begins ∙ bytes_behind g1.code first ∙ ap (λ m. m + code_size first) o in
+      ap (overwritten (length g.code + 1) t) all ∙ ap (λ m. overwritten m t ((g.code ++ c ∷ []) ++ (u32 n ++ code_bytes whole))) (sym (length-append g.code (c ∷ [])))
+      ∙ number_set (g.code ++ c ∷ []) (code_bytes whole) n t ∙ append_assoc g.code (c ∷ []) (u32 t ++ code_bytes whole) ∙ ap (λ z. g.code ++ (z ++ code_bytes whole)) (sym (is t)) ∙ ap (λ m. g.code ++ (spelt (i m) ++ code_bytes whole)) there;
   texts = (both x y).texts ∙ ap (λ (z : Gen). with_texts (a.texts ++ b.texts) z.texts) put;
   waiting = (both x y).waiting ∙ ap (λ (z : Gen). z.waiting ++ (a.later ++ b.later)) put;
   taken = (both x y).taken ∙ ap (λ (z : Gen). z.taken) put;
 })
 
--- and until then it stands where it was put
-pub stays : {p : Part} (i j : Instr) (n : ℕ) (g g1 h : Gen) → n ≡ length g.code → g1 ≡ with_instr i g → Emits p g1 h → instr_size i ≡ instr_size j → SameBytes h.code n j
-stays {p} i j n g g1 h place put x e =
-    let more : List Instr = p.code h.texts (length g1.waiting) (code_size g1.code) in
-    let code : h.code ≡ g.code ++ i ∷ more = x.code h.texts ([], nil_right h.texts) ∙ ap (λ (z : Gen). z.code ++ more) put ∙ append_assoc g.code (i ∷ []) more in
-    (i, subst (λ c. slice_get c n ≡ Some i) (sym code) (subst (λ n. slice_get (g.code ++ i ∷ more) n ≡ Some i) (sym place) (get_at g.code i more)), e)
+-- and until then its bytes are there
+pub stays : {p : Part} (i : Instr) (at : ℕ) (g g1 h : Gen) → at ≡ length g.code → g1 ≡ with_instr i g → Emits p g1 h → instr_size i ≡ 5 → at + 5 ≤ length h.code
+stays {p} i at g g1 h place put x five =
+    let more : List Instr = p.code h.texts (length g1.waiting) (length g1.code) in
+    let all : length h.code ≡ length g1.code + code_size more = ap length (x.code h.texts ([], nil_right h.texts)) ∙ bytes_behind g1.code more in
+    let o : length g1.code ≡ length g.code + instr_size i = ap (λ (z : Gen). length z.code) put ∙ instr_behind g.code i in
+    omega (arith, place, all, o, five)

@@ -1,30 +1,29 @@
 -- The table of strings puts and finds texts as the definitions do.
-use Rattle.std.proofs.Common.{◌≡◌, ℕ, suc, List, [], ◌∷◌, ◌++◌, map, Bool, true, false, not, refl, ap, nat_eq, bytes_eq, if◌then◌else◌, ◌||◌, ◌≤◌, ◌+◌, ◌*◌, append_assoc, length, arith, slice_get, Some, rules, sym, ◌∙◌, ◌<◌, nat_lt, cond, None}
+use Rattle.std.proofs.Common.{◌≡◌, ℕ, suc, List, [], ◌∷◌, ◌++◌, map, Bool, true, false, not, refl, ap, nat_eq, bytes_eq, if◌then◌else◌, ◌||◌, ◌≤◌, ◌+◌, length, arith, Some, rules, sym, ◌∙◌, ◌<◌, nat_lt, cond, None}
 use Rattle.std.specs.Cmp.Lexicographic.{pointwise}
 use Rattle.std.proofs.lemmas.List.{length-map}
 use Rattle.std.specs.Prelude.{position}
-use Rattle.std.specs.List.{list_any, position_or_len, prefix_len}
-use Rattle.std.specs.declared.vec.Vec.{Vec}
-use Rattle.std.specs.declared.alloc.Global.{Global}
+use Rattle.std.specs.List.{list_any, position_or_len}
+use Rattle.std.specs.Borrow.{Bor}
 use Rattle.indexmap.specs.IndexSet.{insert_key}
 use Rattle.expr_codegen.specs.Texts.{number_of_text, with_text}
 
 abbrev pub Text : Type 0
-Text = Vec ℕ Global
+Text = Bor (List ℕ)
 
 abbrev pub items : Text → List ℕ
-items v = v.items
+items v = v.now
 
 abbrev pub same : Text → Text → Bool
-same x y = pointwise nat_eq x.items y.items
+same x y = pointwise nat_eq x.now y.now
 
-pub put_key : (v : Text) (ks : List Text) → map items (insert_key same ks v) ≡ with_text v.items (map items ks)
+pub put_key : (v : Text) (ks : List Text) → map items (insert_key same ks v) ≡ with_text v.now (map items ks)
 put_key v [] = refl
-put_key v (x ∷ ks) = elim (same v x) as (λ b. map items (if b || list_any (same v) ks then x ∷ ks else (x ∷ ks) ++ v ∷ []) ≡ (if b then x.items ∷ map items ks else x.items ∷ with_text v.items (map items ks))) [
+put_key v (x ∷ ks) = elim (same v x) as (λ b. map items (if b || list_any (same v) ks then x ∷ ks else (x ∷ ks) ++ v ∷ []) ≡ (if b then x.now ∷ map items ks else x.now ∷ with_text v.now (map items ks))) [
   | true ↦ refl
-  | false ↦ elim (list_any (same v) ks) as (λ b. map items (if b then ks else ks ++ v ∷ []) ≡ with_text v.items (map items ks) → map items (if b then x ∷ ks else (x ∷ ks) ++ v ∷ []) ≡ x.items ∷ with_text v.items (map items ks)) [
-    | true ↦ λ e. ap (λ l. x.items ∷ l) e
-    | false ↦ λ e. ap (λ l. x.items ∷ l) e
+  | false ↦ elim (list_any (same v) ks) as (λ b. map items (if b then ks else ks ++ v ∷ []) ≡ with_text v.now (map items ks) → map items (if b then x ∷ ks else (x ∷ ks) ++ v ∷ []) ≡ x.now ∷ with_text v.now (map items ks)) [
+    | true ↦ λ e. ap (λ l. x.now ∷ l) e
+    | false ↦ λ e. ap (λ l. x.now ∷ l) e
   ] (put_key v ks)
 ]
 
@@ -32,9 +31,9 @@ not_then : (b : Bool) (n m : ℕ) → n ≡ m → (if not b then 1 + n else 0) �
 not_then true n m e = refl
 not_then false n m e = let h : 1 + n ≡ suc m = omega (arith, e) in h
 
-pub place_key : (v : Text) (ks : List Text) → position_or_len (same v) ks ≡ number_of_text v.items (map items ks)
-place_key v [] = refl
-place_key v (x ∷ ks) = not_then (same v x) (position_or_len (same v) ks) (number_of_text v.items (map items ks)) (place_key v ks)
+pub place_of : (t : List ℕ) (ks : List Text) → position_or_len (λ v. pointwise nat_eq t v.now) ks ≡ number_of_text t (map items ks)
+place_of t [] = refl
+place_of t (x ∷ ks) = not_then (pointwise nat_eq t x.now) (position_or_len (λ v. pointwise nat_eq t v.now) ks) (number_of_text t (map items ks)) (place_of t ks)
 
 -- the place of a text is the same before and after it is put
 pub place_put : (t : List ℕ) (ts : List (List ℕ)) → number_of_text t (with_text t ts) ≡ number_of_text t ts
@@ -61,10 +60,6 @@ few_more t (s ∷ ss) = elim (bytes_eq t s) as (λ b. length (if b then s ∷ ss
 
 -- ---- a text that is there
 
-place_of : (t : List ℕ) (ks : List Text) → position_or_len (λ v. pointwise nat_eq t v.items) ks ≡ number_of_text t (map items ks)
-place_of t [] = refl
-place_of t (x ∷ ks) = not_then (pointwise nat_eq t x.items) (position_or_len (λ v. pointwise nat_eq t v.items) ks) (number_of_text t (map items ks)) (place_of t ks)
-
 stays_there : (t : List ℕ) (ss : List (List ℕ)) → number_of_text t ss < length ss → with_text t ss ≡ ss
 stays_there t [] h = absurd (omega (arith, h))
 stays_there t (s ∷ ss) h = elim (bytes_eq t s) as (λ b. (if b then 0 else suc (number_of_text t ss)) < length (s ∷ ss) → (if b then s ∷ ss else s ∷ with_text t ss) ≡ s ∷ ss) [
@@ -80,6 +75,6 @@ there_by t ks k p true place less e =
     (stays_there t (map items ks) within, sym k_is ∙ place)
 there_by t ks k p false place less e = absurd (cc)
 
-pub found_there : (t : List ℕ) (ks : List Text) (k : ℕ) → position (λ v. pointwise nat_eq t v.items) ks ≡ Some k → (with_text t (map items ks) ≡ map items ks) × (k ≡ number_of_text t (map items ks))
+pub found_there : (t : List ℕ) (ks : List Text) (k : ℕ) → position (λ v. pointwise nat_eq t v.now) ks ≡ Some k → (with_text t (map items ks) ≡ map items ks) × (k ≡ number_of_text t (map items ks))
 found_there t ks k h =
-    there_by t ks k (position_or_len (λ v. pointwise nat_eq t v.items) ks) (nat_lt (position_or_len (λ v. pointwise nat_eq t v.items) ks) (length ks)) (place_of t ks) refl h
+    there_by t ks k (position_or_len (λ v. pointwise nat_eq t v.now) ks) (nat_lt (position_or_len (λ v. pointwise nat_eq t v.now) ks) (length ks)) (place_of t ks) refl h

@@ -18,7 +18,7 @@ use std::alloc::{AllocError, Global};
 
 /// Puts the code for the value of an expression.
 #[cycle(tree)]
-pub fn value(alloc: Global, g: &mut Generator, e: &Expr) -> Result<(), AllocError>
+pub fn value(alloc: Global, g: &mut Generator<'_>, e: &Expr) -> Result<(), AllocError>
     requires countable { Countable (expr_of e.now) }
     requires room { size (gen_of g.old) + 9 * of_expr (expr_of e.now) < 2 ^ 31 }
     ensures emits { OnOk result (Emits (code.value (expr_of e.now)) (gen_of g.old) (gen_of g.new)) }
@@ -27,9 +27,9 @@ pub fn value(alloc: Global, g: &mut Generator, e: &Expr) -> Result<(), AllocErro
     ensures extends { Extends (gen_of g.old) (gen_of g.new) }
 {
     match e {
-        Expr::Name(x) => fetched(alloc, g, x),
+        Expr::Name(x) => fetched(g, x),
         Expr::Integer(z) => g.put(Instr::Int(*z)),
-        Expr::Literal(s) => literal(alloc, g, s),
+        Expr::Literal(s) => literal(g, s),
         Expr::Keyword(k) => keyword(g, k),
         Expr::Call(f, args) => called(alloc, g, f, args, false),
         Expr::Reference(x, args) => fetched_element(alloc, g, x, args),
@@ -40,7 +40,7 @@ pub fn value(alloc: Global, g: &mut Generator, e: &Expr) -> Result<(), AllocErro
 
 /// Puts the code for the name that an expression gives; what is no target has none.
 #[cycle(tree)]
-pub fn name(alloc: Global, g: &mut Generator, e: &Expr) -> Result<(), AllocError>
+pub fn name(alloc: Global, g: &mut Generator<'_>, e: &Expr) -> Result<(), AllocError>
     requires countable { Countable (expr_of e.now) }
     requires room { size (gen_of g.old) + 9 * of_expr (expr_of e.now) < 2 ^ 31 }
     ensures emits { OnOk result (Emits (code.name (expr_of e.now)) (gen_of g.old) (gen_of g.new)) }
@@ -49,7 +49,7 @@ pub fn name(alloc: Global, g: &mut Generator, e: &Expr) -> Result<(), AllocError
     ensures extends { Extends (gen_of g.old) (gen_of g.new) }
 {
     match e {
-        Expr::Name(x) => variable(alloc, g, x),
+        Expr::Name(x) => variable(g, x),
         Expr::Call(f, args) => called(alloc, g, f, args, true),
         Expr::Reference(x, args) => element(alloc, g, x, args),
         Expr::Unary(op, x) => applied_name(alloc, g, *op, x),
@@ -59,14 +59,14 @@ pub fn name(alloc: Global, g: &mut Generator, e: &Expr) -> Result<(), AllocError
 
 // Puts the code for a variable's value.
 #[inline(never)]
-fn fetched(alloc: Global, g: &mut Generator, x: &[u8]) -> Result<(), AllocError>
+fn fetched(g: &mut Generator<'_>, x: &[u8]) -> Result<(), AllocError>
     requires { size (gen_of g.old) + 7 < 2 ^ 31 }
     ensures emits { OnOk result
         (Emits (views.fetched x.now) (gen_of g.old) (gen_of g.new)) }
     ensures size { OnOk result (AddsAtMost 7 (gen_of g.old) (gen_of g.new)) }
     ensures extends { Extends (gen_of g.old) (gen_of g.new) }
 {
-    variable(alloc, g, x)?;
+    variable(g, x)?;
     g.put(Instr::Fetch)
 }
 
@@ -75,7 +75,7 @@ fn fetched(alloc: Global, g: &mut Generator, x: &[u8]) -> Result<(), AllocError>
 #[inline(never)]
 fn fetched_element(
     alloc: Global,
-    g: &mut Generator,
+    g: &mut Generator<'_>,
     x: &[u8],
     args: &[Argument],
 ) -> Result<(), AllocError>
@@ -96,7 +96,7 @@ fn fetched_element(
 // Puts the code for the name that a unary operator and its operand give.
 #[cycle(tree)]
 #[inline(never)]
-fn applied_name(alloc: Global, g: &mut Generator, op: Unary, x: &Expr) -> Result<(), AllocError>
+fn applied_name(alloc: Global, g: &mut Generator<'_>, op: Unary, x: &Expr) -> Result<(), AllocError>
     requires countable { Countable (expr_of x.now) }
     requires room { size (gen_of g.old) + 9 * of_expr (expr_of x.now) + 9 < 2 ^ 31 }
     ensures emits { OnOk result
@@ -117,7 +117,7 @@ fn applied_name(alloc: Global, g: &mut Generator, op: Unary, x: &Expr) -> Result
 // Puts the code for the value of a unary operator and its operand.
 #[cycle(tree)]
 #[inline(never)]
-fn applied(alloc: Global, g: &mut Generator, op: Unary, x: &Expr) -> Result<(), AllocError>
+fn applied(alloc: Global, g: &mut Generator<'_>, op: Unary, x: &Expr) -> Result<(), AllocError>
     requires countable { Countable (expr_of x.now) }
     requires room { size (gen_of g.old) + 9 * of_expr (expr_of x.now) + 9 < 2 ^ 31 }
     ensures emits { OnOk result
@@ -153,7 +153,7 @@ fn applied(alloc: Global, g: &mut Generator, op: Unary, x: &Expr) -> Result<(), 
 // Puts the code for the value of `$` and its operand.
 #[cycle(tree)]
 #[inline(never)]
-fn indirect(alloc: Global, g: &mut Generator, x: &Expr) -> Result<(), AllocError>
+fn indirect(alloc: Global, g: &mut Generator<'_>, x: &Expr) -> Result<(), AllocError>
     requires countable { Countable (expr_of x.now) }
     requires room { size (gen_of g.old) + 9 * of_expr (expr_of x.now) + 9 < 2 ^ 31 }
     ensures emits { OnOk result
@@ -170,7 +170,7 @@ fn indirect(alloc: Global, g: &mut Generator, x: &Expr) -> Result<(), AllocError
 // Puts the code for the value of `?` and its operand.
 #[cycle(tree)]
 #[inline(never)]
-fn interrogated(alloc: Global, g: &mut Generator, x: &Expr) -> Result<(), AllocError>
+fn interrogated(alloc: Global, g: &mut Generator<'_>, x: &Expr) -> Result<(), AllocError>
     requires countable { Countable (expr_of x.now) }
     requires room { size (gen_of g.old) + 9 * of_expr (expr_of x.now) + 9 < 2 ^ 31 }
     ensures emits { OnOk result
@@ -187,7 +187,7 @@ fn interrogated(alloc: Global, g: &mut Generator, x: &Expr) -> Result<(), AllocE
 // Puts the code for the value of `~` and its operand.
 #[cycle(tree)]
 #[inline(never)]
-fn negated(alloc: Global, g: &mut Generator, x: &Expr) -> Result<(), AllocError>
+fn negated(alloc: Global, g: &mut Generator<'_>, x: &Expr) -> Result<(), AllocError>
     requires countable { Countable (expr_of x.now) }
     requires room { size (gen_of g.old) + 9 * of_expr (expr_of x.now) + 9 < 2 ^ 31 }
     ensures emits { OnOk result
@@ -196,7 +196,7 @@ fn negated(alloc: Global, g: &mut Generator, x: &Expr) -> Result<(), AllocError>
         (AddsAtMost (9 * of_expr (expr_of x.now) + 9) (gen_of g.old) (gen_of g.new)) }
     ensures extends { Extends (gen_of g.old) (gen_of g.new) }
 {
-    let number = g.len();
+    let begin = g.at();
     g.put(Instr::Try(0))?;
     value(alloc, g, x)?;
     g.put(Instr::Drop)?;
@@ -204,7 +204,7 @@ fn negated(alloc: Global, g: &mut Generator, x: &Expr) -> Result<(), AllocError>
     g.put(Instr::Fail)?;
     let target = g.at();
     g.put(Instr::Null)?;
-    g.change(number, Instr::Try(target));
+    g.set_number(begin, target);
     Ok(())
 }
 
@@ -213,7 +213,7 @@ fn negated(alloc: Global, g: &mut Generator, x: &Expr) -> Result<(), AllocError>
 #[inline(never)]
 fn combined(
     alloc: Global,
-    g: &mut Generator,
+    g: &mut Generator<'_>,
     op: Binary,
     x: &Expr,
     y: &Expr,
@@ -238,7 +238,12 @@ fn combined(
 
 // Puts the code for the name or for the value of an expression.
 #[cycle(tree)]
-fn wanted(alloc: Global, g: &mut Generator, wants_name: bool, e: &Expr) -> Result<(), AllocError>
+fn wanted(
+    alloc: Global,
+    g: &mut Generator<'_>,
+    wants_name: bool,
+    e: &Expr,
+) -> Result<(), AllocError>
     requires countable { Countable (expr_of e.now) }
     requires room { size (gen_of g.old) + 9 * of_expr (expr_of e.now) < 2 ^ 31 }
     ensures emits { OnOk result
@@ -259,7 +264,7 @@ fn wanted(alloc: Global, g: &mut Generator, wants_name: bool, e: &Expr) -> Resul
 #[inline(never)]
 fn called(
     alloc: Global,
-    g: &mut Generator,
+    g: &mut Generator<'_>,
     f: &[u8],
     args: &[Argument],
     wants_name: bool,
@@ -275,14 +280,19 @@ fn called(
     ensures extends { Extends (gen_of g.old) (gen_of g.new) }
 {
     arguments(alloc, g, args)?;
-    call(alloc, g, f, args.len(), wants_name)?;
+    call(g, f, args.len(), wants_name)?;
     Ok(())
 }
 
 // Puts the code for the name of a reference.
 #[cycle(tree)]
 #[inline(never)]
-fn element(alloc: Global, g: &mut Generator, x: &[u8], args: &[Argument]) -> Result<(), AllocError>
+fn element(
+    alloc: Global,
+    g: &mut Generator<'_>,
+    x: &[u8],
+    args: &[Argument],
+) -> Result<(), AllocError>
     requires countable { AllCountable (args_of args.now) }
     requires few { length args.now ≤ 65535 }
     requires room { size (gen_of g.old) + 9 * of_args (args_of args.now) + 10 < 2 ^ 31 }
@@ -293,7 +303,7 @@ fn element(alloc: Global, g: &mut Generator, x: &[u8], args: &[Argument]) -> Res
         (AddsAtMost (9 * of_args (args_of args.now) + 10) (gen_of g.old) (gen_of g.new)) }
     ensures extends { Extends (gen_of g.old) (gen_of g.new) }
 {
-    variable(alloc, g, x)?;
+    variable(g, x)?;
     g.put(Instr::Fetch)?;
     arguments(alloc, g, args)?;
     g.put(Instr::Elem(args.len() as u16))?;
@@ -303,7 +313,7 @@ fn element(alloc: Global, g: &mut Generator, x: &[u8], args: &[Argument]) -> Res
 // Puts the code of arguments, one after another.
 #[cycle(tree)]
 #[inline(never)]
-fn arguments(alloc: Global, g: &mut Generator, args: &[Argument]) -> Result<(), AllocError>
+fn arguments(alloc: Global, g: &mut Generator<'_>, args: &[Argument]) -> Result<(), AllocError>
     requires countable { AllCountable (args_of args.now) }
     requires room { size (gen_of g.old) + 9 * of_args (args_of args.now) < 2 ^ 31 }
     ensures emits { OnOk result

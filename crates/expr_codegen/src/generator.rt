@@ -1,7 +1,7 @@
 //! The state of a generator.
 
 ghost use Rattle.std.specs.Prelude.{◌≡◌, ◌<◌, ◌≤◌, ◌+◌, ◌*◌, ◌^◌, [], length, map, option_map, IfOk, OnOk, OnErr};
-ghost use Rattle.model.specs.Module.Images.{instr_size, code_size};
+ghost use Rattle.model.specs.Module.Images.{instr_size};
 ghost use Rattle.model.specs.Deck.TreeViews.{expr_of};
 ghost use Rattle.model.specs.Deck.Weights.{of_expr};
 ghost use Rattle.expr_codegen.specs.Emitting.{AddsAtMost, size};
@@ -9,27 +9,28 @@ ghost use Rattle.model.specs.declared.instr.Instr.{Instr};
 
 use crate::copies::kept_copy;
 use crate::strings::Strings;
-use model::{Bytes, Expr, Instr, Seq};
+use bumpalo::Bump;
+use byteorder::{BigEndian, ByteOrder};
+use code_format::put_instr;
+use model::{Expr, Instr};
 use std::alloc::{AllocError, Global};
 use std::rc::Rc;
 use tree_drops::ExprTree;
 
-/// The code so far and its tables.
-pub struct Generator {
-    code: Vec<Instr>,
-    at: u32,
-    strings: Strings,
+/// The bytes of the code so far and its tables.
+pub struct Generator<'a> {
+    code: Vec<u8>,
+    strings: Strings<'a>,
     waiting: Vec<Rc<ExprTree>>,
     taken: usize,
-    ghost counted: { at ≡ code_size code.items },
+    ghost few: { length code.items < 2 ^ 31 },
     ghost within: { taken ≤ length waiting.items },
 }
 
-impl Drop for Generator {
+impl<'a> Drop for Generator<'a> {
     fn drop(self) {
         let Generator {
             code: _,
-            at: _,
             strings: _,
             waiting: _,
             taken: _,
@@ -37,18 +38,17 @@ impl Drop for Generator {
     }
 }
 
-impl Generator {
+impl<'a> Generator<'a> {
     ghost use Rattle.expr_codegen.specs.Views.{gen_of};
     ghost use Rattle.expr_codegen.specs.Emitting as spec;
 
-    /// No code.
-    pub fn new(alloc: Global) -> Self
+    /// No code. Strings are kept in the arena.
+    pub fn new(alloc: Global, arena: &'a Bump) -> Generator<'a>
         ensures { gen_of result ≡ record { code = []; texts = []; waiting = []; taken = 0 } }
     {
         Generator {
             code: Vec::new(alloc),
-            at: 0,
-            strings: Strings::new(alloc),
+            strings: Strings::new(alloc, arena),
             waiting: Vec::new(alloc),
             taken: 0,
         }
@@ -56,20 +56,13 @@ impl Generator {
 
     /// The offset behind the code so far.
     pub fn at(&self) -> u32
-        ensures { result ≡ code_size (gen_of self.now).code }
-    {
-        self.at
-    }
-
-    /// How many instructions there are so far.
-    pub fn len(&self) -> usize
         ensures { result ≡ length (gen_of self.now).code }
     {
-        self.code.len()
+        self.code.len() as u32
     }
 
     /// Puts an instruction.
-    #[tactic(auto, using(crate::proofs::Joins::total_snoc), unfolding(crate::specs::Emitting::size))]
+    #[tactic(auto, using(crate::proofs::Joins::instr_behind), unfolding(crate::specs::Emitting::size))]
     pub fn put(&mut self, i: Instr) -> Result<(), AllocError>
         requires { size (gen_of self.old) + instr_size i < 2 ^ 31 }
         ensures put { OnOk result (gen_of self.new ≡ spec.with_instr i (gen_of self.old)) }
@@ -78,14 +71,13 @@ impl Generator {
         ensures refused { OnErr result (gen_of self.new ≡ gen_of self.old) }
         ensures extends { spec.Extends (gen_of self.old) (gen_of self.new) }
     {
-        self.code.push(i)?;
-        self.at += i.size();
+        put_instr(&i, &mut self.code)?;
         Ok(())
     }
 
     /// The number of a string.
     #[tactic(auto, unfolding(crate::specs::Emitting::size))]
-    pub fn string(&mut self, alloc: Global, text: &[u8]) -> Result<u32, AllocError>
+    pub fn string(&mut self, text: &[u8]) -> Result<u32, AllocError>
         requires { size (gen_of self.old) < 2 ^ 31 }
         ensures numbered { IfOk result (λ k.
             spec.Numbered text.now k (gen_of self.old) (gen_of self.new)) }
@@ -93,7 +85,7 @@ impl Generator {
         ensures refused { OnErr result (gen_of self.new ≡ gen_of self.old) }
         ensures extends { spec.Extends (gen_of self.old) (gen_of self.new) }
     {
-        self.strings.number(alloc, text)
+        self.strings.number(text)
     }
 
     /// Puts the number of an expression that stays unevaluated, and keeps a copy of it.
@@ -130,29 +122,27 @@ impl Generator {
         Ok(Some(next))
     }
 
-    /// The code, and the strings by number.
-    pub fn into_parts(self, alloc: Global) -> Result<(Seq<Instr>, Seq<Bytes>), AllocError>
-        ensures code { IfOk result (λ parts. parts.0 ≡ (gen_of self).code) }
-        ensures strings { IfOk result (λ parts. parts.1 ≡ (gen_of self).texts) }
+    /// The bytes of the code, and the strings.
+    pub fn into_parts(self) -> (Vec<u8>, Strings<'a>)
+        ensures code { result.0.items ≡ (gen_of self.entry).code }
+        ensures strings { result.1 ≡ (gen_of self.entry).texts }
     {
         let Generator {
             code,
-            at: _,
             strings,
             waiting: _,
             taken: _,
         } = self;
-        let strings = strings.into_seq(alloc)?;
-        Ok((Seq::from_vec(code), strings))
+        (code, strings)
     }
 
-    /// Changes instruction number `n` to one of the same length.
-    #[tactic(auto, using(crate::proofs::Joins::total_same), unfolding(crate::specs::Emitting::size))]
-    pub fn change(&mut self, n: usize, i: Instr)
-        requires { spec.SameBytes (gen_of self.old).code n i }
-        ensures put { gen_of self.new ≡ spec.with_changed n i (gen_of self.old) }
+    /// Changes the number behind the first byte of the instruction at an offset.
+    #[tactic(auto, unfolding(crate::specs::Emitting::size, model::specs::Module::Spelling::u32))]
+    pub fn set_number(&mut self, at: u32, n: u32)
+        requires { at + 5 ≤ length (gen_of self.old).code }
+        ensures put { gen_of self.new ≡ spec.with_number at n (gen_of self.old) }
         ensures size { size (gen_of self.new) ≡ size (gen_of self.old) }
     {
-        self.code[n] = i;
+        BigEndian::write_u32(&mut self.code[at as usize + 1..], n);
     }
 }

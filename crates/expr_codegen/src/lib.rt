@@ -1,11 +1,12 @@
 //! Code of expressions, and what it is put into.
 //!
 //! `value(alloc, &mut generator, &expr)` puts the code of an expression for its value, `name` the code for its name. A
-//! `Generator` has the code so far, the strings by number, and the unevaluated expressions whose code is still to come.
+//! `Generator` has the bytes of the code so far, the strings by number, and the unevaluated expressions whose code is still to come.
 //!
-//!     let mut generator = Generator::new(alloc);
+//!     let arena = Bump::new(alloc);
+//!     let mut generator = Generator::new(alloc, &arena);
 //!     value(alloc, &mut generator, &expr)?;
-//!     let (code, strings) = generator.into_parts(alloc)?;
+//!     let (code, strings) = generator.into_parts();
 //!
 //! Promised: exactly the instructions, strings and unevaluated expressions that the definitions give the expression,
 //! behind those that were there; refused by want of memory alone. Room for them in the limits is asked for.

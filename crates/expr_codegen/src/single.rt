@@ -9,37 +9,37 @@ ghost use Rattle.model.specs.declared.instr.Instr.{Instr};
 
 use crate::generator::Generator;
 use model::{Instr, KeyId, PrimId};
-use std::alloc::{AllocError, Global};
+use std::alloc::AllocError;
 
 /// Puts a variable's name.
 #[inline(never)]
-pub fn variable(alloc: Global, g: &mut Generator, name: &[u8]) -> Result<(), AllocError>
+pub fn variable(g: &mut Generator<'_>, name: &[u8]) -> Result<(), AllocError>
     requires { size (gen_of g.old) + 6 < 2 ^ 31 }
     ensures emits { OnOk result
         (Emits (with_string (λ k. Instr.Var k) name.now) (gen_of g.old) (gen_of g.new)) }
     ensures size { OnOk result (AddsAtMost 6 (gen_of g.old) (gen_of g.new)) }
     ensures extends { Extends (gen_of g.old) (gen_of g.new) }
 {
-    let number = g.string(alloc, name)?;
+    let number = g.string(name)?;
     g.put(Instr::Var(number))
 }
 
 /// Puts a literal.
 #[inline(never)]
-pub fn literal(alloc: Global, g: &mut Generator, text: &[u8]) -> Result<(), AllocError>
+pub fn literal(g: &mut Generator<'_>, text: &[u8]) -> Result<(), AllocError>
     requires { size (gen_of g.old) + 6 < 2 ^ 31 }
     ensures emits { OnOk result
         (Emits (with_string (λ k. Instr.Str k) text.now) (gen_of g.old) (gen_of g.new)) }
     ensures size { OnOk result (AddsAtMost 6 (gen_of g.old) (gen_of g.new)) }
     ensures extends { Extends (gen_of g.old) (gen_of g.new) }
 {
-    let number = g.string(alloc, text)?;
+    let number = g.string(text)?;
     g.put(Instr::Str(number))
 }
 
 /// Puts a keyword's value.
 #[inline(never)]
-pub fn keyword(g: &mut Generator, name: &[u8]) -> Result<(), AllocError>
+pub fn keyword(g: &mut Generator<'_>, name: &[u8]) -> Result<(), AllocError>
     requires { size (gen_of g.old) + 2 < 2 ^ 31 }
     ensures emits { OnOk result
         (Emits (with_key (λ k. Instr.KeyGet k) (key_named name.now)) (gen_of g.old)
@@ -78,8 +78,7 @@ fn own_call(wants_name: bool, name: u32, count: u16) -> Instr
 
 /// Puts the call of a function behind its arguments, for a name or for a value.
 pub fn call(
-    alloc: Global,
-    g: &mut Generator,
+    g: &mut Generator<'_>,
     function: &[u8],
     count: usize,
     wants_name: bool,
@@ -94,7 +93,7 @@ pub fn call(
     match PrimId::named(function) {
         Some(primitive) => g.put(primitive_call(wants_name, primitive, count as u8)),
         None => {
-            let name = g.string(alloc, function)?;
+            let name = g.string(function)?;
             g.put(own_call(wants_name, name, count as u16))
         }
     }

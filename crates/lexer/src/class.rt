@@ -21,6 +21,7 @@ pub(crate) enum Class {
     Other,
 }
 
+#[inline(always)]
 #[tactic(auto, unfolding(model::specs::Deck::Cut::class))]
 pub(crate) fn byte_class(byte: u8) -> Class
     ensures { class_of result ≡ cut.class byte }
@@ -53,12 +54,14 @@ pub(crate) fn byte_class(byte: u8) -> Class
     }
 }
 
+#[inline(always)]
 pub(crate) fn is_space(byte: u8) -> bool
     ensures { result ≡ cut.is_space byte }
 {
     matches!(byte_class(byte), Class::Space)
 }
 
+#[inline(always)]
 pub(crate) fn is_word(byte: u8) -> bool
     ensures { result ≡ cut.is_word byte }
 {
@@ -68,6 +71,7 @@ pub(crate) fn is_word(byte: u8) -> bool
     )
 }
 
+#[inline(always)]
 pub(crate) fn is_digit(byte: u8) -> bool
     ensures { result ≡ cut.is_digit byte }
 {

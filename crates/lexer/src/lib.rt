@@ -11,7 +11,7 @@
 //! (`Lexed`).
 #![tactic(auto)]
 
-ghost use Rattle.std.specs.Prelude.{◌≡◌, ◌≢◌, ◌≤◌, length, option_map, IfOk, IfErr, OnOk, None, Some};
+ghost use Rattle.std.specs.Prelude.{◌≡◌, ◌≢◌, ◌≤◌, [], length, option_map, IfOk, IfErr, OnOk, None, Some};
 ghost use Rattle.model.specs.declared.causes.Cause.TheVariants as cause;
 ghost use Rattle.model.specs.Deck.Cut.{Cut, least_lexical};
 ghost use Rattle.model.specs.Deck.Lexed.{Lexed};
@@ -28,13 +28,24 @@ use crate::scan::{Scanned, scan};
 use model::{Cause, Token, TokenKind};
 use std::alloc::Global;
 
+// No tokens, and room for those of a text that has one in two bytes.
+fn no_tokens<'a>(alloc: Global, text: &'a [u8]) -> Result<Vec<Token<'a>>, Cause>
+    ensures none { IfOk result (λ tokens. tokens.items ≡ []) }
+    ensures cause { IfErr result (λ c. c ≡ cause.Memory) }
+{
+    match Vec::with_capacity(alloc, text.len() / 2 + 1) {
+        Ok(tokens) => Ok(tokens),
+        Err(_) => Err(Cause::Memory),
+    }
+}
+
 // The tokens of the text, and what they break of L3 to L5.
 fn cut_text<'a>(alloc: Global, text: &'a [u8]) -> Result<(Vec<Token<'a>>, Limits), Cause>
     ensures tokens { IfOk result (λ p. AreTokens text.now p.0.items p.1) }
     ensures cause { IfErr result (λ c.
         c ≢ cause.Memory → least_lexical (pieces text.now) ≡ Some c) }
 {
-    let mut tokens = Vec::new(alloc);
+    let mut tokens = no_tokens(alloc, text)?;
     let mut limits = Limits::new();
     let mut start = 0;
     while let Some(found) = scan(&text[start..]) {

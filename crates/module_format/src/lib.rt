@@ -1,8 +1,8 @@
 //! Modules as bytes: the one spelling of an image, and the image that bytes spell.
 //!
-//! `write_image(alloc, &image)` gives the bytes, `read_image(alloc, bytes)` the image or the first fault and its
-//! offset; `view_image` the same without a copy of strings and code; `read_image_v1` and `view_image_v1` read what was
-//! written in version 1 of the format.
+//! `write_image(alloc, &image)` gives the bytes, `write_parts` those of an image whose code is bytes already;
+//! `read_image(alloc, bytes)` gives the image or the first fault and its offset; `view_image` the same without a copy of
+//! strings and code; `read_image_v1` and `view_image_v1` read what was written in version 1 of the format.
 //!
 //!     let bytes = write_image(alloc, &image)?;
 //!     let same = read_image(alloc, &bytes)?;
@@ -25,4 +25,4 @@ mod writing;
 pub use instrs::Instrs;
 pub use reading::{read_image, read_image_v1, view_image, view_image_v1};
 pub use view::ImageView;
-pub use writing::write_image;
+pub use writing::{ImageParts, write_image, write_parts};

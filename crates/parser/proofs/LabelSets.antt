@@ -1,5 +1,5 @@
 -- Sets of labels, and what rules ask of them.
-use Rattle.std.proofs.Common.{◌≡◌, ◌∙◌, refl, sym, ap, ap₂, ◌||◌, ◌++◌, Bool, true, false, not, List, [], ◌∷◌, map, nat_eq, if◌then◌else◌, Some, None, Bor}
+use Rattle.std.proofs.Common.{◌≡◌, ◌∙◌, refl, sym, ap, ◌||◌, ◌++◌, Bool, true, false, List, [], ◌∷◌, map, nat_eq, if◌then◌else◌, Bor}
 use Rattle.std.specs.Str.{bytes_eq}
 use Rattle.std.specs.List.{list_any}
 use Rattle.std.specs.Cmp.Lexicographic.{pointwise}

@@ -1,16 +1,14 @@
 -- The label of a statement with a tree is the name that its text begins with.
-use Rattle.std.proofs.Common.{◌≡◌, ◌∙◌, refl, sym, ap, ◌++◌, Bool, true, false, List, [], ◌∷◌, Option, Some, None, map}
-use Rattle.std.specs.Prelude.{option_to_list, Ok, codes, ◌⊎◌, if◌then◌else◌, ◌||◌}
+use Rattle.std.proofs.Common.{◌≡◌, ◌∙◌, refl, sym, ap, ◌++◌, Bool, true, false, List, [], ◌∷◌, Option, Some, None}
+use Rattle.std.specs.Prelude.{option_to_list, Ok, if◌then◌else◌}
 use Rattle.model.specs.declared.causes.Cause.TheVariants as cause
 use Rattle.model.specs.declared.tokens.TokenKind.TheVariants as kind
-use Rattle.model.specs.Deck.Cut.{Piece, Token, Stray, Unclosed, has, is_stray, is_unclosed, least_lexical, toks_of}
+use Rattle.model.specs.Deck.Cut.{Piece, Token, Stray, Unclosed, has, is_stray, least_lexical, toks_of}
 use Rattle.model.specs.Deck.Faults.{label_given, labels_of_read, read}
 use Rattle.model.specs.Deck.Grammar.{gap}
-use Rattle.model.specs.Deck.ParseStatements.{stmt}
 use Rattle.model.specs.Deck.Pieces.{pieces}
-use Rattle.model.specs.Deck.Statements as statements
-use Rattle.model.specs.Deck.Statements.{end_word, IsGoto, next, leaves, IsBody, nothing, evaluate, match, assign, replace, IsLabel, unlabelled, labelled, Tree, plain, end}
-use Rattle.model.specs.Deck.Tokens.{Tok, Blank, Word, Digits, Quoted, Sign}
+use Rattle.model.specs.Deck.Statements.{IsGoto, next, leaves, IsBody, nothing, evaluate, match, assign, replace, unlabelled, labelled, Tree, plain, end}
+use Rattle.model.specs.Deck.Tokens.{Tok, Word}
 use Rattle.model.specs.Deck.Trees.{Bytes, Goto, Body, Stmt, Plain, End}
 use Rattle.model.specs.Language.Programs.{label_of_stmt}
 use Rattle.model.proofs.Decks.StatementSound.{stmt_sound}

@@ -1,7 +1,6 @@
 -- What is noted of statements is what is wrong with them.
 use Rattle.std.proofs.Common.{◌≡◌, ◌≢◌, ◌+◌, ◌<◌, arith, take, get_or, add-one, ◌∙◌, refl, sym, ap, ap₂, subst, ◌++◌, ℕ, Bool, true, false, not, List, [], ◌∷◌, append_assoc, append-nil, Option, Some, None, if◌then◌else◌}
 use Rattle.std.specs.Prelude.{Result, Ok, Err, OnOk, ◌==◌, length}
-use Rattle.std.specs.declared.alloc.AllocError.{AllocError}
 use Rattle.std.proofs.lemmas.Bool.Decides.{nat_tests}
 use Rattle.std.proofs.Math.Seq.{take-suc}
 use Rattle.model.specs.declared.cards.Statement.{Statement}
@@ -9,7 +8,7 @@ use Rattle.model.specs.declared.causes.Cause.{Cause}
 use Rattle.model.specs.declared.causes.Cause.TheVariants as cause
 use Rattle.model.specs.declared.causes.StmtFault.{StmtFault}
 use Rattle.model.specs.declared.trees.Stmt.{Stmt as Tree}
-use Rattle.model.specs.Deck.Faults.{call_fits, cause_of, entry_given, fault_of, faults, faults_after, is_one_of, is_taken, keyword_known, label_given, labels_given, labels_of_read, read, rule_broken, targets_fit, throughout}
+use Rattle.model.specs.Deck.Faults.{call_fits, cause_of, fault_of, faults, faults_after, is_taken, keyword_known, label_given, labels_given, labels_of_read, read, rule_broken, targets_fit, throughout}
 use Rattle.model.specs.Deck.Trees.{Bytes, Stmt, Plain, End}
 use Rattle.model.specs.Deck.TreeViews.{stmt_of}
 use Rattle.tree_drops.specs.declared.StmtTree.{StmtTree}

@@ -9,8 +9,7 @@
 //!     }
 //!     reader.finish(alloc)?;
 //!
-//! `parse_deck(alloc, &deck)` gives all trees at once, and `labels_of(alloc, &deck)` the labels that the statements of a
-//! deck without faults give, before any is read.
+//! `labels_of(alloc, statements)` gives the labels that the statements of a deck without faults give, before any is read.
 //!
 //! Promised: the trees exactly where the definitions accept the deck; else all faulty statements in order, each with
 //! its least cause, L1 to L5 or P1 to P6. Want of memory is an answer of its own.

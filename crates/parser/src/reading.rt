@@ -11,8 +11,9 @@ ghost use Rattle.parser.specs.Refusals.{IsRefusal};
 
 use crate::labels::Labels;
 use crate::statements::rule_broken;
+use card_reader::StatementView;
 use lexer::{first_name, lex};
-use model::{Cause, DeckFault, Seq, Statement, Stmt, StmtFault};
+use model::{Cause, DeckFault, Seq, Stmt, StmtFault};
 use std::alloc::{AllocError, Global};
 use stmt_parser::parse_statement;
 use tree_drops::StmtTree;
@@ -168,7 +169,7 @@ impl<'a> Reader<'a> {
     fn judge(
         &mut self,
         alloc: Global,
-        statement: &'a Statement,
+        statement: &StatementView<'a>,
         tree: StmtTree,
     ) -> Result<Option<StmtTree>, AllocError>
         requires { spec.read statement.now.text ≡ Ok (stmt_of tree.statement) }
@@ -177,9 +178,8 @@ impl<'a> Reader<'a> {
         ensures given { IfOk result (IsGiven statement.now self.old) }
     {
         let cause = rule_broken(&tree.statement, &self.labels);
-        self.labels
-            .insert_given(first_name(statement.text.as_slice()))?;
-        let number = statement.number;
+        self.labels.insert_given(first_name(statement.text()))?;
+        let number = statement.number();
         match cause {
             Some(cause) => {
                 self.noted.push(Noted::Faulty(StmtFault { number, cause }))?;
@@ -196,17 +196,17 @@ impl<'a> Reader<'a> {
     pub fn read(
         &mut self,
         alloc: Global,
-        statement: &'a Statement,
+        statement: &StatementView<'a>,
     ) -> Result<Option<StmtTree>, AllocError>
         ensures read { OnOk result ((ss : List Statement) → HasRead ss self.old
             → HasRead (ss ++ statement.now ∷ []) self.new) }
         ensures given { IfOk result (IsGiven statement.now self.old) }
     {
-        let found = tree_or_cause(alloc, statement.text.as_slice())?;
+        let found = tree_or_cause(alloc, statement.text())?;
         match found {
             Ok(tree) => self.judge(alloc, statement, StmtTree::new(alloc, tree)),
             Err(cause) => {
-                let number = statement.number;
+                let number = statement.number();
                 self.noted.push(Noted::Faulty(StmtFault { number, cause }))?;
                 Ok(None)
             }

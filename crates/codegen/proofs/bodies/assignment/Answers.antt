@@ -1,4 +1,4 @@
-use Rattle.std.proofs.Common.{◌≡◌, ◌∙◌, sym, ap, option_map}
+use Rattle.std.proofs.Common.{◌∙◌, sym, ap, option_map}
 use Rattle.model.specs.declared.instr.Instr.TheVariants as op
 use Rattle.model.specs.Deck.TreeViews.{expr_of, object_of}
 use Rattle.expr_codegen.proofs.Joins.{both, instr, on_ok}

@@ -1,4 +1,4 @@
-use Rattle.std.proofs.Common.{◌≡◌, refl, sym, ◌∙◌}
+use Rattle.std.proofs.Common.{refl, sym, ◌∙◌}
 use Rattle.model.specs.declared.instr.Instr.TheVariants as op
 use Rattle.expr_codegen.proofs.Constructs.{key_put, no_key}
 use Rattle.codegen.proofs.bodies.key_set.Goals as goal

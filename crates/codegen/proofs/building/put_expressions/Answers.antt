@@ -1,4 +1,4 @@
-use Rattle.std.proofs.Common.{◌≡◌, ◌<◌, ◌≤◌, ◌+◌, ◌*◌, ◌^◌, ◌∷◌, sym, ap, subst, arith, option_map, ℕ, Some}
+use Rattle.std.proofs.Common.{◌<◌, sym, ap, subst, arith, option_map, Some}
 use Rattle.std.specs.List.{AllByRecursion}
 use Rattle.model.specs.Deck.TreeViews.{expr_of}
 use Rattle.model.specs.Deck.Weights as weights

@@ -1,4 +1,4 @@
-use Rattle.std.proofs.Common.{◌≡◌, sym, ap}
+use Rattle.std.proofs.Common.{sym, ap}
 use Rattle.model.specs.Deck.TreeViews.{goto_of}
 use Rattle.expr_codegen.proofs.Joins.{nothing_put}
 use Rattle.expr_codegen.proofs.Constructs.{as_part}

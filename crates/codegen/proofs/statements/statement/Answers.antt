@@ -1,4 +1,4 @@
-use Rattle.std.proofs.Common.{◌≡◌, sym, ap}
+use Rattle.std.proofs.Common.{sym, ap}
 use Rattle.model.specs.declared.instr.Instr.TheVariants as op
 use Rattle.model.specs.Deck.TreeViews.{stmt_of}
 use Rattle.expr_codegen.proofs.Joins.{instr, on_ok}

@@ -1,7 +1,7 @@
-use Rattle.std.proofs.Common.{◌≡◌, ◌∙◌, refl, sym, ap, map, take, arith}
+use Rattle.std.proofs.Common.{◌≡◌, ◌∙◌, sym, ap, map, take, arith}
 use Rattle.std.proofs.lemmas.Grind.{common_steps}
 use Rattle.model.specs.Deck.Trees as m
-use Rattle.model.specs.Deck.TreeViews.{expr_of, arg_of, args_of}
+use Rattle.model.specs.Deck.TreeViews.{expr_of, arg_of}
 use Rattle.model.specs.Deck.Weights.{of_expr, of_args}
 use Rattle.expr_codegen.proofs.Arguments.{call_of_slice, reference_of_slice, next_argument, no_heavier}
 use Rattle.expr_codegen.proofs.CopiedParts.{args_same, if_ok}

@@ -1,4 +1,4 @@
-use Rattle.std.proofs.Common.{rules, w64, ◌≡◌, refl, sym, ap, ◌∙◌, subst, arith, true, false, length, drop, [], ◌≤◌, ◌<◌, ◌+◌, ◌*◌, ◌^◌}
+use Rattle.std.proofs.Common.{rules, w64, ◌≡◌, refl, sym, ap, ◌∙◌, subst, arith, true, false, drop, [], ◌≤◌, ◌+◌}
 use Rattle.std.proofs.lemmas.Grind.{common_steps}
 use Rattle.std.proofs.lemmas.Int.{to_z-of_z}
 use Rattle.model.specs.declared.instr.Instr.TheVariants as op
@@ -11,13 +11,13 @@ use Rattle.model.specs.Deck.Weights.{of_expr, of_args}
 use Rattle.model.proofs.Decks.ArgumentLists.{count_is}
 use Rattle.expr_codegen.specs.Code as code
 use Rattle.expr_codegen.specs.Code.{one, with_string, ◌>>◌}
-use Rattle.expr_codegen.specs.Emitting.{Countable, AllCountable, most_counted, with_instr, with_changed}
+use Rattle.expr_codegen.specs.Emitting.{Countable, AllCountable, most_counted, with_instr, with_number}
 use Rattle.expr_codegen.specs.Views as views
 use Rattle.expr_codegen.specs.Views.{gen_of}
 use Rattle.expr_codegen.proofs.Joins.{both, instr, deferred, changed, stays, nothing_put, on_ok}
-use Rattle.expr_codegen.proofs.Constructs.{value_of_tree, name_of_tree, value_of_op, name_of_op, value_as, name_as, as_part, combined_is, last_of_five, no_name, no_target}
+use Rattle.expr_codegen.proofs.Constructs.{value_of_tree, value_of_op, name_of_op, value_as, name_as, as_part, combined_is, last_of_five, no_name, no_target}
 use Rattle.expr_codegen.proofs.Extensions.{extends_same, extends_trans, extends_changed}
-use Rattle.expr_codegen.proofs.Arguments.{loop_begins, loop_step, loop_ends, next_argument, no_heavier, call_of_slice, reference_of_slice, name_weighs}
+use Rattle.expr_codegen.proofs.Arguments.{loop_step, loop_ends, next_argument, no_heavier, call_of_slice, reference_of_slice, name_weighs}
 use Rattle.expr_codegen.proofs.expr.+tree.Goals as goal
 
 -- ---- unary operators
@@ -42,18 +42,18 @@ pub applied-returns-in_ok-value-in-Minus-clause-emits : goal.applied-returns-in_
 applied-returns-in_ok-value-in-Minus-clause-emits t c =
     on_ok _ _ _ c.put-in-Minus.ensures.put (λ put. value_of_op c.args.op u.Minus (expr_of c.args.x.now) c.in-Minus.is (both c.in_ok-value-in-Minus.ensures.emits (instr _ _ _ put)))
 
-pub negated-change-requires : goal.negated-change-requires
-negated-change-requires t c =
-    stays (op.Try 0) (op.Try c.at-target.result) c.len-number.result _ _ _ c.len-number.ensures c.in_ok-put.ensures.put
+pub negated-set_number-requires : goal.negated-set_number-requires
+negated-set_number-requires t c =
+    stays (op.Try 0) c.at-begin.result _ _ _ c.at-begin.ensures c.in_ok-put.ensures.put
     (both c.in_ok-value.ensures.emits (both (instr op.Drop _ _ c.in_ok-put-2.ensures.put) (both (instr op.Untry _ _ c.in_ok-put-3.ensures.put) (both (instr op.Fail _ _ c.in_ok-put-4.ensures.put) (instr op.Null _ _ c.in_ok-put-5.ensures.put)))))
     refl
 
 pub negated-returns-clause-emits : goal.negated-returns-clause-emits
 negated-returns-clause-emits t c =
-    changed op.Try 0 c.at-target.result _ _ _ _ _ (λ m. refl) c.in_ok-put.ensures.put
+    changed op.Try 24 0 c.at-target.result _ _ _ _ _ (λ m. refl) (λ m. refl) c.in_ok-put.ensures.put
     (both c.in_ok-value.ensures.emits (both (instr op.Drop _ _ c.in_ok-put-2.ensures.put) (both (instr op.Untry _ _ c.in_ok-put-3.ensures.put) (instr op.Fail _ _ c.in_ok-put-4.ensures.put))))
     c.at-target.ensures (instr op.Null _ _ c.in_ok-put-5.ensures.put)
-    (c.change.ensures.put ∙ ap (λ n. with_changed n (op.Try c.at-target.result) (gen_of c.put-5.new.self)) c.len-number.ensures)
+    (c.set_number.ensures.put ∙ ap (λ at. with_number at c.at-target.result (gen_of c.put-5.new.self)) c.at-begin.ensures)
 
 pub applied_name-returns-in_ok-value-in-Indirect-clause-emits : goal.applied_name-returns-in_ok-value-in-Indirect-clause-emits
 applied_name-returns-in_ok-value-in-Indirect-clause-emits t c =
@@ -245,9 +245,9 @@ negated-returns-in_err-put-5-clause-extends t c =
 
 pub negated-returns-clause-extends : goal.negated-returns-clause-extends
 negated-returns-clause-extends t c =
-    extends_changed c.len-number.result (op.Try c.at-target.result)
+    extends_changed c.at-begin.result c.at-target.result
     (extends_trans c.put.ensures.extends (extends_trans c.value.ensures.extends (extends_trans c.put-2.ensures.extends (extends_trans c.put-3.ensures.extends (extends_trans c.put-4.ensures.extends c.put-5.ensures.extends)))))
-    c.len-number.ensures c.change.ensures.put
+    c.at-begin.ensures c.set_number.ensures.put
 
 pub combined-returns-in_err-wanted-clause-extends : goal.combined-returns-in_err-wanted-clause-extends
 combined-returns-in_err-wanted-clause-extends t c = extends_trans c.value.ensures.extends c.wanted.ensures.extends

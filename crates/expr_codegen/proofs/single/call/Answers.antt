@@ -1,4 +1,4 @@
-use Rattle.std.proofs.Common.{◌≡◌, sym, ap, ◌∙◌}
+use Rattle.std.proofs.Common.{sym, ap, ◌∙◌}
 use Rattle.expr_codegen.specs.Emitting.{with_instr}
 use Rattle.expr_codegen.specs.Views.{gen_of}
 use Rattle.expr_codegen.proofs.Joins.{on_ok}

@@ -1,5 +1,4 @@
-use Rattle.std.proofs.Common.{◌≡◌, refl, sym, ◌∙◌}
-use Rattle.model.specs.declared.instr.Instr.{Instr}
+use Rattle.std.proofs.Common.{refl, sym, ◌∙◌}
 use Rattle.model.specs.declared.instr.Instr.TheVariants as op
 use Rattle.expr_codegen.proofs.Constructs.{key_put, no_key}
 use Rattle.expr_codegen.proofs.single.keyword.Goals as goal

@@ -11,7 +11,7 @@ returns-in_ok-close_piece-clause-read c = λ p e h.
     let asked = requoted c.extend.new.self (record c.extend.new.self { quote = c.args.quote }) (parts p.whole (p.last ++ placed c.args.card c.args.text.now) p.quote) e c.args.quote grown
     (record { statements = refl; piece = refl; card = refl; fault = refl }) refl in
     is_read_end c.is_end_statement-is_end.result _ c.close_piece.new.self _ e asked c.in_ok-close_piece.ensures c.if-is_end.true
-    (c.is_end_statement-is_end.ensures ∙ ap (is_word_first (codes "END")) (c.deref.ensures.value ∙ grown.piece))
+    (c.is_end_statement-is_end.ensures ∙ ap (is_word_first (codes "END")) (c.as_slice.ensures ∙ grown.piece))
 
 pub returns-else-is_end-clause-read : goal.returns-else-is_end-clause-read
 returns-else-is_end-clause-read c = λ p e h.
@@ -19,4 +19,4 @@ returns-else-is_end-clause-read c = λ p e h.
     let asked = requoted c.extend.new.self (record c.extend.new.self { quote = c.args.quote }) (parts p.whole (p.last ++ placed c.args.card c.args.text.now) p.quote) e c.args.quote grown
     (record { statements = refl; piece = refl; card = refl; fault = refl }) refl in
     is_read_on c.is_end_statement-is_end.result _ _ e asked c.if-is_end.false
-    (c.is_end_statement-is_end.ensures ∙ ap (is_word_first (codes "END")) (c.deref.ensures.value ∙ grown.piece))
+    (c.is_end_statement-is_end.ensures ∙ ap (is_word_first (codes "END")) (c.as_slice.ensures ∙ grown.piece))

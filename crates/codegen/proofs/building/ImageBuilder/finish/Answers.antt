@@ -1,5 +1,4 @@
-use Rattle.std.proofs.Common.{map, arith}
-use Rattle.model.specs.declared.image.Level.TheVariants as levels
+use Rattle.std.proofs.Common.{map, refl, arith}
 use Rattle.expr_codegen.specs.Views.{gen_of}
 use Rattle.codegen.specs.Labels.{name_of}
 use Rattle.codegen.proofs.BuiltImages.{countable_left, finished, room_left}
@@ -24,6 +23,6 @@ put_labels-requires-clause-room c =
 
 pub returns : goal.returns
 returns c = λ ss h fits are.
-    finished c.args.cards (map name_of c.args.names.now) ss c.args.self c.in_ok-expressions.expressions.items c.in_ok-named.named.items c.entry_or_first.result _ (gen_of c.put_expressions.new.g) (gen_of c.put_labels.new.g) _ h fits are
-    c.in_ok-expressions.ensures.laid c.in_ok-named.ensures.texts c.in_ok-named.ensures.code c.in_ok-named.ensures.labels c.entry_or_first.ensures c.in_ok-code.ensures.strings
-    (λ j. record { level = levels.Two; entry = c.entry_or_first.result; strings = c.in_ok-code.strings; labels = c.from_vec.ensures j; statements = c.from_vec-2.ensures j; cards = c.args.cards; expressions = c.from_vec-3.ensures j; patterns = c.new.ensures j; code = c.in_ok-code.ensures.code j })
+    finished c.args.cards (map name_of c.args.names.now) ss c.args.self c.in_ok-expressions.expressions.items c.in_ok-named.named.items c.entry_or_first.result (gen_of c.put_expressions.new.g) (gen_of c.put_labels.new.g) _ h fits are
+    c.in_ok-expressions.ensures.laid c.in_ok-named.ensures.texts c.in_ok-named.ensures.code c.in_ok-named.ensures.labels c.entry_or_first.ensures
+    (record { entry = refl; strings = c.into_parts-code.ensures.strings; labels = refl; statements = refl; cards = refl; expressions = refl; patterns = c.new.ensures; code = c.into_parts-code.ensures.code })

@@ -1,4 +1,4 @@
-use Rattle.std.proofs.Common.{◌≡◌, ◌∙◌, sym, ap}
+use Rattle.std.proofs.Common.{◌∙◌, ap}
 use Rattle.codegen.specs.Labels.{number_in}
 use Rattle.codegen.proofs.LabelTables.{find_is}
 use Rattle.codegen.proofs.labels.Labels.find.Goals as goal

@@ -1,4 +1,4 @@
-use Rattle.std.proofs.Common.{◌≡◌, ◌∙◌, ◌∷◌, ◌+◌, refl, sym, ap, drop, map}
+use Rattle.std.proofs.Common.{◌∙◌, ◌∷◌, ◌+◌, refl, sym, ap, drop, map}
 use Rattle.model.specs.Deck.TreeViews.{expr_of}
 use Rattle.expr_codegen.proofs.Joins.{drop_here}
 use Rattle.expr_codegen.proofs.generator.Generator.take.Goals as goal

@@ -4,8 +4,8 @@ use Rattle.std.proofs.lemmas.Result.{err_from_is_err_and}
 use Rattle.codegen.specs.Building.{HasPut}
 use Rattle.codegen.specs.Labels.{name_of}
 use Rattle.driver.proofs.CompiledDecks.{begins, ended, few_labels, few_names, names_are}
-use Rattle.driver.proofs.WholeDecks.{accepted_is, cards_are, fits, image_is, of_cards, of_statements}
-use Rattle.driver.proofs.compiling.image_of.Goals as goal
+use Rattle.driver.proofs.WholeDecks.{accepted_is, cards_are, draft_is, fits, of_cards, of_statements}
+use Rattle.driver.proofs.compiling.draft_of.Goals as goal
 
 pub new-requires : goal.new-requires
 new-requires c =
@@ -56,8 +56,8 @@ finish-requires-2-clause-put c =
     let accepted = accepted_is c.args.deck.now ss e.trees deck none (e.all none) in
     (e.trees, subst (λ ns. HasPut (map name_of ns) e.trees c.loop-statement.builder) (sym c.deref-2.ensures.value) e.has_put, fits c.args.deck.now e.trees accepted)
 
-pub returns-clause-image : goal.returns-clause-image
-returns-clause-image c =
+pub returns-clause-draft : goal.returns-clause-draft
+returns-clause-draft c =
     let ss = c.as_slice-statements.result.now in
     let text = c.args.deck.now in
     let deck = c.in_ok-deck.ensures.statements ∙ ap Ok (sym c.as_slice-statements.ensures) in
@@ -71,5 +71,5 @@ returns-clause-image c =
     record {
       statements = e.trees;
       trees = accepted;
-      generated = image_is text c.in_ok-cards.cards e.trees c.in_ok-image.image (c.in_ok-image.ensures e.trees put (fits text e.trees accepted) (names_are text (map name_of given) ss e.trees deck accepted names)) (cards_are text ss c.in_ok-cards.cards deck c.in_ok-cards.ensures);
+      generated = draft_is text c.in_ok-cards.cards e.trees c.in_ok-draft.draft (c.in_ok-draft.ensures e.trees put (fits text e.trees accepted) (names_are text (map name_of given) ss e.trees deck accepted names)) (cards_are text ss c.in_ok-cards.cards deck c.in_ok-cards.ensures);
     }

@@ -1,6 +1,6 @@
 use Rattle.std.proofs.Common.{◌≡◌, ◌++◌, map}
 use Rattle.expr_codegen.proofs.TextPlaces.{items}
-use Rattle.expr_codegen.proofs.strings.Strings.into_seq.Given as goal
+use Rattle.expr_codegen.proofs.strings.Strings.into_vec.Given as goal
 
 abbrev pub invariant-loop-text : goal.invariant-loop-text
-invariant-loop-text l = l.strings.items ++ map items l.text-iterator ≡ l.fn.self
+invariant-loop-text l = map items l.strings.items ++ map items l.text-iterator ≡ l.fn.self

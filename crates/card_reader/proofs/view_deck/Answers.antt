@@ -1,7 +1,7 @@
 use Rattle.std.proofs.Common.{arith}
 use Rattle.model.specs.Deck.Cards.{cards, ended}
 use Rattle.card_reader.proofs.Answering.{if_ok, if_err, if_fault, if_memory, not_too_long, too_long}
-use Rattle.card_reader.proofs.read_deck.Goals as goal
+use Rattle.card_reader.proofs.view_deck.Goals as goal
 
 pub returns-then-deck-gt-LONGEST_DECK-clause-fault : goal.returns-then-deck-gt-LONGEST_DECK-clause-fault
 returns-then-deck-gt-LONGEST_DECK-clause-fault c = λ _. too_long c.args.deck.now (omega arith)
