@@ -10,11 +10,14 @@ use Rattle.unit_io.specs.Views.{FileView}
 
 pub record FilesView (S : Type 0) : Type 0 where
   pub system : S
-  -- the bytes that are left on standard input
+  -- the bytes that are left on standard input, and of those the first, which were read from the system's stream already
   pub input : Option (List ℕ)
+  pub held : List ℕ
   -- those that were written to standard output, the ones that are kept back last, and these alone
   pub output : Option (List ℕ)
   pub back : List ℕ
+  -- whether the system refused those
+  pub refused : Bool
   -- by number of unit
   pub given : List (Option FileView)
   pub counts : List ℕ

@@ -1,5 +1,5 @@
 -- One reader, and one writer: what is left, and what was written.
-use Rattle.std.specs.Prelude.{◌≡◌, ℕ, List, Option, Some, None, Bool, true, false}
+use Rattle.std.specs.Prelude.{◌≡◌, ◌⊎◌, ℕ, List, [], Option, Some, None, Bool, true, false}
 use Rattle.std.specs.Io.Buffered.{writer_buffer, writer_contents}
 use Rattle.std.specs.Io.KnownBytes.{prepend_known}
 use Rattle.model.specs.Language.Units.{first_of, records_of, rest_of}
@@ -22,6 +22,10 @@ written_by contents w = writer_contents contents w.target
 -- those that it keeps back
 abbrev pub kept_by : {W : Type 0} → LineWriter W → List ℕ
 kept_by w = writer_buffer w.target
+
+-- nothing of what was written is kept back, or the system refused it
+abbrev pub IsHandedOn : (back : List ℕ) → (refused : Bool) → Type 0
+IsHandedOn back refused = (back ≡ []) ⊎ (refused ≡ true)
 
 -- a record was taken: the first of those that the bytes have
 abbrev pub TakesFirst : Option (List ℕ) → Option (List ℕ) → Option (List ℕ) → Type 0

@@ -1,13 +1,13 @@
 //! Units on standard input, standard output and files.
 
 ghost use Rattle.std.specs.Prelude.{◌≡◌, ◌≢◌, ◌≤◌, ◌<◌, ◌∷◌, ◌++◌, [], ℕ, List, Option, Some, None, length};
-ghost use Rattle.std.specs.Prelude.{IfOk, IfErr, OnErr, OnOk, replicate};
+ghost use Rattle.std.specs.Prelude.{IfOk, IfErr, OnErr, OnOk, false, replicate};
 ghost use Rattle.std.specs.Io.KnownBytes.{Appends, Keeps};
-ghost use Rattle.model.specs.Language.Units.{IsCounted};
-ghost use Rattle.unit_io.specs.Counts.{failures_at, Same, SameBut, IfMemory};
+ghost use Rattle.model.specs.Language.Units.{IsCounted, Reads, Writes};
+ghost use Rattle.unit_io.specs.Counts.{failures_at, Same, SameBut, IfMemory, IfNoneFailed};
 ghost use Rattle.unit_io.specs.Files.{back_of, back_on, file_on, left_on, written_on};
-ghost use Rattle.unit_io.specs.Sides.{exposed, kept_by, left_by, TakesFirst, written_by};
-ghost use Rattle.unit_io.specs.Streams.{AppendsBeginning};
+ghost use Rattle.unit_io.specs.Sides.{exposed, IsHandedOn, kept_by, left_by, TakesFirst, written_by};
+ghost use Rattle.unit_io.specs.Streams.{AppendsBeginning, HasNoFeed};
 
 use crate::counts::Counts;
 use crate::given::GivenFile;
@@ -18,7 +18,7 @@ use crate::system::UnitSystem;
 use crate::units::Units;
 use model::UnitFault;
 use std::alloc::{AllocError, Global};
-use std::io;
+use std::io::{self, Read, Write};
 use std::marker::Model;
 use strings::Text;
 
@@ -44,8 +44,10 @@ impl<'a, S: UnitSystem> Model for FileUnits<'a, S> {
     ghost view = { λ f. record {
       system = f.system.now;
       input = left_by S.Input.remaining f.input;
+      held = f.input.held;
       output = written_by S.Output.contents f.output;
       back = kept_by f.output;
+      refused = f.output.refused;
       given = f.given.items;
       counts = f.counts;
       records = f.history.records;
@@ -55,8 +57,10 @@ impl<'a, S: UnitSystem> Model for FileUnits<'a, S> {
         IsKept S.exposes (record {
           system = f.system.now;
           input = left_by S.Input.remaining f.input;
+          held = f.input.held;
           output = written_by S.Output.contents f.output;
           back = kept_by f.output;
+          refused = f.output.refused;
           given = f.given.items;
           counts = f.counts;
           records = f.history.records;
@@ -85,6 +89,7 @@ impl<'a, S: UnitSystem> FileUnits<'a, S> {
         ensures system { IfOk result (λ units. units.system ≡ system.now) }
         ensures input { IfOk result (λ units.
             Keeps (exposed (S.exposes system.now) (S.input_bytes system.now)) units.input) }
+        ensures sound { IfOk result (λ units. units.refused ≡ false) }
         ensures given { IfOk result (λ units. units.given ≡ []) }
         ensures counts { IfOk result (λ units. units.counts ≡ replicate 256 0) }
         ensures records { IfOk result (λ units. units.records ≡ []) }
@@ -113,6 +118,7 @@ impl<'a, S: UnitSystem> FileUnits<'a, S> {
         ensures err { OnErr result (file_on unit self.new.given ≡ file_on unit self.old.given) }
         ensures system { self.new.system ≡ self.old.system }
         ensures input { self.new.input ≡ self.old.input }
+        ensures refused { self.new.refused ≡ self.old.refused }
         ensures counts { self.new.counts ≡ self.old.counts }
         ensures records { self.new.records ≡ [] }
     {
@@ -122,8 +128,9 @@ impl<'a, S: UnitSystem> FileUnits<'a, S> {
 
     /// Writes what was kept back, or reports the unit that could not be written, the first of them.
     pub fn flush(&mut self) -> Result<(), u8>
-        // Nothing is kept back.
+        // Nothing is kept back, and nothing of standard output was refused before.
         ensures all { OnOk result ((unit : ℕ) → back_on unit self.new.given self.new.back ≡ []) }
+        ensures sound { OnOk result ((self.old.refused ≡ false) × (self.new.refused ≡ false)) }
         // On a system that exposes the bytes, those that were written to each unit are those of its records.
         ensures kept { IsKept S.exposes self.new }
         ensures told { told_of S.exposes self.new ≡ told_of S.exposes self.old }
@@ -131,6 +138,8 @@ impl<'a, S: UnitSystem> FileUnits<'a, S> {
             IsCounted UnitFault.WriteFailed (failures_at self.old.counts unit)
             (failures_at self.new.counts unit)) }
         ensures grows { (u : ℕ) → failures_at self.old.counts u ≤ failures_at self.new.counts u }
+        ensures others { IfErr result (λ unit.
+            SameBut unit (failures_at self.old.counts) (failures_at self.new.counts)) }
         ensures same { OnOk result (self.new.counts ≡ self.old.counts) }
     {
         let output = self.output.flush();
@@ -157,7 +166,21 @@ impl<S: UnitSystem> Units for FileUnits<'_, S> {
 
     ghost failures = { λ units. failures_at units.counts };
 
-    fn read_record(&mut self, unit: u8) -> Result<Option<Text>, UnitFault> {
+    fn read_record(&mut self, unit: u8) -> Result<Option<Text>, UnitFault>
+        ensures ok { IfOk result (λ got.
+            Reads unit got (told_of S.exposes self.old) (told_of S.exposes self.new)) }
+        ensures err { OnErr result (told_of S.exposes self.new ≡ told_of S.exposes self.old) }
+        ensures counted { IfErr result (λ fault. IsCounted fault
+            (failures_at self.old.counts unit) (failures_at self.new.counts unit)) }
+        ensures grows { (u : ℕ) → failures_at self.old.counts u ≤ failures_at self.new.counts u }
+        ensures kept { IfNoneFailed result
+            (Same (failures_at self.old.counts) (failures_at self.new.counts)) }
+        ensures others { SameBut unit (failures_at self.old.counts) (failures_at self.new.counts) }
+        // Where more of standard input has to be read from the system's stream, all that was printed was written to the
+        // system's, or the system refused it.
+        ensures handed_on { unit ≡ 5 → file_on unit self.old.given ≡ None → HasNoFeed self.old.held
+            → IsHandedOn self.new.back self.new.refused }
+    {
         match take(&mut self.input, &mut self.output, &mut self.given, unit) {
             Ok(got) => Ok(got),
             Err(fault) => {
@@ -167,7 +190,20 @@ impl<S: UnitSystem> Units for FileUnits<'_, S> {
         }
     }
 
-    fn write_record(&mut self, unit: u8, bytes: &[u8]) -> Result<(), UnitFault> {
+    fn write_record(&mut self, unit: u8, bytes: &[u8]) -> Result<(), UnitFault>
+        ensures ok { OnOk result
+            (Writes unit bytes.now (told_of S.exposes self.old) (told_of S.exposes self.new)) }
+        ensures err { OnErr result (told_of S.exposes self.new ≡ told_of S.exposes self.old) }
+        ensures counted { IfErr result (λ fault. IsCounted fault
+            (failures_at self.old.counts unit) (failures_at self.new.counts unit)) }
+        ensures grows { (u : ℕ) → failures_at self.old.counts u ≤ failures_at self.new.counts u }
+        ensures kept { IfNoneFailed result
+            (Same (failures_at self.old.counts) (failures_at self.new.counts)) }
+        ensures others { SameBut unit (failures_at self.old.counts) (failures_at self.new.counts) }
+        // Once the system refused something of standard output, that takes no more.
+        ensures sound { OnOk result (unit ≡ 6 → file_on unit self.old.given ≡ None
+            → self.old.refused ≡ false) }
+    {
         let failures = self.counts.get(unit);
         if failures > 0 {
             self.counts.add(unit);
@@ -227,7 +263,35 @@ fn place_file<'a, S: UnitSystem>(
     Ok(())
 }
 
-// The first record that is left on a unit. Before standard input is read, what was printed is written.
+// Writes what was printed, unless a whole record of standard input is held.
+fn hand_on<R: Read, W: Write + Drop>(input: &mut LineReader<R>, output: &mut LineWriter<W>)
+    ensures held { input.new.held ≡ input.old.held }
+    ensures source { input.new.source ≡ input.old.source }
+    ensures handed_on { HasNoFeed input.old.held → IsHandedOn (kept_by output.new) output.new.refused }
+    ensures written { Keeps (written_by W.contents output.old) (written_by W.contents output.new) }
+{
+    if !input.is_ready() {
+        // The next write reports a failure.
+        let _ = output.flush();
+    }
+}
+
+// The next record of standard input. No more of the system's stream is read until what was printed was written.
+fn next_input<R: Read, W: Write + Drop>(
+    input: &mut LineReader<R>,
+    output: &LineWriter<W>,
+) -> Result<Option<Text>, UnitFault>
+    requires { HasNoFeed input.old.held → IsHandedOn (kept_by output.now) output.now.refused }
+    ensures ok { IfOk result (λ got.
+        TakesFirst got (left_by R.remaining input.old) (left_by R.remaining input.new)) }
+    ensures err { OnErr result
+        (Keeps (left_by R.remaining input.old) (left_by R.remaining input.new)) }
+{
+    let _ = output;
+    input.next_record()
+}
+
+// The first record that is left on a unit.
 fn take<S: UnitSystem>(
     input: &mut LineReader<S::Input>,
     output: &mut LineWriter<S::Output>,
@@ -246,6 +310,8 @@ fn take<S: UnitSystem>(
     ensures written { (u : ℕ) → Keeps
         (written_on u given.old.items (written_by S.Output.contents output.old))
         (written_on u given.new.items (written_by S.Output.contents output.new)) }
+    ensures handed_on { unit ≡ 5 → file_on unit given.old.items ≡ None → HasNoFeed input.old.held
+        → IsHandedOn (kept_by output.new) output.new.refused }
 {
     let k = unit as usize;
     if k < given.len() {
@@ -256,11 +322,8 @@ fn take<S: UnitSystem>(
     if unit != 5 {
         return Err(UnitFault::NotOpen);
     }
-    if !input.is_ready() {
-        // A failure is reported at the next write.
-        let _ = output.flush();
-    }
-    input.next_record()
+    hand_on(input, output);
+    next_input(input, output)
 }
 
 // Writes a record to a unit.
@@ -286,6 +349,8 @@ fn put<S: UnitSystem>(
         ≡ written_on u given.old.items (written_by S.Output.contents output.old) }
     ensures left { (u : ℕ) (input : Option (List ℕ))
         → left_on u given.new.items input ≡ left_on u given.old.items input }
+    ensures sound { OnOk result (unit ≡ 6 → file_on unit given.old.items ≡ None
+        → output.old.refused ≡ false) }
 {
     let k = unit as usize;
     if k < given.len() {
