@@ -288,6 +288,7 @@ class Count(typing.NamedTuple):
 HEADLINES = (
     ("driver", "run_deck", "meaning"),
     ("driver", "run_deck_on_files", "meaning"),
+    ("driver", "run_deck_on_files", "run"),
     ("driver", "run_deck", "refused"),
     ("driver", "run_deck", "run"),
     ("driver", "run_module", "run"),

@@ -1,6 +1,6 @@
 -- From what units on files expose to their bytes.
 use Rattle.std.proofs.Common.{◌≡◌, ◌∙◌, refl, sym, ap, subst, ℕ, List, [], ◌++◌, Bool, true, false, Option, Some, None, Result, Ok, Err}
-use Rattle.std.specs.Prelude.{IsTrue, OnOk}
+use Rattle.std.specs.Prelude.{IfErr, IsTrue, OnOk}
 use Rattle.std.proofs.lemmas.List.{append-nil}
 use Rattle.model.specs.declared.run.Ending.{Ending}
 use Rattle.model.specs.declared.run.Status.{Status}
@@ -11,16 +11,17 @@ use Rattle.model.specs.declared.run.UnitFault.TheVariants as fault
 use Rattle.model.specs.Deck.Trees.{Stmt}
 use Rattle.model.specs.Language.Io.{Io}
 use Rattle.model.specs.Language.Told.{IfTold}
+use Rattle.model.specs.Language.Units.{IsCounted}
 use Rattle.model.specs.Laws.Agreement.{Inputs, Records, Seen}
 use Rattle.statement_machine.proofs.Seeing.{if_ran}
 use Rattle.statement_machine.specs.Stopped.{IfRan, ending_of, stop_of_run}
-use Rattle.unit_io.specs.Counts.{Same, failures_at}
-use Rattle.unit_io.specs.Files.{FilesView, IsKept, io_of, told_if, told_of}
+use Rattle.unit_io.specs.Counts.{Same, SameBut, failures_at}
+use Rattle.unit_io.specs.Files.{FilesView, IsKept, back_on, io_of, told_if, told_of}
 use Rattle.unit_io.specs.Service.{KeepsCounts}
 use Rattle.unit_io.proofs.Serving.{told_on}
 use Rattle.driver.specs.Cards.{card_told}
 use Rattle.driver.specs.Finished.{IsFinished}
-use Rattle.driver.specs.OnFiles.{HasBytes, OfBytes, WritesMeaning}
+use Rattle.driver.specs.OnFiles.{HasBytes, HasCounted, IsRunOnFiles, OfBytes, WritesMeaning}
 use Rattle.driver.specs.Whole.{HasPrinted, HasReached, IsMeant, OfRun, RefinesMeaning}
 
 not_true : false ≡ true → ⊥
@@ -99,3 +100,25 @@ card_kept cards status.Running s' (Ok done) c c' is e h = subst (λ (x : Status)
 card_kept cards (status.Ended k) s' (Ok done) c c' is e h = subst (λ (x : Status). IfRan x (c' ≡ card_told cards x)) (sym is) (e ∙ h)
 card_kept cards status.Running s' (Err unit) c c' is e h = subst (λ (x : Status). IfRan x (c' ≡ card_told cards x)) (sym is) tt
 card_kept cards (status.Ended k) s' (Err unit) c c' is e h = subst (λ (x : Status). IfRan x (c' ≡ card_told cards x)) (sym is) tt
+
+-- ---- the run itself, and the write of what its units kept back
+
+counted_out : (written : Result (Unit {0}) ℕ) (a b : List ℕ) → OnOk written (b ≡ a) → IfErr written (λ (u : ℕ). IsCounted fault.WriteFailed (failures_at a u) (failures_at b u))
+    → IfErr written (λ (u : ℕ). SameBut u (failures_at a) (failures_at b)) → HasCounted written a b
+counted_out (Ok done) a b same counted others = same
+counted_out (Err unit) a b same counted others = (counted, others)
+
+pub run_on_files : {S : Type 0} (exposes : S → Bool) (P : Status → Option Io → Option Io → Type 0) (s s' : Status) (written : Result (Unit {0}) ℕ) (before between after : FilesView S)
+    → P s (told_of exposes before) (told_of exposes between) → KeepsCounts (stop_of_run s) (failures_at before.counts) (failures_at between.counts) → IsFinished s written s' → told_of exposes after ≡ told_of exposes between
+    → OnOk written ((unit : ℕ) → back_on unit after.given after.back ≡ []) → OnOk written (after.counts ≡ between.counts)
+    → IfErr written (λ (u : ℕ). IsCounted fault.WriteFailed (failures_at between.counts u) (failures_at after.counts u)) → IfErr written (λ (u : ℕ). SameBut u (failures_at between.counts) (failures_at after.counts))
+    → IsRunOnFiles exposes P s' before after
+run_on_files exposes P s s' written before between after run counts finished told all same counted others = record {
+  ran = s;
+  between = between;
+  run = run;
+  counts = counts;
+  written = written;
+  written_out = record { told = told; all = all; counts = counted_out written between.counts after.counts same counted others };
+  finished = finished;
+}

@@ -4,3 +4,5 @@ pub mod WholeRuns
 pub mod Upgrades
 pub mod CardsTold
 pub mod FileRuns
+pub mod LinesTold
+pub mod Standing

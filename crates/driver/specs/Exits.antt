@@ -1,5 +1,5 @@
 -- The exit status of the program, as a function of what it has to tell.
-use Rattle.std.specs.Prelude.{◌≡◌, ◌⊎◌, ⊤, ℕ, List, [], ◌∷◌, Option, Some, None, Result, Ok, Err}
+use Rattle.std.specs.Prelude.{◌≡◌, ◌⊎◌, ℕ, List, [], ◌∷◌, Option, Some, None}
 use Rattle.model.specs.declared.format.FormatFault.{FormatFault}
 use Rattle.model.specs.declared.format.FormatRule.{FormatRule}
 use Rattle.model.specs.declared.format.FormatRule.TheVariants as rule
@@ -9,8 +9,6 @@ use Rattle.model.specs.declared.run.Ending.{Ending}
 use Rattle.model.specs.declared.run.Ending.TheVariants as ending
 use Rattle.model.specs.declared.run.Status.{Status}
 use Rattle.model.specs.declared.run.Status.TheVariants as status
-use Rattle.loader.specs.Answers.{IsAnswer}
-use Rattle.driver.specs.Compiled.{IsRefusalOf}
 use Rattle.driver.specs.declared.refusal.Refusal.{Refusal}
 use Rattle.driver.specs.declared.refusal.Refusal.TheVariants as refusal
 use Rattle.driver.specs.declared.running.Ran.{Ran}
@@ -60,16 +58,6 @@ abbrev pub exit_of_outcome : Option Told → ℕ
 exit_of_outcome (Some told) = exit_of told
 exit_of_outcome None = 0
 
--- of a run, or of what is told in its place
-abbrev pub exit_of_run : Result Ran Told → ℕ
-exit_of_run (Ok ran) = exit_of_status ran.status
-exit_of_run (Err told) = exit_of told
-
--- of what was done without a run, or of what is told in its place
-abbrev pub exit_of_work : Result (Unit {0}) Told → ℕ
-exit_of_work (Ok done) = 0
-exit_of_work (Err told) = exit_of told
-
 -- ---- the exit statuses that each word can have
 
 abbrev pub IsOneOf : ℕ → List ℕ → Type 0
@@ -84,16 +72,3 @@ exits_of (job.Check module') = 0 ∷ 4 ∷ 6 ∷ []
 exits_of (job.Show module') = 0 ∷ 4 ∷ 6 ∷ []
 exits_of (job.Run module' steps files) = 0 ∷ 1 ∷ 4 ∷ 5 ∷ 6 ∷ []
 exits_of (job.Go deck steps files) = 0 ∷ 1 ∷ 3 ∷ 5 ∷ 6 ∷ []
-
--- ---- why a deck or a module was not run
-
--- it was refused, by its own faults, or memory was
-abbrev pub OfDeck : List ℕ → Told → Type 0
-OfDeck deck (told.Refused refusal) = IsRefusalOf deck refusal
-OfDeck deck told.NoMemory = ⊤
-OfDeck deck other = ⊥
-
-abbrev pub OfModule : List ℕ → Told → Type 0
-OfModule bytes (told.BadModule fault) = IsAnswer bytes (Err fault)
-OfModule bytes told.NoMemory = ⊤
-OfModule bytes other = ⊥

@@ -6,3 +6,5 @@ pub mod Finished
 pub mod OnFiles
 pub mod Upgraded
 pub mod Reading
+pub mod Shown
+pub mod Lines

@@ -11,7 +11,8 @@ ghost use Rattle.unit_io.specs.Files.{back_on};
 ghost use Rattle.driver.specs.Cards.{card_told};
 ghost use Rattle.driver.specs.Compiled.{IsModuleOf, IsRefusalOf};
 ghost use Rattle.driver.specs.Finished.{IsFinished};
-ghost use Rattle.driver.specs.OnFiles.{WritesMeaning};
+ghost use Rattle.driver.specs.OnFiles.{IsRunOnFiles, WritesMeaning};
+ghost use Rattle.driver.specs.Whole.{IsModuleRun, IsRunOf};
 
 use crate::refusal::Refusal;
 use crate::running::{Ran, run_with_card};
@@ -52,6 +53,10 @@ pub fn run_deck_on_files<S: UnitSystem>(
     // In the deck's own words, and in bytes: the deck has no fault, and the run writes what it means.
     ensures meaning { IfOk result (λ ran.
         WritesMeaning S.exposes deck.now bound ran.status units.old units.new) }
+    // The run itself is that of run_deck, and a unit that could not be written at its end is the only other stop: a run
+    // that a unit stopped stands where the machine may ask one, or has come as far as the bound allows.
+    ensures run { IfOk result (λ ran.
+        IsRunOnFiles S.exposes (IsRunOf deck.now bound) ran.status units.old units.new) }
     // Unless a unit or want of memory stopped the run, nothing is kept back, and no unit has failed.
     ensures handed_on { IfOk result (λ ran.
         IfRan ran.status ((unit : ℕ) → back_on unit units.new.given units.new.back ≡ [])) }
@@ -78,6 +83,9 @@ pub fn run_module_on_files<S: UnitSystem>(
     ensures meaning { IfOk result (λ ran.
         (deck : List ℕ) → IsModuleOf deck bytes.now
         → WritesMeaning S.exposes deck bound ran.status units.old units.new) }
+    // The run itself is that of run_with_card, and a unit that could not be written at its end is the only other stop.
+    ensures run { IfOk result (λ ran.
+        IsRunOnFiles S.exposes (IsModuleRun bytes.now bound) ran.status units.old units.new) }
     // Unless a unit or want of memory stopped the run, nothing is kept back, and no unit has failed.
     ensures handed_on { IfOk result (λ ran.
         IfRan ran.status ((unit : ℕ) → back_on unit units.new.given units.new.back ≡ [])) }

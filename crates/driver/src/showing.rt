@@ -5,6 +5,7 @@ ghost use Rattle.model.specs.declared.image.Image.{Image};
 ghost use Rattle.model.specs.Module.Reading.{read_image};
 ghost use Rattle.loader.specs.Answers.{IsAnswer};
 ghost use Rattle.loader.specs.Loaded.{IsLoaded};
+ghost use Rattle.driver.specs.Shown.{OfShown};
 
 use loader::load;
 use model::{Instr, LoadFault};
@@ -27,12 +28,6 @@ pub enum ShowFault {
     Module(LoadFault),
     /// A line could not be written.
     Write(io::Error),
-}
-
-impl From<LoadFault> for ShowFault {
-    fn from(fault: LoadFault) -> ShowFault {
-        ShowFault::Module(fault)
-    }
 }
 
 impl From<io::Error> for ShowFault {
@@ -123,12 +118,20 @@ fn show_instr<W: Write>(at: u32, instr: Instr, out: &mut W) -> io::Result<()> {
 }
 
 /// Writes a line for each instruction of a module. After a failure nothing is said of what was written.
-pub fn show<W: Write>(alloc: Global, bytes: &[u8], out: &mut W) -> Result<(), ShowFault> {
-    let module = load(alloc, bytes)?;
+pub fn show<W: Write>(alloc: Global, bytes: &[u8], out: &mut W) -> Result<(), ShowFault>
+    ensures refused { IfErr result (OfShown bytes.now) }
+    ensures accepted { OnOk result ((m : Image) × (read_image bytes.now ≡ Ok m) × IsLoaded m) }
+{
+    let module = match load(alloc, bytes) {
+        Ok(module) => module,
+        Err(fault) => return Err(ShowFault::Module(fault)),
+    };
     let mut at = 0_u32;
     for place in 0..module.len() {
         let instr = module.at(place).instr;
-        show_instr(at, instr, out)?;
+        if let Err(error) = show_instr(at, instr, out) {
+            return Err(ShowFault::Write(error));
+        }
         // No code is as long as that.
         at = at.wrapping_add(instr.size());
     }

@@ -1,7 +1,9 @@
 //! What the program tells on standard error.
 
-ghost use Rattle.std.specs.Prelude.{◌≡◌, IfOk};
+ghost use Rattle.std.specs.Prelude.{◌≡◌, IfOk, IfSome, OnOk};
+ghost use Rattle.std.specs.Io.KnownBytes.{Appends};
 ghost use Rattle.driver.specs.Exits.{exit_of};
+ghost use Rattle.driver.specs.Lines.{card_text, ending_lines, fault_lines, line, lines_of, no_memory_line, refusal_lines, run_lines, stop_lines};
 
 use crate::exits::exit_status;
 use crate::refusal::Refusal;
@@ -34,7 +36,9 @@ impl From<io::Error> for WriteFault {
 }
 
 // The end of a line that tells of a statement: the card where it begins, if that is known.
-fn end_with_card<W: Write>(card: u32, out: &mut W) -> io::Result<()> {
+fn end_with_card<W: Write>(card: u32, out: &mut W) -> io::Result<()>
+    ensures { OnOk result (Appends (W.contents out.old) (W.contents out.new) (line (card_text card))) }
+{
     if card == 0 {
         writeln!(out)
     } else {
@@ -42,7 +46,10 @@ fn end_with_card<W: Write>(card: u32, out: &mut W) -> io::Result<()> {
     }
 }
 
-fn tell_ending<W: Write>(ending: Ending, card: u32, out: &mut W) -> io::Result<()> {
+fn tell_ending<W: Write>(ending: Ending, card: u32, out: &mut W) -> io::Result<()>
+    ensures { OnOk result (IfSome (ending_lines ending card)
+        (Appends (W.contents out.old) (W.contents out.new))) }
+{
     match ending {
         Ending::Normal => Ok(()),
         Ending::Error { code, statement } => {
@@ -56,11 +63,15 @@ fn tell_ending<W: Write>(ending: Ending, card: u32, out: &mut W) -> io::Result<(
     }
 }
 
-fn tell_no_memory<W: Write>(out: &mut W) -> io::Result<()> {
+fn tell_no_memory<W: Write>(out: &mut W) -> io::Result<()>
+    ensures { OnOk result (Appends (W.contents out.old) (W.contents out.new) no_memory_line) }
+{
     writeln!(out, "no memory")
 }
 
-fn tell_stop<W: Write>(stop: Stop, out: &mut W) -> io::Result<()> {
+fn tell_stop<W: Write>(stop: Stop, out: &mut W) -> io::Result<()>
+    ensures { OnOk result (IfSome (stop_lines stop) (Appends (W.contents out.old) (W.contents out.new))) }
+{
     match stop {
         Stop::Unit {
             cause: UnitFault::Memory,
@@ -71,7 +82,9 @@ fn tell_stop<W: Write>(stop: Stop, out: &mut W) -> io::Result<()> {
     }
 }
 
-fn tell_bad_module<W: Write>(fault: LoadFault, out: &mut W) -> io::Result<()> {
+fn tell_bad_module<W: Write>(fault: LoadFault, out: &mut W) -> io::Result<()>
+    ensures { OnOk result (IfSome (fault_lines fault) (Appends (W.contents out.old) (W.contents out.new))) }
+{
     if let LoadFault::Format(
         FormatFault {
             rule: FormatRule::Memory,
@@ -84,7 +97,10 @@ fn tell_bad_module<W: Write>(fault: LoadFault, out: &mut W) -> io::Result<()> {
     writeln!(out, "{fault}")
 }
 
-fn tell_run<W: Write>(ran: Ran, out: &mut W) -> io::Result<()> {
+fn tell_run<W: Write>(ran: Ran, out: &mut W) -> io::Result<()>
+    ensures { OnOk result (IfSome (run_lines ran.status ran.card)
+        (Appends (W.contents out.old) (W.contents out.new))) }
+{
     match ran.status {
         Status::Running => writeln!(out, "steps used up"),
         Status::Ended(ending) => tell_ending(ending, ran.card, out),
@@ -92,7 +108,10 @@ fn tell_run<W: Write>(ran: Ran, out: &mut W) -> io::Result<()> {
     }
 }
 
-fn tell_refusal<W: Write>(refusal: &Refusal, out: &mut W) -> io::Result<()> {
+fn tell_refusal<W: Write>(refusal: &Refusal, out: &mut W) -> io::Result<()>
+    ensures { OnOk result (IfSome (refusal_lines refusal.now)
+        (Appends (W.contents out.old) (W.contents out.new))) }
+{
     match refusal {
         Refusal::Card(fault) => writeln!(out, "{fault}"),
         Refusal::Statements(faults) => {
@@ -105,7 +124,9 @@ fn tell_refusal<W: Write>(refusal: &Refusal, out: &mut W) -> io::Result<()> {
     }
 }
 
-fn tell<W: Write>(told: &Told<'_>, out: &mut W) -> io::Result<()> {
+fn tell<W: Write>(told: &Told<'_>, out: &mut W) -> io::Result<()>
+    ensures { OnOk result (IfSome (lines_of told.now) (Appends (W.contents out.old) (W.contents out.new))) }
+{
     match told {
         Told::BadCommandLine => writeln!(out, "bad command line"),
         Told::Refused(refusal) => tell_refusal(refusal, out),
@@ -119,7 +140,10 @@ fn tell<W: Write>(told: &Told<'_>, out: &mut W) -> io::Result<()> {
 
 /// Writes the lines that tell it, and gives the exit status. After a failure nothing is said of what was written.
 pub fn report<W: Write>(told: &Told<'_>, out: &mut W) -> Result<u8, WriteFault>
-    ensures { IfOk result (λ exit. exit ≡ exit_of told.now) }
+    ensures exit { IfOk result (λ exit. exit ≡ exit_of told.now) }
+    // These lines, where the library says what it writes for all that they show.
+    ensures lines { OnOk result (IfSome (lines_of told.now)
+        (Appends (W.contents out.old) (W.contents out.new))) }
 {
     tell(told, out)?;
     Ok(exit_status(told))

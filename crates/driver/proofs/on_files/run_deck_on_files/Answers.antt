@@ -1,8 +1,8 @@
 use Rattle.std.proofs.Common.{subst, sym}
 use Rattle.model.specs.Deck.Cards.{first_cards}
 use Rattle.unit_io.specs.Files.{told_of}
-use Rattle.driver.specs.Whole.{RefinesMeaning}
-use Rattle.driver.proofs.FileRuns.{card_kept, finished_meaning, handed_on, sound_units, writes}
+use Rattle.driver.specs.Whole.{IsRunOf, RefinesMeaning}
+use Rattle.driver.proofs.FileRuns.{card_kept, finished_meaning, handed_on, run_on_files, sound_units, writes}
 use Rattle.driver.proofs.on_files.run_deck_on_files.Goals as goal
 
 pub returns-clause-meaning : goal.returns-clause-meaning
@@ -27,3 +27,8 @@ returns-clause-sound_units g c =
 pub returns-clause-card : goal.returns-clause-card
 returns-clause-card g c =
     card_kept (first_cards c.args.deck.now) c.in_ok-ran.ran.status c.finished.result.status c.flush.result c.in_ok-ran.ran.card c.finished.result.card c.finished.ensures.status c.finished.ensures.card c.in_ok-ran.ensures.card
+
+pub returns-clause-run : goal.returns-clause-run
+returns-clause-run g c =
+    run_on_files g.S.UnitSystem.exposes (IsRunOf c.args.deck.now c.args.bound) c.in_ok-ran.ran.status c.finished.result.status c.flush.result c.args.units.now c.run_deck.new.units c.flush.new.self
+    c.in_ok-ran.ensures.run c.in_ok-ran.ensures.counts c.finished.ensures.status c.flush.ensures.told c.flush.ensures.all c.flush.ensures.same c.flush.ensures.counted c.flush.ensures.others

@@ -1,0 +1,69 @@
+-- The lines that tell an outcome. None where the library doesn't say what it writes for one of their parts: the code of an
+-- error, a cause or a fault.
+use Rattle.std.specs.Prelude.{ℕ, List, [], ◌∷◌, ◌++◌, Option, Some, None, codes, decimal, nat_eq, if◌then◌else◌}
+use Rattle.model.specs.declared.format.FormatRule.{FormatRule}
+use Rattle.model.specs.declared.format.FormatRule.TheVariants as rule
+use Rattle.model.specs.declared.format.LoadFault.{LoadFault}
+use Rattle.model.specs.declared.format.LoadFault.TheVariants as load
+use Rattle.model.specs.declared.run.Ending.{Ending}
+use Rattle.model.specs.declared.run.Ending.TheVariants as ending
+use Rattle.model.specs.declared.run.Status.{Status}
+use Rattle.model.specs.declared.run.Status.TheVariants as status
+use Rattle.model.specs.declared.run.Stop.{Stop}
+use Rattle.model.specs.declared.run.Stop.TheVariants as stop
+use Rattle.model.specs.declared.run.UnitFault.{UnitFault}
+use Rattle.model.specs.declared.run.UnitFault.TheVariants as cause
+use Rattle.driver.specs.declared.refusal.Refusal.{Refusal}
+use Rattle.driver.specs.declared.refusal.Refusal.TheVariants as refusal
+use Rattle.driver.specs.declared.telling.Told.{Told}
+use Rattle.driver.specs.declared.telling.Told.TheVariants as told
+
+abbrev pub line : List ℕ → List ℕ
+line text = text ++ 10 ∷ []
+
+abbrev pub no_memory_line : List ℕ
+no_memory_line = line (codes "no memory")
+
+-- the card where a statement begins; nothing where none is known
+abbrev pub card_text : ℕ → List ℕ
+card_text card = if nat_eq card 0 then [] else codes " card " ++ decimal card
+
+abbrev pub ending_lines : Ending → (card : ℕ) → Option (List ℕ)
+ending_lines ending.Normal card = Some []
+ending_lines (ending.StLimit n) card = Some (codes "stlimit statement " ++ decimal n ++ line (card_text card))
+ending_lines (ending.Error code n) card = None
+
+abbrev pub unit_lines : UnitFault → Option (List ℕ)
+unit_lines cause.Memory = Some no_memory_line
+unit_lines other = None
+
+abbrev pub stop_lines : Stop → Option (List ℕ)
+stop_lines stop.NoMemory = Some no_memory_line
+stop_lines (stop.Unit unit fault) = unit_lines fault
+
+abbrev pub run_lines : Status → (card : ℕ) → Option (List ℕ)
+run_lines status.Running card = Some (line (codes "steps used up"))
+run_lines (status.Ended e) card = ending_lines e card
+run_lines (status.Stopped why) card = stop_lines why
+
+abbrev pub refusal_lines : Refusal → Option (List ℕ)
+refusal_lines refusal.Memory = Some no_memory_line
+refusal_lines (refusal.Card fault) = None
+refusal_lines (refusal.Statements faults) = None
+
+abbrev pub rule_lines : FormatRule → Option (List ℕ)
+rule_lines rule.Memory = Some no_memory_line
+rule_lines other = None
+
+abbrev pub fault_lines : LoadFault → Option (List ℕ)
+fault_lines (load.Format fault) = rule_lines fault.rule
+fault_lines (load.Module fault) = None
+
+abbrev pub lines_of : Told → Option (List ℕ)
+lines_of told.BadCommandLine = Some (line (codes "bad command line"))
+lines_of (told.Refused r) = refusal_lines r
+lines_of (told.BadModule fault) = fault_lines fault
+lines_of (told.Ran ran) = run_lines ran.status ran.card
+lines_of (told.CannotRead file) = Some (line (codes "cannot read " ++ file.now))
+lines_of (told.CannotWrite file) = Some (line (codes "cannot write " ++ file.now))
+lines_of told.NoMemory = Some no_memory_line
