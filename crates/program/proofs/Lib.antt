@@ -1,1 +1,2 @@
-mod ExitsAre
+mod Failures
+mod FreshUnits

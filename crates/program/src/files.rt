@@ -1,16 +1,82 @@
 //! The files that are read and written whole.
 
-ghost use Rattle.std.specs.Prelude.{◌≡◌, IfErr};
-ghost use Rattle.driver.specs.Exits.{exit_of};
+ghost use Rattle.std.specs.Prelude.{None, Some, codes, IfErr, IfOk, OnOk};
+ghost use Rattle.program.specs.Words.{IsNotDone};
 
 use driver::Told;
 use std::fs::{self, Files, OpenFile, OpenOptions, Permissions};
 use std::io::{self, ErrorKind, Input, Read, Write};
 use std::path::{Path, PathBuf};
 
+/// Files that are read and written whole, by their names, and standard input. Contracts say by its ghost members what a
+/// word reads and writes.
+pub(crate) trait WholeFiles {
+    ghost use Rattle.std.specs.Prelude.{List, ℕ};
+
+    /// The file with this name holds these bytes.
+    ghost holds: { Self → List ℕ → List ℕ → Type 0 };
+
+    /// Standard input holds these bytes.
+    ghost input_holds: { Self → List ℕ → Type 0 };
+
+    /// From one state to the next, the file with this name got these bytes.
+    ghost writes: { Self → Self → List ℕ → List ℕ → Type 0 };
+
+    /// All of a file.
+    fn read_whole(&self, name: &str) -> io::Result<Vec<u8>>
+        ensures { IfOk result (λ bytes. holds self.now name.now bytes.items) };
+
+    /// All of standard input.
+    fn read_input(&self) -> io::Result<Vec<u8>>
+        ensures { IfOk result (λ bytes. input_holds self.now bytes.items) };
+
+    /// Writes a file, whose old bytes go.
+    fn write_whole(&mut self, name: &str, bytes: &[u8]) -> io::Result<()>
+        ensures { OnOk result (writes self.old self.new name.now bytes.now) };
+}
+
+/// The files of the system. Nothing is known of what they hold.
+pub(crate) struct SystemFiles<'a, R> {
+    rt: &'a R,
+}
+
+impl<R> Drop for SystemFiles<'_, R> {
+    fn drop(self) {
+        let SystemFiles { rt: _ } = self;
+    }
+}
+
+impl<'a, R> SystemFiles<'a, R> {
+    pub(crate) fn new(rt: &'a R) -> SystemFiles<'a, R> {
+        SystemFiles { rt }
+    }
+}
+
+impl<R: Files + Input + AllocGlobal> WholeFiles for SystemFiles<'_, R> {
+    ghost holds = { λ _ _ _. Unit {0} };
+
+    ghost input_holds = { λ _ _. Unit {0} };
+
+    ghost writes = { λ _ _ _ _. Unit {0} };
+
+    fn read_whole(&self, name: &str) -> io::Result<Vec<u8>> {
+        fs::read(self.rt, name)
+    }
+
+    fn read_input(&self) -> io::Result<Vec<u8>> {
+        let mut bytes = Vec::new(self.rt.alloc());
+        self.rt.reader().read_to_end(&mut bytes)?;
+        Ok(bytes)
+    }
+
+    fn write_whole(&mut self, name: &str, bytes: &[u8]) -> io::Result<()> {
+        write_whole(self.rt, name, bytes)
+    }
+}
+
 /// Why a file was not read.
 fn not_read<'a>(error: &io::Error, file: &'a str) -> Told<'a>
-    ensures { exit_of result ≡ 6 }
+    ensures { IsNotDone (Some file.now) None result }
 {
     match error.kind() {
         ErrorKind::OutOfMemory => Told::NoMemory,
@@ -19,24 +85,22 @@ fn not_read<'a>(error: &io::Error, file: &'a str) -> Told<'a>
 }
 
 /// All of standard input.
-pub(crate) fn read_input<R: Input + AllocGlobal>(rt: &R) -> Result<Vec<u8>, Told<'static>>
-    ensures { IfErr result (λ told. exit_of told ≡ 6) }
+pub(crate) fn read_input<F: WholeFiles>(files: &F) -> Result<Vec<u8>, Told<'static>>
+    ensures read { IfOk result (λ bytes. F.input_holds files.now bytes.items) }
+    ensures err { IfErr result (IsNotDone (Some (codes "standard input")) None) }
 {
-    let mut bytes = Vec::new(rt.alloc());
-    match rt.reader().read_to_end(&mut bytes) {
-        Ok(_) => Ok(bytes),
+    match files.read_input() {
+        Ok(bytes) => Ok(bytes),
         Err(error) => Err(not_read(&error, "standard input")),
     }
 }
 
 /// All of a file.
-pub(crate) fn read_file<'a, R: Files + AllocGlobal>(
-    rt: &R,
-    file: &'a str,
-) -> Result<Vec<u8>, Told<'a>>
-    ensures { IfErr result (λ told. exit_of told ≡ 6) }
+pub(crate) fn read_file<'a, F: WholeFiles>(files: &F, file: &'a str) -> Result<Vec<u8>, Told<'a>>
+    ensures read { IfOk result (λ bytes. F.holds files.now file.now bytes.items) }
+    ensures err { IfErr result (IsNotDone (Some file.now) None) }
 {
-    match fs::read(rt, file) {
+    match files.read_whole(file) {
         Ok(bytes) => Ok(bytes),
         Err(error) => Err(not_read(&error, file)),
     }
@@ -124,14 +188,15 @@ pub fn write_whole<R: Files + AllocGlobal>(rt: &R, file: &str, bytes: &[u8]) -> 
 }
 
 /// Writes a file so, or says what is to be told.
-pub(crate) fn write_file<'a, R: Files + AllocGlobal>(
-    rt: &R,
+pub(crate) fn write_file<'a, F: WholeFiles>(
+    files: &mut F,
     file: &'a str,
     bytes: &[u8],
 ) -> Result<(), Told<'a>>
-    ensures { IfErr result (λ told. exit_of told ≡ 6) }
+    ensures written { OnOk result (F.writes files.old files.new file.now bytes.now) }
+    ensures err { IfErr result (IsNotDone None (Some file.now)) }
 {
-    match write_whole(rt, file, bytes) {
+    match files.write_whole(file, bytes) {
         Ok(()) => Ok(()),
         Err(error) => match error.kind() {
             ErrorKind::OutOfMemory => Err(Told::NoMemory),

@@ -1,11 +1,17 @@
 //! What is done for each row of the table of words.
 
-ghost use Rattle.std.specs.Prelude.{◌≡◌, ◌∷◌, [], List, IfErr, IfOk, OnOk};
-ghost use Rattle.model.specs.Deck.Faults.{verdict, Accepted};
-ghost use Rattle.model.specs.Deck.Trees.{Stmt};
-ghost use Rattle.driver.specs.Exits.{IsOneOf, OfDeck, OfModule, exit_of, exit_of_outcome, exit_of_run, exit_of_work, exits_of};
+ghost use Rattle.std.specs.Prelude.{◌≡◌, ℕ, List, codes, Err, IfErr, IfOk, OnOk};
+ghost use Rattle.loader.specs.Answers.{IsAnswer};
+ghost use Rattle.driver.specs.Compiled.{IsModuleOf, IsRefusalOf};
+ghost use Rattle.driver.specs.Exits.{IsOneOf, exit_of_outcome, exits_of};
+ghost use Rattle.driver.specs.OnFiles.{IsRunOnFiles, WritesMeaning};
+ghost use Rattle.driver.specs.Upgraded.{IsUpgradeOf};
+ghost use Rattle.driver.specs.Whole.{IsModuleRun, IsRunOf};
+ghost use Rattle.unit_io.specs.Files.{FilesView};
+ghost use Rattle.program.specs.Fresh.{AreFresh};
+ghost use Rattle.program.specs.Words.{HasDone, HasWritten, IsAccepted, IsDeckFailure, IsFailure, IsModuleFailure, IsNotDone, IsOldFailure, IsTaken, OfBytesIn, UnlessWriting, told_of_run, told_of_work};
 
-use crate::files::{read_file, read_input, write_file};
+use crate::files::{WholeFiles, read_file, read_input, write_file};
 use crate::system::RunSystem;
 use driver::{
     Job, Ran, ShowFault, Told, UnitFile, check_module, compile_deck, run_deck_on_files,
@@ -35,7 +41,9 @@ pub fn units_of<'a, 'f: 'a, S: UnitSystem>(
     system: &'a S,
     files: &[UnitFile<'f>],
 ) -> Result<FileUnits<'a, S>, Told<'static>>
-    ensures { IfErr result (λ told. told ≡ Told.NoMemory) }
+    ensures fresh { IfOk result
+        (AreFresh S.exposes S.input_bytes S.source_bytes system.now files.now) }
+    ensures memory { IfErr result (λ told. told ≡ Told.NoMemory) }
 {
     let Ok(mut units) = FileUnits::new(alloc, system) else {
         return Err(Told::NoMemory);
@@ -48,27 +56,84 @@ pub fn units_of<'a, 'f: 'a, S: UnitSystem>(
     Ok(units)
 }
 
-/// Runs the module that bytes spell.
-#[tactic(auto, using(crate::proofs::ExitsAre::six, crate::proofs::ExitsAre::no_memory, crate::proofs::ExitsAre::fault_exits, crate::proofs::ExitsAre::of_module))]
+/// A run, and its units then.
+#[derive(Drop)]
+struct RunOnUnits<'a, S: UnitSystem> {
+    ran: Ran,
+    units: FileUnits<'a, S>,
+}
+
+/// Runs the module that bytes spell, on the units of a system to which these files are given.
+#[tactic(auto, using(crate::proofs::Failures::no_memory))]
+fn run_on<'a, 'f: 'a, S: UnitSystem>(
+    alloc: Global,
+    system: &'a S,
+    bytes: &[u8],
+    steps: u64,
+    files: &[UnitFile<'f>],
+) -> Result<RunOnUnits<'a, S>, Told<'static>>
+    // In bytes, of a module that compile_deck wrote: the run writes what its deck means.
+    ensures meaning { IfOk result (λ done. (deck : List ℕ) → IsModuleOf deck bytes.now
+        → (fresh : FilesView S) × AreFresh S.exposes S.input_bytes S.source_bytes system.now files.now fresh
+        × WritesMeaning S.exposes deck steps done.ran.status fresh done.units) }
+    ensures run { IfOk result (λ done.
+        (fresh : FilesView S) × AreFresh S.exposes S.input_bytes S.source_bytes system.now files.now fresh
+        × IsRunOnFiles S.exposes (IsModuleRun bytes.now steps) done.ran.status fresh done.units) }
+    ensures refused { IfErr result
+        (IsFailure (λ _. ⊥) (λ fault. IsAnswer bytes.now (Err fault)) None None) }
+{
+    let mut units = units_of(alloc, system, files)?;
+    match run_module_on_files(alloc, bytes, &mut units, steps) {
+        Ok(ran) => Ok(RunOnUnits { ran, units }),
+        Err(fault) => Err(Told::BadModule(fault)),
+    }
+}
+
+/// Compiles a deck and runs its module, on the units of a system to which these files are given.
+#[tactic(auto, using(crate::proofs::Failures::no_memory))]
+fn run_deck_on<'a, 'f: 'a, S: UnitSystem>(
+    alloc: Global,
+    system: &'a S,
+    deck: &[u8],
+    steps: u64,
+    files: &[UnitFile<'f>],
+) -> Result<RunOnUnits<'a, S>, Told<'static>>
+    // In the deck's own words, and in bytes: the deck has no fault, and the run writes what it means.
+    ensures meaning { IfOk result (λ done.
+        (fresh : FilesView S) × AreFresh S.exposes S.input_bytes S.source_bytes system.now files.now fresh
+        × WritesMeaning S.exposes deck.now steps done.ran.status fresh done.units) }
+    ensures run { IfOk result (λ done.
+        (fresh : FilesView S) × AreFresh S.exposes S.input_bytes S.source_bytes system.now files.now fresh
+        × IsRunOnFiles S.exposes (IsRunOf deck.now steps) done.ran.status fresh done.units) }
+    ensures refused { IfErr result
+        (IsFailure (IsRefusalOf deck.now) (λ _. ⊥) None None) }
+{
+    let mut units = units_of(alloc, system, files)?;
+    match run_deck_on_files(alloc, deck, &mut units, steps) {
+        Ok(ran) => Ok(RunOnUnits { ran, units }),
+        Err(refusal) => Err(Told::Refused(refusal)),
+    }
+}
+
+/// Runs the module that bytes spell on the units of the program.
+#[tactic(auto, using(crate::proofs::Failures::no_memory))]
 fn run<R: Files + Input + Print + AllocGlobal>(
     rt: &R,
     bytes: &[u8],
     steps: u64,
     files: &[UnitFile<'_>],
 ) -> Result<Ran, Told<'static>>
-    ensures refused { IfErr result (OfModule bytes.now) }
-    ensures exit { IfErr result (λ told. IsOneOf (exit_of told) (4 ∷ 6 ∷ [])) }
+    ensures accepted { OnOk result (IsTaken bytes.now) }
+    ensures refused { IfErr result
+        (IsFailure (λ _. ⊥) (λ fault. IsAnswer bytes.now (Err fault)) None None) }
 {
     let system = system_of(rt, files)?;
-    let mut units = units_of(rt.alloc(), &system, files)?;
-    match run_module_on_files(rt.alloc(), bytes, &mut units, steps) {
-        Ok(ran) => Ok(ran),
-        Err(fault) => Err(Told::BadModule(fault)),
-    }
+    let done = run_on(rt.alloc(), &system, bytes, steps, files)?;
+    Ok(done.ran)
 }
 
-/// Compiles a deck and runs its module.
-#[tactic(auto, using(crate::proofs::ExitsAre::six, crate::proofs::ExitsAre::no_memory, crate::proofs::ExitsAre::refusal_exits, crate::proofs::ExitsAre::of_deck))]
+/// Compiles a deck and runs its module on the units of the program.
+#[tactic(auto, using(crate::proofs::Failures::no_memory))]
 fn compile_and_run<R: Files + Input + Print + AllocGlobal>(
     rt: &R,
     deck: &[u8],
@@ -76,74 +141,90 @@ fn compile_and_run<R: Files + Input + Print + AllocGlobal>(
     files: &[UnitFile<'_>],
 ) -> Result<Ran, Told<'static>>
     // A deck that is run has no fault; one that is refused is refused by exactly its faults.
-    ensures accepted { OnOk result ((ss : List Stmt) × (verdict deck.now ≡ Accepted ss)) }
-    ensures refused { IfErr result (OfDeck deck.now) }
-    ensures exit { IfErr result (λ told. IsOneOf (exit_of told) (3 ∷ 6 ∷ [])) }
+    ensures accepted { OnOk result (IsAccepted deck.now) }
+    ensures refused { IfErr result
+        (IsFailure (IsRefusalOf deck.now) (λ _. ⊥) None None) }
 {
     let system = system_of(rt, files)?;
-    let mut units = units_of(rt.alloc(), &system, files)?;
-    match run_deck_on_files(rt.alloc(), deck, &mut units, steps) {
-        Ok(ran) => Ok(ran),
-        Err(refusal) => Err(Told::Refused(refusal)),
-    }
+    let done = run_deck_on(rt.alloc(), &system, deck, steps, files)?;
+    Ok(done.ran)
 }
 
-#[tactic(auto, using(crate::proofs::ExitsAre::six, crate::proofs::ExitsAre::no_memory, crate::proofs::ExitsAre::refusal_exits))]
-fn run_input<R: Files + Input + Print + AllocGlobal>(
+#[tactic(auto, using(crate::proofs::Failures::not_read))]
+fn run_input<R: Files + Input + Print + AllocGlobal, F: WholeFiles>(
     rt: &R,
+    whole: &F,
     steps: u64,
 ) -> Result<Ran, Told<'static>>
-    ensures { IfErr result (λ told. IsOneOf (exit_of told) (3 ∷ 6 ∷ [])) }
+    ensures accepted { OnOk result (OfBytesIn (F.input_holds whole.now) IsAccepted) }
+    ensures failure { IfErr result
+        (IsDeckFailure (F.input_holds whole.now) (Some (codes "standard input")) None) }
 {
-    let deck = read_input(rt)?;
+    let deck = read_input(whole)?;
     compile_and_run(rt, &deck, steps, &[])
 }
 
-#[tactic(auto, using(crate::proofs::ExitsAre::six, crate::proofs::ExitsAre::no_memory, crate::proofs::ExitsAre::refusal_exits))]
-fn run_deck_file<'a, R: Files + Input + Print + AllocGlobal>(
+#[tactic(auto, using(crate::proofs::Failures::not_read))]
+fn run_deck_file<'a, R: Files + Input + Print + AllocGlobal, F: WholeFiles>(
     rt: &R,
+    whole: &F,
     deck: &'a str,
     steps: u64,
     files: &[UnitFile<'_>],
 ) -> Result<Ran, Told<'a>>
-    ensures { IfErr result (λ told. IsOneOf (exit_of told) (3 ∷ 6 ∷ [])) }
+    ensures accepted { OnOk result (OfBytesIn (F.holds whole.now deck.now) IsAccepted) }
+    ensures failure { IfErr result
+        (IsDeckFailure (F.holds whole.now deck.now) (Some deck.now) None) }
 {
-    let bytes = read_file(rt, deck)?;
+    let bytes = read_file(whole, deck)?;
     compile_and_run(rt, &bytes, steps, files)
 }
 
-#[tactic(auto, using(crate::proofs::ExitsAre::six, crate::proofs::ExitsAre::no_memory, crate::proofs::ExitsAre::refusal_exits))]
-fn compile<'a, R: Files + AllocGlobal>(
-    rt: &R,
+#[tactic(auto, using(crate::proofs::Failures::not_read, crate::proofs::Failures::untouched, crate::proofs::Failures::not_written_as, crate::proofs::Failures::writing_all))]
+fn compile<'a, F: WholeFiles>(
+    alloc: Global,
+    whole: &mut F,
     deck: &'a str,
-    module: &'a str,
+    file: &'a str,
 ) -> Result<(), Told<'a>>
-    ensures { IfErr result (λ told. IsOneOf (exit_of told) (3 ∷ 6 ∷ [])) }
+    // The module of the deck that the one file holds is written to the other.
+    ensures written { OnOk result (OfBytesIn (F.holds whole.old deck.now) (λ text.
+        HasWritten F.holds F.input_holds F.writes whole.old whole.new file.now (IsModuleOf text))) }
+    ensures failure { IfErr result
+        (IsDeckFailure (F.holds whole.old deck.now) (Some deck.now) (Some file.now)) }
+    ensures untouched { IfErr result (λ told. UnlessWriting told (whole.new ≡ whole.old)) }
 {
-    let bytes = read_file(rt, deck)?;
-    match compile_deck(rt.alloc(), &bytes) {
-        Ok(spelling) => write_file(rt, module, &spelling),
+    let text = read_file(whole, deck)?;
+    match compile_deck(alloc, &text) {
+        Ok(spelling) => write_file(whole, file, &spelling),
         Err(refusal) => Err(Told::Refused(refusal)),
     }
 }
 
-#[tactic(auto, using(crate::proofs::ExitsAre::six, crate::proofs::ExitsAre::no_memory, crate::proofs::ExitsAre::fault_exits))]
-fn upgrade_file<'a, R: Files + AllocGlobal>(
-    rt: &R,
+#[tactic(auto, using(crate::proofs::Failures::not_read, crate::proofs::Failures::untouched, crate::proofs::Failures::not_written_as, crate::proofs::Failures::writing_all))]
+fn upgrade_file<'a, F: WholeFiles>(
+    alloc: Global,
+    whole: &mut F,
     old: &'a str,
     new: &'a str,
 ) -> Result<(), Told<'a>>
-    ensures { IfErr result (λ told. IsOneOf (exit_of told) (4 ∷ 6 ∷ [])) }
+    // The module that the one file holds is written to the other in version 2.
+    ensures written { OnOk result (OfBytesIn (F.holds whole.old old.now) (λ older.
+        HasWritten F.holds F.input_holds F.writes whole.old whole.new new.now (IsUpgradeOf older))) }
+    ensures failure { IfErr result
+        (IsOldFailure (F.holds whole.old old.now) (Some old.now) (Some new.now)) }
+    ensures untouched { IfErr result (λ told. UnlessWriting told (whole.new ≡ whole.old)) }
 {
-    let bytes = read_file(rt, old)?;
-    match upgrade(rt.alloc(), &bytes) {
-        Ok(newer) => write_file(rt, new, &newer),
+    let bytes = read_file(whole, old)?;
+    match upgrade(alloc, &bytes) {
+        Ok(newer) => write_file(whole, new, &newer),
         Err(fault) => Err(Told::BadModule(fault)),
     }
 }
 
 fn print_ok<R: Print>(rt: &R) -> Result<(), Told<'static>>
-    ensures { IfErr result (λ told. exit_of told ≡ 6) }
+    ensures { IfErr result
+        (IsNotDone None (Some (codes "standard output"))) }
 {
     match println!(rt; "ok") {
         Ok(()) => Ok(()),
@@ -151,22 +232,34 @@ fn print_ok<R: Print>(rt: &R) -> Result<(), Told<'static>>
     }
 }
 
-#[tactic(auto, using(crate::proofs::ExitsAre::six, crate::proofs::ExitsAre::no_memory, crate::proofs::ExitsAre::fault_exits))]
-fn check<'a, R: Files + Print + AllocGlobal>(rt: &R, module: &'a str) -> Result<(), Told<'a>>
-    ensures { IfErr result (λ told. IsOneOf (exit_of told) (4 ∷ 6 ∷ [])) }
+#[tactic(auto, using(crate::proofs::Failures::not_read, crate::proofs::Failures::not_written_as))]
+fn check<'a, R: Print + AllocGlobal, F: WholeFiles>(
+    rt: &R,
+    whole: &F,
+    file: &'a str,
+) -> Result<(), Told<'a>>
+    ensures accepted { OnOk result (OfBytesIn (F.holds whole.now file.now) IsTaken) }
+    ensures failure { IfErr result (IsModuleFailure
+        (F.holds whole.now file.now) (Some file.now) (Some (codes "standard output"))) }
 {
-    let bytes = read_file(rt, module)?;
+    let bytes = read_file(whole, file)?;
     match check_module(rt.alloc(), &bytes) {
         Ok(()) => print_ok(rt),
         Err(fault) => Err(Told::BadModule(fault)),
     }
 }
 
-#[tactic(auto, using(crate::proofs::ExitsAre::six, crate::proofs::ExitsAre::no_memory, crate::proofs::ExitsAre::fault_exits))]
-fn show_module<'a, R: Files + Print + AllocGlobal>(rt: &R, module: &'a str) -> Result<(), Told<'a>>
-    ensures { IfErr result (λ told. IsOneOf (exit_of told) (4 ∷ 6 ∷ [])) }
+#[tactic(auto, using(crate::proofs::Failures::not_read))]
+fn show_module<'a, R: Print + AllocGlobal, F: WholeFiles>(
+    rt: &R,
+    whole: &F,
+    file: &'a str,
+) -> Result<(), Told<'a>>
+    ensures accepted { OnOk result (OfBytesIn (F.holds whole.now file.now) IsTaken) }
+    ensures failure { IfErr result (IsModuleFailure
+        (F.holds whole.now file.now) (Some file.now) (Some (codes "standard output"))) }
 {
-    let bytes = read_file(rt, module)?;
+    let bytes = read_file(whole, file)?;
     let Ok(mut out) = BufWriter::new(rt.alloc(), io::writer(rt)) else {
         return Err(Told::NoMemory);
     };
@@ -181,22 +274,25 @@ fn show_module<'a, R: Files + Print + AllocGlobal>(rt: &R, module: &'a str) -> R
     }
 }
 
-#[tactic(auto, using(crate::proofs::ExitsAre::six, crate::proofs::ExitsAre::no_memory, crate::proofs::ExitsAre::fault_exits))]
-fn run_file<'a, R: Files + Input + Print + AllocGlobal>(
+#[tactic(auto, using(crate::proofs::Failures::not_read))]
+fn run_file<'a, R: Files + Input + Print + AllocGlobal, F: WholeFiles>(
     rt: &R,
-    module: &'a str,
+    whole: &F,
+    file: &'a str,
     steps: u64,
     files: &[UnitFile<'_>],
 ) -> Result<Ran, Told<'a>>
-    ensures { IfErr result (λ told. IsOneOf (exit_of told) (4 ∷ 6 ∷ [])) }
+    ensures accepted { OnOk result (OfBytesIn (F.holds whole.now file.now) IsTaken) }
+    ensures failure { IfErr result
+        (IsModuleFailure (F.holds whole.now file.now) (Some file.now) None) }
 {
-    let bytes = read_file(rt, module)?;
+    let bytes = read_file(whole, file)?;
     run(rt, &bytes, steps, files)
 }
 
 /// What is told of a job that leads to a run, or fails.
 fn told_of<'a>(done: Result<Ran, Told<'a>>) -> Option<Told<'a>>
-    ensures { exit_of_outcome result ≡ exit_of_run done.entry }
+    ensures { result ≡ told_of_run done.entry }
 {
     match done {
         Ok(ran) => Some(Told::Ran(ran)),
@@ -206,7 +302,7 @@ fn told_of<'a>(done: Result<Ran, Told<'a>>) -> Option<Told<'a>>
 
 /// What is told of work that leads to no run.
 fn failure_of<'a>(done: Result<(), Told<'a>>) -> Option<Told<'a>>
-    ensures { exit_of_outcome result ≡ exit_of_work done.entry }
+    ensures { result ≡ told_of_work done.entry }
 {
     match done {
         Ok(()) => None,
@@ -216,24 +312,27 @@ fn failure_of<'a>(done: Result<(), Told<'a>>) -> Option<Told<'a>>
 
 /// Does what it is asked to do, and says what is to be told, if anything. Its exit status is one of those that docs/program.md
 /// has for the word.
-#[tactic(auto, using(crate::proofs::ExitsAre::exits_of_run, crate::proofs::ExitsAre::exits_of_work))]
-pub(crate) fn perform<'a, R: Files + Input + Print + AllocGlobal>(
+pub(crate) fn perform<'a, R: Files + Input + Print + AllocGlobal, F: WholeFiles>(
     rt: &R,
+    whole: &mut F,
     job: Job<'a>,
 ) -> Option<Told<'a>>
-    ensures { IsOneOf (exit_of_outcome result) (exits_of job.entry) }
+    ensures exit { IsOneOf (exit_of_outcome result) (exits_of job.entry) }
+    // What the word was to do is done, or what is told says why it is not.
+    ensures done { HasDone F.holds F.input_holds F.writes job.entry whole.old whole.new result }
 {
+    let alloc = rt.alloc();
     match job {
-        Job::CompileAndRun { steps } => told_of(run_input(rt, steps)),
-        Job::Compile { deck, module } => failure_of(compile(rt, deck, module)),
-        Job::Upgrade { old, new } => failure_of(upgrade_file(rt, old, new)),
-        Job::Check { module } => failure_of(check(rt, module)),
-        Job::Show { module } => failure_of(show_module(rt, module)),
+        Job::CompileAndRun { steps } => told_of(run_input(rt, whole, steps)),
+        Job::Compile { deck, module } => failure_of(compile(alloc, whole, deck, module)),
+        Job::Upgrade { old, new } => failure_of(upgrade_file(alloc, whole, old, new)),
+        Job::Check { module } => failure_of(check(rt, whole, module)),
+        Job::Show { module } => failure_of(show_module(rt, whole, module)),
         Job::Run {
             module,
             steps,
             files,
-        } => told_of(run_file(rt, module, steps, &files)),
-        Job::Go { deck, steps, files } => told_of(run_deck_file(rt, deck, steps, &files)),
+        } => told_of(run_file(rt, whole, module, steps, &files)),
+        Job::Go { deck, steps, files } => told_of(run_deck_file(rt, whole, deck, steps, &files)),
     }
 }

@@ -13,15 +13,17 @@
 //! stated. Decks and commands of tests/ show the rest.
 #![tactic(auto)]
 
-ghost use Rattle.std.specs.Prelude.{◌≡◌, ◌⊎◌};
+ghost use Rattle.std.specs.Prelude.{Option, Some};
 ghost use Rattle.std.specs.Process.{exit_status};
-ghost use Rattle.driver.specs.Exits.{exit_of, exit_of_outcome};
+ghost use Rattle.driver.specs.declared.telling.Told.{Told as AnyTold};
+ghost use Rattle.program.specs.Words.{IsReported};
 
 mod files;
 mod jobs;
 mod records;
 mod system;
 
+use crate::files::SystemFiles;
 use crate::jobs::perform;
 use driver::{Told, read_words, report};
 pub use files::write_whole;
@@ -69,17 +71,21 @@ fn answer<'a, R: Files + Input + Print + AllocGlobal>(
     rt: &R,
     words: &'a [&'a str],
 ) -> Option<Told<'a>> {
+    let mut whole = SystemFiles::new(rt);
     match read_words(rt.alloc(), words) {
-        Ok(job) => perform(rt, job),
+        Ok(job) => perform(rt, &mut whole, job),
         Err(told) => Some(told),
     }
 }
 
 /// Tells it, and gives the exit status, which is `NOTHING_TOLD` where standard error took no line.
 fn tell<W: Write>(told: &Told<'_>, errors: &mut W) -> ExitCode
-    ensures { (exit_status result ≡ exit_of told.now) ⊎ (exit_status result ≡ NOTHING_TOLD) }
+    ensures { IsReported (Some told.now) (exit_status result) (W.contents errors.old) (W.contents errors.new) }
 {
-    ExitCode::from(report(told, errors).unwrap_or(NOTHING_TOLD))
+    match report(told, errors) {
+        Ok(status) => ExitCode::from(status),
+        Err(_) => ExitCode::from(NOTHING_TOLD),
+    }
 }
 
 /// What is told where the number of a standard stream can't be held.
@@ -93,7 +99,7 @@ fn not_held(stream: Stream) -> Told<'static> {
 
 /// Tells what is to be told, if anything, and gives the exit status.
 fn finish<W: Write>(outcome: Option<Told<'_>>, errors: &mut W) -> ExitCode
-    ensures { (exit_status result ≡ exit_of_outcome outcome.entry) ⊎ (exit_status result ≡ NOTHING_TOLD) }
+    ensures { IsReported outcome.entry (exit_status result) (W.contents errors.old) (W.contents errors.new) }
 {
     match outcome {
         Some(told) => tell(&told, errors),
@@ -104,7 +110,9 @@ fn finish<W: Write>(outcome: Option<Told<'_>>, errors: &mut W) -> ExitCode
 fn perform_words<R: Env + Files + Input + Print + AllocGlobal, W: Write>(
     rt: &R,
     errors: &mut W,
-) -> ExitCode {
+) -> ExitCode
+    ensures { (told : Option AnyTold) × IsReported told (exit_status result) (W.contents errors.old) (W.contents errors.new) }
+{
     let arguments = match read_arguments(rt) {
         Ok(arguments) => arguments,
         Err(told) => return tell(&told, errors),
@@ -122,7 +130,10 @@ pub fn run<R: Env + Files + Input + Print + AllocGlobal, I: AsFd, O: AsFd, W: Wr
     input: &I,
     output: &O,
     errors: &mut W,
-) -> ExitCode {
+) -> ExitCode
+    // There is something that stands on standard error as the lines that tell it, and whose exit status this is; or nothing.
+    ensures { (told : Option AnyTold) × IsReported told (exit_status result) (W.contents errors.old) (W.contents errors.new) }
+{
     match Streams::hold(rt, input, output, errors) {
         Ok(_held) => perform_words(rt, errors),
         Err(stream) => tell(&not_held(stream), errors),

@@ -1,6 +1,7 @@
-use Rattle.std.proofs.Common.{◌≡◌, []}
+use Rattle.std.proofs.Common.{take}
+use Rattle.program.specs.Fresh.{AreFresh}
 use Rattle.program.proofs.jobs.units_of.Given as goal
 
--- nothing is written while files are given
+-- the units have the files that were given so far
 abbrev pub invariant-files : goal.invariant-files
-invariant-files g l = l.units.records ≡ []
+invariant-files g l = AreFresh g.S.UnitSystem.exposes g.S.UnitSystem.input_bytes g.S.UnitSystem.source_bytes l.system (take l.given-index l.files) l.units
