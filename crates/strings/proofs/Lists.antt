@@ -1,7 +1,5 @@
-use Rattle.std.proofs.Common.{◌≡◌, ℕ, zero, suc, ◌+◌, ◌-◌, ◌≤◌, ◌<◌, ◌&&◌, true, nat_eq, get_or, List, [], ◌∷◌, ◌++◌, length, take, drop, refl, sym, ap, ◌∙◌, arith, append_assoc, add-one}
-use Rattle.std.proofs.lemmas.List.{take_more_same, drop-take, drop-append-le, append-nil, take-take, take_all, drop-drop, length-append, length-drop, length-take, length-take-le}
-use Rattle.std.proofs.lemmas.Bool.{and_parts}
-use Rattle.std.specs.Cmp.{unsigned_Decides}
+use Rattle.std.proofs.Common.{◌≡◌, ℕ, zero, suc, ◌+◌, ◌-◌, ◌≤◌, ◌<◌, get_or, List, [], ◌∷◌, ◌++◌, length, take, drop, refl, sym, ap, ◌∙◌, arith, add-zero, append_assoc, add-one}
+use Rattle.std.proofs.lemmas.List.{get_or-drop, drop-take, drop-append-le, append-nil, take-take, take_all, drop-drop, length-append, length-drop, length-take, length-take-le, take-append-drop}
 use Rattle.std.specs.List.{repeat, slice_range}
 use Rattle.std.specs.Prelude.{◌==◌, if◌then◌else◌}
 use Rattle.model.specs.Language.Strings.{replaced_or}
@@ -93,32 +91,6 @@ part_without xs a b n le =
 
 -- ---- lists that are the same up to a place
 
-same_one : (xs ys : List ℕ) (i j : ℕ) → j ≡ i + 1 → j ≤ length xs → length xs ≡ length ys → nat_eq (get_or xs i 0) (get_or ys i 0) ≡ true → take i xs ≡ take i ys → take j xs ≡ take j ys
-same_one xs ys i j e le len same before =
-    let lt : i < length xs = omega (arith, e, le) in
-    let also : i < length ys = omega (arith, e, le, len) in
-    ap (λ n. take n xs) e
-    ∙ take_more_same xs ys i 0 lt also before ((unsigned_Decides (get_or xs i 0) (get_or ys i 0)).0 same)
-    ∙ ap (λ n. take n ys) (sym e)
-
-same_two : (xs ys : List ℕ) (i j k : ℕ) → j ≡ i + 1 → k ≡ j + 1 → k ≤ length xs → length xs ≡ length ys → (nat_eq (get_or xs i 0) (get_or ys i 0) && nat_eq (get_or xs j 0) (get_or ys j 0)) ≡ true → take i xs ≡ take i ys → take k xs ≡ take k ys
-same_two xs ys i j k e f le len same before =
-    let parts = and_parts (nat_eq (get_or xs i 0) (get_or ys i 0)) (nat_eq (get_or xs j 0) (get_or ys j 0)) same in
-    same_one xs ys j k f le len parts.1 (same_one xs ys i j e (omega (arith, e, f, le)) len parts.0 before)
-
--- eight that are the same, after a front that is
-pub same_eight : (xs ys : List ℕ) (i : ℕ) → i + 8 ≤ length xs → length xs ≡ length ys
-    → (((nat_eq (get_or xs i 0) (get_or ys i 0) && nat_eq (get_or xs (i + 1) 0) (get_or ys (i + 1) 0)) && (nat_eq (get_or xs (i + 2) 0) (get_or ys (i + 2) 0) && nat_eq (get_or xs (i + 3) 0) (get_or ys (i + 3) 0))) && ((nat_eq (get_or xs (i + 4) 0) (get_or ys (i + 4) 0) && nat_eq (get_or xs (i + 5) 0) (get_or ys (i + 5) 0)) && (nat_eq (get_or xs (i + 6) 0) (get_or ys (i + 6) 0) && nat_eq (get_or xs (i + 7) 0) (get_or ys (i + 7) 0)))) ≡ true
-    → take i xs ≡ take i ys → take (i + 8) xs ≡ take (i + 8) ys
-same_eight xs ys i le len h front =
-    let halves = and_parts _ _ h in
-    let low = and_parts _ _ halves.0 in
-    let high = and_parts _ _ halves.1 in
-    same_two xs ys (i + 6) (i + 7) (i + 8) (omega arith) (omega arith) le len high.1
-    (same_two xs ys (i + 4) (i + 5) (i + 6) (omega arith) (omega arith) (omega (arith, le)) len high.0
-    (same_two xs ys (i + 2) (i + 3) (i + 4) (omega arith) (omega arith) (omega (arith, le)) len low.1
-    (same_two xs ys i (i + 1) (i + 2) refl (omega arith) (omega (arith, le)) len low.0 front)))
-
 -- less of what is the same
 pub same_less : (a b : ℕ) (xs ys : List ℕ) → a ≤ b → take b xs ≡ take b ys → take a xs ≡ take a ys
 same_less a b xs ys le same = sym (take-take a b xs le) ∙ ap (take a) same ∙ take-take a b ys le
@@ -130,3 +102,41 @@ front_without xs us p last within is front =
     let le : p ≤ length us = omega (arith, within) in
     ap (λ zs. zs ++ slice_range xs (p + 1) (last + 1)) (sym (take-take p (length us) xs le) ∙ ap (take p) front)
     ∙ ap (λ zs. take p us ++ zs) (sym (drop-take (p + 1) (last + 1 - (p + 1)) xs) ∙ ap (λ n. drop (p + 1) (take n xs)) (sym long) ∙ ap (drop (p + 1)) front)
+
+-- the front up to a place, in two parts
+parted : (a b : ℕ) (xs : List ℕ) → a ≤ b → take b xs ≡ take a xs ++ slice_range xs a b
+parted a b xs le =
+    let count : b ≡ a + (b - a) = omega arith in
+    sym (take-append-drop a (take b xs))
+    ∙ ap (λ zs. zs ++ drop a (take b xs)) (take-take a b xs le)
+    ∙ ap (λ zs. take a xs ++ zs) (ap (λ n. drop a (take n xs)) count ∙ drop-take a (b - a) xs)
+
+-- what is the same up to a place, and from there up to another
+pub same_longer : (a b : ℕ) (xs ys : List ℕ) → a ≤ b → slice_range xs a b ≡ slice_range ys a b → take a xs ≡ take a ys → take b xs ≡ take b ys
+same_longer a b xs ys le part front = parted a b xs le ∙ (λ i. front i ++ part i) ∙ sym (parted a b ys le)
+
+-- the first seven, one by one
+pub first_seven : (xs : List ℕ) → 7 ≤ length xs → get_or xs 0 0 ∷ get_or xs 1 0 ∷ get_or xs 2 0 ∷ get_or xs 3 0 ∷ get_or xs 4 0 ∷ get_or xs 5 0 ∷ get_or xs 6 0 ∷ [] ≡ take 7 xs
+first_seven [] le = absurd (omega arith)
+first_seven (a ∷ []) le = absurd (omega arith)
+first_seven (a ∷ b ∷ []) le = absurd (omega arith)
+first_seven (a ∷ b ∷ c ∷ []) le = absurd (omega arith)
+first_seven (a ∷ b ∷ c ∷ d ∷ []) le = absurd (omega arith)
+first_seven (a ∷ b ∷ c ∷ d ∷ e ∷ []) le = absurd (omega arith)
+first_seven (a ∷ b ∷ c ∷ d ∷ e ∷ f ∷ []) le = absurd (omega arith)
+first_seven (a ∷ b ∷ c ∷ d ∷ e ∷ f ∷ g ∷ xs) le = refl
+
+-- eight from a place on, one by one
+first_eight : (xs : List ℕ) → 8 ≤ length xs → get_or xs 0 0 ∷ get_or xs 1 0 ∷ get_or xs 2 0 ∷ get_or xs 3 0 ∷ get_or xs 4 0 ∷ get_or xs 5 0 ∷ get_or xs 6 0 ∷ get_or xs 7 0 ∷ [] ≡ take 8 xs
+first_eight [] le = absurd (omega arith)
+first_eight (x ∷ xs) le = ap (λ ys. x ∷ ys) (first_seven xs (omega arith))
+
+pub eight_at : (i : ℕ) (xs : List ℕ) → i + 8 ≤ length xs
+    → get_or xs i 0 ∷ get_or xs (i + 1) 0 ∷ get_or xs (i + 2) 0 ∷ get_or xs (i + 3) 0 ∷ get_or xs (i + 4) 0 ∷ get_or xs (i + 5) 0 ∷ get_or xs (i + 6) 0 ∷ get_or xs (i + 7) 0 ∷ [] ≡ slice_range xs i (i + 8)
+eight_at i xs le =
+    let at : (k : ℕ) → get_or xs (i + k) 0 ≡ get_or (drop i xs) k 0 = λ k. sym (get_or-drop i xs k 0) in
+    let none : get_or xs i 0 ≡ get_or (drop i xs) 0 0 = ap (λ n. get_or xs n 0) (sym (add-zero i)) ∙ at 0 in
+    let count : 8 ≡ i + 8 - i = omega arith in
+    (λ j. none j ∷ at 1 j ∷ at 2 j ∷ at 3 j ∷ at 4 j ∷ at 5 j ∷ at 6 j ∷ at 7 j ∷ [])
+    ∙ first_eight (drop i xs) (omega (arith, le, length-drop i xs))
+    ∙ ap (λ n. take n (drop i xs)) count

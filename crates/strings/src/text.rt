@@ -4,6 +4,7 @@ ghost use Rattle.std.specs.Prelude.{◌≡◌, ◌+◌, ◌*◌, ◌^◌, ◌<�
 ghost use Rattle.std.specs.Prelude.{true, false, IsTrue, Err, ◌↔◌, slice_range, slice_index, nat_eq, MatchResult};
 ghost use Rattle.std.specs.Cmp.Lexicographic.{pointwise};
 ghost use Rattle.std.specs.Fmt.{signed_decimal};
+ghost use Rattle.std.specs.Int.{to_le_bytes, w64};
 ghost use Rattle.std.specs.List.{repeat};
 ghost use Rattle.model.specs.Language.Strings.{replaced};
 
@@ -731,37 +732,41 @@ fn replaced_many(alloc: Global, old: &[u8], from: &[u8], to: &[u8]) -> Result<Te
     Text::from_vec(bytes)
 }
 
-// Whether eight bytes of two arrays, those from `at` on, are the same.
+// Eight bytes as one word, so that they compare at once.
 #[inline(always)]
-fn same_eight(left: &[u8; FEW], right: &[u8; FEW], at: usize) -> bool
-    requires within { at + 8 ≤ 22 }
-    requires left { length left.now ≡ 22 }
-    requires right { length right.now ≡ 22 }
-    ensures { result ≡ true → take at left.now ≡ take at right.now
-        → take (at + 8) left.now ≡ take (at + 8) right.now }
+fn word_of(bytes: [u8; 8]) -> u64
+    ensures { to_le_bytes w64 result ≡ bytes }
 {
-    let first = (left[at] == right[at]) & (left[at + 1] == right[at + 1]);
-    let second = (left[at + 2] == right[at + 2]) & (left[at + 3] == right[at + 3]);
-    let third = (left[at + 4] == right[at + 4]) & (left[at + 5] == right[at + 5]);
-    let fourth = (left[at + 6] == right[at + 6]) & (left[at + 7] == right[at + 7]);
-    (first & second) & (third & fourth)
+    u64::from_le_bytes(bytes)
 }
 
-// Whether two lengths and the first seven bytes of two arrays are the same: they lie side by side, and compare as one.
+// The eight bytes of an array from `at` on as one word.
 #[inline(always)]
-fn same_start(len: &u8, other_len: &u8, left: &[u8; FEW], right: &[u8; FEW]) -> bool
-    requires left { length left.now ≡ 22 }
-    requires right { length right.now ≡ 22 }
-    ensures len { result ≡ true → len.now ≡ other_len.now }
-    ensures bytes { result ≡ true → take 7 left.now ≡ take 7 right.now }
+fn word_at(array: &[u8; FEW], at: usize) -> u64
+    requires within { at + 8 ≤ 22 }
+    requires array { length array.now ≡ 22 }
+    ensures { to_le_bytes w64 result ≡ slice_range array.now at (at + 8) }
 {
-    let [a, b, c, d, e, f, g, ..] = left;
-    let [p, q, r, s, t, u, v, ..] = right;
-    let first = (*len == *other_len) & (*a == *p);
-    let second = (*b == *q) & (*c == *r);
-    let third = (*d == *s) & (*e == *t);
-    let fourth = (*f == *u) & (*g == *v);
-    (first & second) & (third & fourth)
+    word_of([
+        array[at],
+        array[at + 1],
+        array[at + 2],
+        array[at + 3],
+        array[at + 4],
+        array[at + 5],
+        array[at + 6],
+        array[at + 7],
+    ])
+}
+
+// A length and the first seven bytes of an array as one word: they lie side by side.
+#[inline(always)]
+fn first_word(len: u8, array: &[u8; FEW]) -> u64
+    requires array { length array.now ≡ 22 }
+    ensures { to_le_bytes w64 result ≡ len ∷ take 7 array.now }
+{
+    let [a, b, c, d, e, f, g, ..] = array;
+    word_of([len, *a, *b, *c, *d, *e, *f, *g])
 }
 
 // Whether the bytes of two arrays behind the first seven are the same.
@@ -771,7 +776,7 @@ fn same_rest(left: &[u8; FEW], right: &[u8; FEW]) -> bool
     requires right { length right.now ≡ 22 }
     ensures { result ≡ true → take 7 left.now ≡ take 7 right.now → take 22 left.now ≡ take 22 right.now }
 {
-    same_eight(left, right, 7) & same_eight(left, right, 14)
+    word_at(left, 7) == word_at(right, 7) && word_at(left, 14) == word_at(right, 14)
 }
 
 // Whether both are texts of few bytes of their own, and the same.
@@ -789,7 +794,7 @@ fn are_same_few(left: &Text, right: &Text) -> bool
     else {
         return false;
     };
-    if !same_start(len, other_len, array, others) {
+    if first_word(*len, array) != first_word(*other_len, others) {
         return false;
     }
     if *len <= 7 {
