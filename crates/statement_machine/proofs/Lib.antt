@@ -1,6 +1,5 @@
 pub mod Seeking
 pub mod Asked
-pub mod Second
 pub mod Singly
 pub mod Beginning
 pub mod Called
@@ -9,7 +8,6 @@ pub mod Deciding
 pub mod Evaluations
 pub mod Fetching
 pub mod Flowing
-pub mod Wholes
 pub mod Going
 pub mod Looping
 pub mod Joining
@@ -27,9 +25,4 @@ pub mod Named
 pub mod Printing
 pub mod Tests
 pub mod Placed
-pub mod Reckoning
-pub mod Weighing
-pub mod Concatenating
-pub mod Preparing
 pub mod AtOnce
-pub mod BaseCases

@@ -8,9 +8,4 @@ pub mod Calling
 pub mod Resuming
 pub use Rattle.world.specs.Answers
 pub mod Elements
-pub mod Forms
 pub mod Joined
-pub mod BaseCases
-pub mod KnownCalls
-pub mod Sums
-pub mod Prepared

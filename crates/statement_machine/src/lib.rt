@@ -12,10 +12,8 @@
 #![tactic(auto)]
 
 mod alone;
-mod base_cases;
 mod callers;
 mod calls;
-mod calls_at_once;
 mod elements;
 mod evaluating;
 mod failing;
@@ -27,14 +25,12 @@ mod joined_elements;
 mod joined_ends;
 mod joined_tests;
 mod joined_texts;
-mod known_calls;
 mod machine;
 mod making;
 mod matches;
 mod operators;
 mod patterns;
 mod predicates;
-mod prepared;
 mod resuming;
 mod run;
 mod slots;

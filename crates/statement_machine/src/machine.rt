@@ -14,7 +14,6 @@ ghost use Rattle.statement_machine.specs.Stopped.{IfRan, IfStop, ending_of, stat
 ghost use Rattle.unit_io.specs.Service.{Served};
 ghost use Rattle.statement_machine.specs.declared.status.Halt.{Halt as RustHalt};
 
-use crate::prepared::{Prepared, prepared_of};
 use crate::run::Run;
 use crate::status::Halt;
 use loader::Module;
@@ -31,7 +30,6 @@ pub struct Machine<'m, 'a> {
     program: &'m Module<'a>,
     form: Form,
     parts: Parts,
-    prepared: Vec<Option<Box<Prepared>>>,
     run: Run,
     halt: Option<Halt>,
 }
@@ -40,7 +38,6 @@ impl<'m, 'a> Model for Machine<'m, 'a> {
     ghost use Rattle.parts.specs.Parts.{IsParts};
     ghost use Rattle.segments.specs.Leading.{IsRunnable};
     ghost use Rattle.segments.specs.Segments.{IsForm};
-    ghost use Rattle.statement_machine.specs.Prepared.{ArePrepared};
     ghost use Rattle.statement_machine.specs.Runs.{MachineView, IsGoing, LacksNothing};
 
     ghost Value = { MachineView };
@@ -49,7 +46,6 @@ impl<'m, 'a> Model for Machine<'m, 'a> {
 
     ghost invariant = { λ m.
         IsRunnable m.program.now × IsGoing m.halt (LacksNothing m.program.now m.run)
-        × ArePrepared m.program.now m.prepared.items
         × IsForm m.program.now m.run.state.world.names m.form
         × IsParts m.program.now m.run.state.world.names m.parts };
 }
@@ -69,12 +65,10 @@ impl<'m, 'a> Machine<'m, 'a> {
         run.state.world.keep_slots()?;
         let form = form_of(alloc, program, &run.state.world)?;
         let parts = parts_of(alloc, program, &run.state.world)?;
-        let prepared = prepared_of(alloc, program)?;
         Ok(Machine {
             program,
             form,
             parts,
-            prepared,
             run,
             halt: None,
         })
@@ -100,12 +94,10 @@ impl<'m, 'a> Machine<'m, 'a> {
         if let Some(halt) = self.halt {
             return halt.status();
         }
-        let prepared = self.prepared.as_mut_slice();
         match self.run.make_steps(
             self.program,
             &mut self.form,
             &self.parts,
-            prepared,
             units,
             bound,
         ) {

@@ -17,7 +17,7 @@ invariant_of-result c =
     let ops = ap (λ (s : State). s.operands.top) rest ∙ c.in_ok-run.ensures.place.1 in
     let hs = ap (λ (s : State). s.handlers.top) rest ∙ c.in_ok-run.ensures.place.2 in
     let at = statement_begins im (runnable im c.start-place.ensures.loaded) im.entry c.start-place.result c.start-place.ensures.place in
-    (runnable im c.start-place.ensures.loaded, (rw e.1 tt, rw (e.0, e.1, place, ops, hs) (statement_stands im im.entry _ at)), c.in_ok-prepared.ensures, c.in_ok-form.ensures, c.in_ok-parts.ensures)
+    (runnable im c.start-place.ensures.loaded, (rw e.1 tt, rw (e.0, e.1, place, ops, hs) (statement_stands im im.entry _ at)), c.in_ok-form.ensures, c.in_ok-parts.ensures)
 
 pub returns-clause-begun : goal.returns-clause-begun
 returns-clause-begun c = λ io.

@@ -1,9 +1,8 @@
 use Rattle.std.proofs.Common.{sym, ap, ◌∙◌, subst}
 use Rattle.parts.specs.Parts.{IsParts}
 use Rattle.segments.specs.Segments.{IsForm}
-use Rattle.statement_machine.specs.Prepared.{ArePrepared}
 use Rattle.statement_machine.specs.Runs.{MachineView}
-use Rattle.statement_machine.proofs.Preparing.{goes_on, whole_again}
+use Rattle.statement_machine.proofs.Running.{goes_on}
 use Rattle.statement_machine.proofs.Seeing.{ran_on, ran_out, ran_same}
 use Rattle.statement_machine.proofs.Printing.{halt_prints}
 use Rattle.statement_machine.proofs.Asked.{halt_stops}
@@ -31,9 +30,8 @@ invariant_of-self g c =
     let im = it.program.now in (
       c.self.invariant.0,
       goes_on it.halt _ c.in-Ok.ensures.sound,
-      subst (ArePrepared im) (sym (whole_again it.prepared.items c.make_steps.new.prepared it.prepared.len (c.make_steps.ensures.prepared ∙ c.as_mut_slice-prepared.ensures.value) it.prepared.ok.0)) c.self.invariant.2,
       subst (λ ns. IsForm im ns c.make_steps.new.form) (sym c.make_steps.ensures.names) c.make_steps.ensures.form,
-      subst (λ ns. IsParts im ns it.parts) (sym c.make_steps.ensures.names) c.self.invariant.4,
+      subst (λ ns. IsParts im ns it.parts) (sym c.make_steps.ensures.names) c.self.invariant.3,
     )
 
 pub invariant_of-self-in-Err : goal.invariant_of-self-in-Err
@@ -42,9 +40,8 @@ invariant_of-self-in-Err g c =
     let im = it.program.now in (
       c.self.invariant.0,
       tt,
-      subst (ArePrepared im) (sym (whole_again it.prepared.items c.make_steps.new.prepared it.prepared.len (c.make_steps.ensures.prepared ∙ c.as_mut_slice-prepared.ensures.value) it.prepared.ok.0)) c.self.invariant.2,
       subst (λ ns. IsForm im ns c.make_steps.new.form) (sym c.make_steps.ensures.names) c.make_steps.ensures.form,
-      subst (λ ns. IsParts im ns it.parts) (sym c.make_steps.ensures.names) c.self.invariant.4,
+      subst (λ ns. IsParts im ns it.parts) (sym c.make_steps.ensures.names) c.self.invariant.3,
     )
 
 pub returns-in-Err-clause-stops : goal.returns-in-Err-clause-stops
