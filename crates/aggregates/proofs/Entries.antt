@@ -1,6 +1,6 @@
 -- Entries of a table as they are held.
-use Rattle.std.proofs.Common.{◌≡◌, ℕ, ℤ, zero, suc, ◌+◌, ◌*◌, List, [], ◌∷◌, ◌++◌, take, length, Option, Some, Bool, true, false, refl, ap, ◌∙◌, arith}
-use Rattle.std.specs.Prelude.{if◌then◌else◌, slice_get, int_le, ◌&&◌, bytes_eq}
+use Rattle.std.proofs.Common.{◌≡◌, ℕ, ℤ, zero, suc, ◌+◌, ◌*◌, List, [], ◌∷◌, ◌++◌, take, length, map, Option, Some, None, Bool, true, false, refl, ap, subst, ◌∙◌, arith, ◌<◌}
+use Rattle.std.specs.Prelude.{if◌then◌else◌, slice_get, option_map, int_le, ◌&&◌, bytes_eq}
 use Rattle.std.specs.Map.{lookup}
 use Rattle.std.proofs.lemmas.Slice.Eq.{bytes_eq-Decides}
 use Rattle.std.proofs.lemmas.Grind.{common_steps}
@@ -14,6 +14,7 @@ use Rattle.model.specs.Language.Aggregates.{row_count, rows}
 use Rattle.aggregates.specs.declared.place.Key as held
 use Rattle.aggregates.specs.declared.place.Key.TheVariants as k
 use Rattle.aggregates.specs.contracts.place.KeyPartialEq.TheImpl.{ghosts}
+use Rattle.aggregates.specs.Made.{StandBelow}
 use Rattle.aggregates.specs.Keys.{key_of, entries_of, value_at}
 use Rattle.aggregates.specs.Wanted.{is_wanted, wanted_key}
 use Rattle.aggregates.specs.declared.place.Wanted.{Wanted}
@@ -148,3 +149,24 @@ length-rows null value (e ∷ es) = by (null e.value) (length-rows null value es
         → length (if b then rows null value es else value e.key ∷ e.value ∷ rows null value es) ≡ (if b then row_count null es else row_count null es + 1) * 2
     by true h = h
     by false h = omega arith
+
+-- ---- values by where they stand
+
+module _ {V : Type 0} where
+  pub entries_long : (es : List (held.Key × V)) → length (map (λ e. e.value) (entries_of es)) ≡ length es
+  entries_long [] = refl
+  entries_long (e ∷ es) = ap suc (entries_long es)
+
+  -- the value of an entry that stands there
+  pub nth_value : (es : List (held.Key × V)) (i : ℕ) (e : held.Key × V) → slice_get es i ≡ Some e → slice_get (map (λ e. e.value) (entries_of es)) i ≡ Some e.1
+  nth_value [] i e h = absurd (cc)
+  nth_value (x ∷ es) zero e h = ap (option_map (λ y. y.1)) h
+  nth_value (x ∷ es) (suc i) e h = nth_value es i e h
+
+  pub nth_none : (es : List (held.Key × V)) (i : ℕ) → slice_get es i ≡ None → slice_get (map (λ e. e.value) (entries_of es)) i ≡ None
+  nth_none [] i h = refl
+  nth_none (x ∷ es) zero h = absurd (cc)
+  nth_none (x ∷ es) (suc i) h = nth_none es i h
+
+pub entries_stand : {V : Type 0} (es : List (held.Key × V)) → StandBelow (length es) (map (λ e. e.value) (entries_of es))
+entries_stand es k lt = (k, subst (λ n. k < n) (entries_long es) lt, refl)

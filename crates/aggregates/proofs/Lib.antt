@@ -1,6 +1,7 @@
 pub mod Lists
 pub mod Objects
-pub mod Marks
+pub mod Clearing
+pub mod Marking
 pub mod Counts
 pub mod Entries
 pub mod Indexes

@@ -1,9 +1,10 @@
 -- A list with another item.
 use Rattle.std.proofs.Common.{◌∙◌, append_assoc, subst, ◌-◌, Bool, true, false, Option, ◌≡◌, ℕ, zero, suc, ◌+◌, ◌<◌, ◌≤◌, List, [], ◌∷◌, ◌++◌, length, replicate, Some, None, refl, sym, ap, arith}
-use Rattle.std.specs.Prelude.{slice_set, Result, Ok, Err, OnErr}
-use Rattle.std.proofs.lemmas.List.{replicate-append-replicate}
+use Rattle.std.specs.Prelude.{slice_get, slice_set, Result, Ok, Err, OnErr}
+use Rattle.std.proofs.lemmas.List.{append-nil, length-replicate, replicate-append-replicate}
 use Rattle.model.specs.Language.Operators.{with_item, onto}
 use Rattle.aggregates.specs.Elements.{rest_of}
+use Rattle.aggregates.specs.Made.{StandBelow}
 use Rattle.aggregates.specs.Objects.{if_stored}
 
 pub with_item_past : {V : Type 0} (n : ℕ) (v : V) (xs : List V) → length xs ≤ n → with_item n v xs ≡ None
@@ -52,3 +53,31 @@ replicate_more n x = sym (replicate-append-replicate n 1 x)
 pub on_err : {A E : Type 0} {P : Type 0} (r : Result A E) → P → OnErr r P
 on_err (Ok a) p = tt
 on_err (Err e) p = p
+
+-- each value of a list stands below its length
+pub all_stand : {V : Type 0} (vs : List V) → StandBelow (length vs) vs
+all_stand vs k lt = (k, lt, refl)
+
+replicate_at : {V : Type 0} (n k : ℕ) (v : V) → k < n → slice_get (replicate n v) k ≡ Some v
+replicate_at zero k v lt = absurd (omega arith)
+replicate_at (suc n) zero v lt = refl
+replicate_at (suc n) (suc k) v lt = replicate_at n k v (omega arith)
+
+rest_stand : {V : Type 0} (ws : List V) (v : V) (n : ℕ) → StandBelow (length ws + 1) (ws ++ replicate n v)
+rest_stand [] v zero k lt = absurd (omega arith)
+rest_stand [] v (suc n) k lt = (0, omega arith, sym (replicate_at (suc n) k v (subst (λ m. k < m) (length-replicate (suc n) v) lt)))
+rest_stand (x ∷ ws) v n zero lt = (0, omega arith, refl)
+rest_stand (x ∷ ws) v n (suc k) lt = let h = rest_stand ws v n k (omega arith) in (suc h.0, omega (arith, h.1), h.2)
+
+-- of elements that aren't written one stands behind those that are
+pub unwritten_stand : {V : Type 0} (ws : List V) (o : Option V) (n : ℕ) → StandBelow (length ws + 1) (ws ++ rest_of o n)
+unwritten_stand ws None n k lt = (k, (let le : k < length ws = subst (λ vs. k < length vs) (append-nil ws) lt in omega arith), refl)
+unwritten_stand ws (Some v) n k lt = rest_stand ws v n k lt
+
+all_written : {V : Type 0} (ws : List V) (o : Option V) (n : ℕ) → n ≡ 0 → ws ++ rest_of o n ≡ ws
+all_written ws None n e = append-nil ws
+all_written ws (Some v) n e = ap (λ m. ws ++ replicate m v) e ∙ append-nil ws
+
+-- and none where all are
+pub written_stand : {V : Type 0} (ws : List V) (o : Option V) (n : ℕ) → n ≡ 0 → StandBelow (length ws) (ws ++ rest_of o n)
+written_stand {V} ws o n none = subst (λ (vs : List V). StandBelow (length ws) vs) (sym (all_written ws o n none)) (all_stand ws)

@@ -3,4 +3,5 @@ pub mod Elements
 pub mod Keys
 pub mod Objects
 pub mod Made
+pub mod Marked
 pub mod Wanted

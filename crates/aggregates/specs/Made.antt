@@ -1,5 +1,5 @@
 -- Objects as they are held, and as the definitions see them; and those that calls make.
-use Rattle.std.specs.Prelude.{ℕ, zero, suc, true, slice_index_or, List, [], ◌∷◌, ◌++◌, length, map, replicate, Option, Some, None, Bool, if◌then◌else◌}
+use Rattle.std.specs.Prelude.{◌≡◌, ◌<◌, slice_get, ℕ, zero, suc, true, slice_index_or, List, [], ◌∷◌, ◌++◌, length, map, replicate, Option, Some, None, Bool, if◌then◌else◌}
 use Rattle.model.specs.Language.Values.{Key, Bounds, Object, ArrayOf, TableOf, RecordOf}
 use Rattle.model.specs.Language.Prototypes.{elements_in, are_bounds}
 use Rattle.model.specs.Language.Aggregates.{row_count}
@@ -22,6 +22,21 @@ module _ {V : Type 0} where
   kind_of (ArrayOf bs vs) = kind.Array
   kind_of (TableOf es) = kind.Table
   kind_of (RecordOf t fs vs) = kind.Record
+
+  -- ---- what they hold
+
+  abbrev pub values_of : Object V → List V
+  values_of (ArrayOf bs vs) = vs
+  values_of (TableOf es) = map (λ e. e.value) es
+  values_of (RecordOf t fs vs) = vs
+
+  -- each of these values stands below a place
+  abbrev pub StandBelow : ℕ → List V → Type 0
+  StandBelow n vs = (k : ℕ) → k < length vs → (j : ℕ) × (j < n) × (slice_get vs j ≡ slice_get vs k)
+
+  abbrev pub values_in : Option (Object V) → List V
+  values_in None = []
+  values_in (Some o) = values_of o
 
   -- ---- what calls make, if they make it
 

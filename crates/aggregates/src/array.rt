@@ -5,6 +5,7 @@ ghost use Rattle.std.specs.Option.{option_copied};
 ghost use Rattle.model.specs.Language.Aggregates.{place_from};
 ghost use Rattle.model.specs.Language.Prototypes.{elements_in};
 ghost use Rattle.model.specs.Language.Operators.{with_item};
+ghost use Rattle.aggregates.specs.Made.{StandBelow};
 ghost use Rattle.aggregates.specs.Objects.{if_stored};
 
 use crate::bounds::{Bounds, place_of, place_of_one};
@@ -81,6 +82,20 @@ impl<V: Element> Array<V> {
         ensures { option_copied result ≡ slice_get self.now.1 place }
     {
         self.elements.get(place)
+    }
+
+    /// How many elements it has.
+    pub(crate) fn size(&self) -> usize
+        ensures { result ≡ length self.now.1 }
+    {
+        self.elements.len()
+    }
+
+    /// Below which place each element stands.
+    pub(crate) fn held(&self) -> usize
+        ensures { StandBelow result self.now.1 }
+    {
+        self.elements.held()
     }
 
     /// How many dimensions it has.

@@ -1,9 +1,10 @@
 //! The elements of an array. Those at the end, in whose place none was ever stored, aren't written.
 
-ghost use Rattle.std.specs.Prelude.{◌≡◌, ◌<◌, ◌≤◌, IfOk, OnOk, OnErr, Some, replicate, slice_get, length, true, false};
+ghost use Rattle.std.specs.Prelude.{◌≡◌, ◌<◌, ◌≤◌, ◌^◌, IfOk, OnOk, OnErr, Some, replicate, slice_get, length, true, false};
 ghost use Rattle.std.specs.Option.{option_copied};
 ghost use Rattle.model.specs.Language.Operators.{with_item};
 ghost use Rattle.aggregates.specs.Elements.{all_of};
+ghost use Rattle.aggregates.specs.Made.{StandBelow};
 ghost use Rattle.aggregates.specs.Objects.{if_stored};
 
 use crate::element::Element;
@@ -83,6 +84,30 @@ impl<V: Element> Elements<V> {
             self.rest.as_ref()
         } else {
             None
+        }
+    }
+
+    /// How many there are.
+    pub(crate) fn len(&self) -> usize
+        requires { length (all_of self.now) < 2 ^ 63 }
+        ensures { result ≡ length (all_of self.now) }
+    {
+        match &self.rest {
+            Some(_) => self.written.len() + self.unwritten,
+            None => self.written.len(),
+        }
+    }
+
+    /// Below which place each of them stands: all that aren't written are the same.
+    #[tactic(auto, using(crate::proofs::Lists::written_stand, crate::proofs::Lists::unwritten_stand))]
+    pub(crate) fn held(&self) -> usize
+        requires { length (all_of self.now) < 2 ^ 63 }
+        ensures { StandBelow result (all_of self.now) }
+    {
+        if self.unwritten == 0 {
+            self.written.len()
+        } else {
+            self.written.len() + 1
         }
     }
 

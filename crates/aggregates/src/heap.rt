@@ -11,7 +11,7 @@ ghost use Rattle.aggregates.specs.Keys.{key_of};
 ghost use Rattle.aggregates.specs.Objects.{held_at, stored_at, put_at, if_stored, place_in};
 ghost use Rattle.aggregates.specs.Objects.{index_in, value_in};
 ghost use Rattle.aggregates.specs.Objects.{dimensions_in, field_in, record_type};
-ghost use Rattle.aggregates.specs.Made.{kind_of, filled, copied, rows_in, rows_array, number, with_object, object_of, marked_by};
+ghost use Rattle.aggregates.specs.Made.{kind_of, filled, copied, rows_in, rows_array, number, with_object, object_of, marked_by, values_in, StandBelow};
 ghost use Rattle.model.specs.Machine.Living.{cleared};
 
 use crate::array::Array;
@@ -50,6 +50,43 @@ impl<V: Element> Heap<V> {
         Heap {
             objects: Vec::new(alloc),
         }
+    }
+
+    /// How many objects there are.
+    #[tactic(auto, using(crate::proofs::Objects::objects_length))]
+    pub fn count(&self) -> usize
+        ensures { result ≡ length self.now }
+    {
+        self.objects.len()
+    }
+
+    /// How many values an object holds.
+    pub fn size(&self, object: usize) -> usize
+        ensures { result ≡ length (values_in (slice_get self.now object)) }
+    {
+        match self.object(object) {
+            Some(object) => object.size(),
+            None => 0,
+        }
+    }
+
+    /// Below which place each value stands that an object holds.
+    pub fn held(&self, object: usize) -> usize
+        ensures { StandBelow result (values_in (slice_get self.now object)) }
+    {
+        match self.object(object) {
+            Some(object) => object.held(),
+            None => 0,
+        }
+    }
+
+    /// One of the values that an object holds: of an array's elements, a table's values in the order of its keys, or a
+    /// record's. Takes no memory.
+    #[inline(always)]
+    pub fn value(&self, object: usize, index: usize) -> Option<&V>
+        ensures { option_copied result ≡ slice_get (values_in (slice_get self.now object)) index }
+    {
+        self.object(object)?.value(index)
     }
 
     /// Which kind of object has this number, if there is one.

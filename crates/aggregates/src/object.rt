@@ -1,13 +1,13 @@
 //! An object: an array, a table or a record.
 
-ghost use Rattle.std.specs.Prelude.{◌≡◌, [], Some, IfOk, OnErr, true, false};
+ghost use Rattle.std.specs.Prelude.{◌≡◌, [], Some, IfOk, OnErr, true, false, length, slice_get};
 ghost use Rattle.std.specs.Option.{option_copied};
 ghost use Rattle.model.specs.Language.Aggregates.{index_of};
 ghost use Rattle.model.specs.Language.Operators.{with_element, with_value_for};
 ghost use Rattle.model.specs.Language.Values as values;
 ghost use Rattle.aggregates.specs.Keys.{key_of};
 ghost use Rattle.aggregates.specs.Objects.{held_at, stored_at, if_stored, index_in, value_in};
-ghost use Rattle.aggregates.specs.Made.{object_of, kind_of};
+ghost use Rattle.aggregates.specs.Made.{object_of, kind_of, values_of, StandBelow};
 
 use crate::array::Array;
 use crate::element::Element;
@@ -49,6 +49,40 @@ impl<V: Element> Object<V> {
         ensures { object_of self.new ≡ values.TableOf [] }
     {
         *self = Object::Table(Table::new(alloc));
+    }
+
+    /// How many values it holds.
+    pub(crate) fn size(&self) -> usize
+        ensures { result ≡ length (values_of (object_of self.now)) }
+    {
+        match self {
+            Object::Array(array) => array.size(),
+            Object::Table(table) => table.len(),
+            Object::Record(record) => record.values.len(),
+        }
+    }
+
+    /// Below which place each value stands that it holds: of an array's elements that aren't written one does.
+    pub(crate) fn held(&self) -> usize
+        ensures { StandBelow result (values_of (object_of self.now)) }
+    {
+        match self {
+            Object::Array(array) => array.held(),
+            Object::Table(table) => table.held(),
+            Object::Record(record) => count_of(record.values.as_slice()),
+        }
+    }
+
+    /// One of the values that it holds. Takes no memory.
+    #[inline(always)]
+    pub(crate) fn value(&self, index: usize) -> Option<&V>
+        ensures { option_copied result ≡ slice_get (values_of (object_of self.now)) index }
+    {
+        match self {
+            Object::Array(array) => array.get(index),
+            Object::Table(table) => table.nth(index),
+            Object::Record(record) => record.values.get(index),
+        }
     }
 
     /// Which kind it is.
@@ -159,6 +193,14 @@ impl<V: Element> Object<V> {
             _ => Ok(false),
         }
     }
+}
+
+// How many values there are: each stands below that.
+#[tactic(auto, using(crate::proofs::Lists::all_stand))]
+fn count_of<V>(values: &[V]) -> usize
+    ensures { StandBelow result values.now }
+{
+    values.len()
 }
 
 /// Where a name stands among the names of fields.

@@ -1,11 +1,12 @@
 //! A table: values for keys, in the order in which the keys were first assigned.
 
-ghost use Rattle.std.specs.Prelude.{◌≡◌, ◌<◌, ◌^◌, [], Some, IfOk, OnOk, OnErr, false};
+ghost use Rattle.std.specs.Prelude.{◌≡◌, ◌<◌, ◌^◌, [], Some, IfOk, OnOk, OnErr, false, length, map, slice_get};
 ghost use Rattle.std.specs.Option.{option_copied};
 ghost use Rattle.model.specs.Language.Operators.{with_entry};
 ghost use Rattle.model.specs.Language.Values as values;
 ghost use Rattle.model.specs.Language.Aggregates.{row_count, rows, pairs};
 ghost use Rattle.aggregates.specs.Keys.{index_at, key_of, value_at, table_rows};
+ghost use Rattle.aggregates.specs.Made.{StandBelow};
 ghost use Rattle.aggregates.specs.Objects.{if_stored};
 
 use crate::array::Array;
@@ -77,6 +78,33 @@ impl<V: Element> Table<V> {
             return None;
         };
         Some(value)
+    }
+
+    /// The value of the entry that stands at an index, if one does. Takes no memory.
+    #[inline(always)]
+    pub(crate) fn nth(&self, index: usize) -> Option<&V>
+        ensures { option_copied result ≡ slice_get (map (λ e. e.value) self.now) index }
+    {
+        let Some((_key, value)) = self.values.get_index(index) else {
+            return None;
+        };
+        Some(value)
+    }
+
+    /// How many entries there are.
+    #[tactic(auto, using(crate::proofs::Entries::entries_long))]
+    pub(crate) fn len(&self) -> usize
+        ensures { result ≡ length (map (λ e. e.value) self.now) }
+    {
+        self.values.len()
+    }
+
+    /// Below which place each value stands.
+    #[tactic(auto, using(crate::proofs::Entries::entries_stand))]
+    pub(crate) fn held(&self) -> usize
+        ensures { StandBelow result (map (λ e. e.value) self.now) }
+    {
+        self.values.len()
     }
 
     /// Another value in the entry that stands at an index, if one stands there.

@@ -1,3 +1,4 @@
 pub mod Matches
 pub mod Stacks
+pub mod Reaching
 pub mod Counts

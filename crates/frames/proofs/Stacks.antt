@@ -33,6 +33,10 @@ take_on (suc f) (y ∷ ys) x le = ap (λ l. y ∷ l) (take_on f ys x (omega (ari
 pub put_on : {T : Type 0} (f : ℕ) (xs : List T) (x : T) → f ≤ length xs → parted f (xs ++ x ∷ []) ≡ record { top = x ∷ (parted f xs).top; under = (parted f xs).under }
 put_on f xs x le = rw (drop_on f xs x le, take_on f xs x le, reverse-append (drop f xs) (x ∷ [])) refl
 
+-- all of them
+pub all_of : {T : Type 0} (f : ℕ) (xs : List T) → reverse xs ≡ (parted f xs).top ++ (parted f xs).under
+all_of f xs = ap reverse (sym (take-append-drop f xs)) ∙ reverse-append (take f xs) (drop f xs)
+
 from_last : {T : Type 0} (xs : List T) → 0 < length xs → (ys : List T) × (y : T) × (xs ≡ ys ++ y ∷ [])
 from_last [] lt = absurd (omega (arith, lt))
 from_last (x ∷ []) lt = ([], x, refl)

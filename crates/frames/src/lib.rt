@@ -16,6 +16,7 @@ mod answering;
 mod frame;
 mod handler;
 mod literal;
+mod marking;
 mod matching;
 mod operand;
 mod stack;
@@ -23,6 +24,7 @@ mod stack;
 pub use answering::answer_of;
 pub use frame::{Frame, Waiting};
 pub use handler::{Caught, Handler, fail, pop_begin, pop_try};
+pub use marking::{are_calls, mark_operands};
 pub use matching::Matching;
 pub use operand::{
     Named, Operand, pop_name, pop_span, pop_value, pop_values, replace_integers, top_name,

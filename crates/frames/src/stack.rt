@@ -1,6 +1,6 @@
 //! A stack, which contracts see newest first.
 
-ghost use Rattle.std.specs.Prelude.{◌≡◌, ◌==◌, ◌<◌, ◌-◌, [], ◌∷◌, ◌++◌, length, take, drop, OnOk, OnErr};
+ghost use Rattle.std.specs.Prelude.{◌≡◌, ◌==◌, ◌<◌, ◌-◌, [], ◌∷◌, ◌++◌, length, take, drop, reverse, OnOk, OnErr};
 ghost use Rattle.std.specs.Prelude.{Some, option_copied, slice_get};
 
 use std::alloc::{AllocError, Global};
@@ -116,6 +116,14 @@ impl<T: Drop> Stack<T> {
         } else {
             None
         }
+    }
+
+    /// All of them, the oldest first.
+    #[tactic(auto, using(crate::proofs::Stacks::all_of))]
+    pub fn as_slice(&self) -> &[T]
+        ensures { reverse result.now ≡ self.now.top ++ self.now.under }
+    {
+        self.items.as_slice()
     }
 
     /// How many there are, of the code that runs.

@@ -1,5 +1,5 @@
 -- Patterns as values have them, as the definitions see them.
-use Rattle.std.specs.Prelude.{[], ◌∷◌}
+use Rattle.std.specs.Prelude.{◌≡◌, [], ◌∷◌}
 use Rattle.model.specs.Pattern.Patterns as p
 use Rattle.model.specs.Pattern.Steps.{Code}
 use Rattle.pattern_compiler.specs.declared.pattern.Counted.{Counted}
@@ -21,3 +21,7 @@ form_code (form.Long w) = p.Do (p.Lit w) ∷ []
 form_code (form.Counted k) = p.Do (counted_of k) ∷ []
 form_code (form.Break w) = p.Do (p.Break w) ∷ []
 form_code (form.Code c) = c
+
+-- one part without parts and without effect
+abbrev pub IsPart : Code → Type 0
+IsPart c = (b : p.Basic) × (c ≡ p.Do b ∷ [])

@@ -1,11 +1,11 @@
 //! Patterns as values have them.
 
-ghost use Rattle.std.specs.Prelude.{◌≡◌, ◌<◌, ◌^◌, [], ◌∷◌, ◌++◌, ℕ, Option, IfOk, IfSome, OnOk, MatchResult, length};
+ghost use Rattle.std.specs.Prelude.{◌≡◌, ◌<◌, ◌^◌, [], ◌∷◌, ◌++◌, ℕ, Option, IfOk, IfSome, OnOk, MatchOption, MatchResult, length};
 ghost use Rattle.model.specs.Pattern.Patterns as pattern;
 ghost use Rattle.model.specs.Pattern.Code.{basic_code};
 ghost use Rattle.model.specs.Pattern.Stands.{Stands};
 ghost use Rattle.model.specs.Deck.Trees.{Expr};
-ghost use Rattle.pattern_compiler.specs.Forms.{counted_of};
+ghost use Rattle.pattern_compiler.specs.Forms.{counted_of, IsPart};
 ghost use Rattle.pattern_compiler.specs.View.{basic_of, instr_of, code_of};
 
 use crate::code::PatCode;
@@ -99,6 +99,17 @@ impl Pattern {
         match &self.form {
             Form::Code(code) => Some(code),
             _ => None,
+        }
+    }
+
+    /// The code of a pattern that is kept as code; any other is one part without parts and without effect. Takes no
+    /// memory.
+    pub fn code_or_part(&self) -> Option<&PatCode>
+        ensures { MatchOption result (IsPart self.now) (λ code. code.now ≡ self.now) }
+    {
+        match &self.form {
+            Form::Code(code) => Some(code),
+            Form::Lit(_) | Form::Long(_) | Form::Counted(_) | Form::Break(_) => None,
         }
     }
 

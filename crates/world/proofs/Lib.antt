@@ -7,6 +7,7 @@ pub mod Keywords
 pub mod Telling
 pub mod UnitCalls
 pub mod Objects
+pub mod Reaching
 pub mod Passing
 pub mod Tables
 pub mod Saving

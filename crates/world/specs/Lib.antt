@@ -1,5 +1,6 @@
 pub mod Values
 pub mod Objects
+pub mod Marking
 pub mod Answers
 pub mod Held
 pub mod Counts

@@ -166,7 +166,7 @@ impl Variable {
 
 /// What a run holds besides what stands on its units.
 pub struct World {
-    variables: IndexMap<Text, Variable>,
+    pub(crate) variables: IndexMap<Text, Variable>,
     pub(crate) heap: Heap<Value>,
     pub(crate) functions: FunctionTable,
     pub(crate) keywords: Keywords,

@@ -2,7 +2,7 @@ use Rattle.std.proofs.Common.{◌≡◌, ◌≤◌, length, refl, sym, ap, ◌�
 use Rattle.model.specs.Machine.Living.{cleared}
 use Rattle.aggregates.specs.Made.{objects_of, marked_by}
 use Rattle.aggregates.proofs.Objects.{objects_length}
-use Rattle.aggregates.proofs.Marks.{none_cleared, all_cleared, kept_on, cleared_on, set_length, mark_at, mark_past}
+use Rattle.aggregates.proofs.Clearing.{none_cleared, all_cleared, kept_on, cleared_on, set_length, mark_at, mark_past}
 use Rattle.aggregates.proofs.heap.Heap.clear.Goals as goal
 use Rattle.aggregates.proofs.heap.Heap.clear.Goals.{then-i-marks+then-not-marks-i, else-i-marks, else-i-marks-via-then-i-marks+else-not-marks-i, else-i-marks-via-else-i-marks}
 
