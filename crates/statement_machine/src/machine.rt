@@ -94,13 +94,10 @@ impl<'m, 'a> Machine<'m, 'a> {
         if let Some(halt) = self.halt {
             return halt.status();
         }
-        match self.run.make_steps(
-            self.program,
-            &mut self.form,
-            &self.parts,
-            units,
-            bound,
-        ) {
+        match self
+            .run
+            .make_steps(self.program, &mut self.form, &self.parts, units, bound)
+        {
             Ok(()) => Status::Running,
             Err(halt) => {
                 self.halt = Some(halt);
