@@ -14,7 +14,7 @@ use Rattle.match_machine.specs.declared.trail.Entry.{Entry}
 use Rattle.match_machine.specs.Choices.{Choice}
 use Rattle.match_machine.specs.declared.state.Kept.{Kept}
 use Rattle.match_machine.specs.declared.state.Kept.TheVariants as kept
-use Rattle.match_machine.specs.Standing.{Back, Standing, IsAtArb, no_backs, older, oldest, top_notes}
+use Rattle.match_machine.specs.Standing.{Back, Standing, IsAtArb, no_backs, older, oldest}
 use Rattle.match_machine.specs.Logs.{note_of, pending_of, chain, entry_at, below_of, last_code, Logs, cut, back_of, backs, Marks, LeavesAll}
 
 -- ---- lists of notes
@@ -221,14 +221,6 @@ at_arb l xs x e st h k n c b = go (last_is xs x h)
         let t : s.Thread = (back_of (cut l x) x).thread in
         let bs : List Back = backs (cut l x) ys in
         (t, bs, b ∙ ap (backs l) q ∙ ap (λ (y : Kept). let all : List Back = record { kept = y; thread = t } ∷ bs in all) k, refl, ap last_code (take_all x.codes l.codes n) ∙ c)
-
--- the notes of the newest choice, where the log is whole
-pub notes_at_back : (l : Logs) (xs : List Choice) (x : Choice) → slice_get xs (length xs - 1) ≡ Some x → length l.log ≤ x.log → top_notes (backs l (reverse xs)) ≡ chain (reverse l.log) x.head
-notes_at_back l xs x h n = go (last_is xs x h)
-  where
-    go : (ys : List Choice) × (reverse xs ≡ x ∷ ys) → top_notes (backs l (reverse xs)) ≡ chain (reverse l.log) x.head
-    go (ys, q) =
-        ap (λ (zs : List Choice). top_notes (backs l zs)) q ∙ ap (λ (es : List Entry). chain (reverse es) x.head) (take_all x.log l.log n)
 
 -- ---- the oldest choices
 -- the marks of older choices are those of the whole logs too

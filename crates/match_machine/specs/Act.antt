@@ -4,12 +4,9 @@ use Rattle.model.specs.Deck.Target as target
 use Rattle.model.specs.Pattern.Patterns as p
 use Rattle.model.specs.Pattern.Steps as s
 use Rattle.model.specs.Pattern.Steps.{onward, Moves}
-use Rattle.pattern_compiler.specs.View.{name_of}
 use Rattle.match_machine.specs.declared.act.Act.{Act}
 use Rattle.match_machine.specs.declared.act.Act.TheVariants as act
-use Rattle.match_machine.specs.declared.act.Named.{Named}
-use Rattle.match_machine.specs.declared.act.Named.TheVariants as named
-use Rattle.match_machine.specs.View.{kept_of, waiting_of}
+use Rattle.match_machine.specs.View.{kept_of}
 
 -- on the subject u, for the attempt t
 abbrev pub act_of : List ℕ → s.Thread → Act → s.Act
@@ -21,10 +18,6 @@ act_of u t act.Aborts = s.Aborts
 act_of u t act.Opens = s.pattern_act u (Some p.Open) t
 act_of u t act.OpensFence = s.pattern_act u (Some p.OpenFence) t
 act_of u t act.ClosesFence = s.pattern_act u (Some p.CloseFence) t
-
-abbrev pub named_of : List ℕ → s.Thread → Named → s.Act
-named_of u t (named.Tells x) = s.pattern_act u (Some (p.AtCursor (name_of x))) t
-named_of u t (named.Asks w) = s.Asking (waiting_of w) t
 
 -- an assignment of what stands since OPEN, at once or after the match
 abbrev pub assigning : Bool → target.Name → p.Instr

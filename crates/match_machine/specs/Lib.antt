@@ -10,3 +10,5 @@ pub mod Balance
 pub mod Act
 pub mod Again
 pub mod Straight
+pub mod Looks
+pub mod Filters

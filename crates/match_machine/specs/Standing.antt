@@ -2,6 +2,7 @@
 use Rattle.std.specs.Prelude.{◌≡◌, ℕ, ◌-◌, List, [], ◌∷◌, length, drop, Option, Some, None, Bool, true, false}
 use Rattle.model.specs.Pattern.Patterns.{Pending}
 use Rattle.model.specs.Pattern.Steps as s
+use Rattle.match_machine.specs.Choices.{Choice}
 use Rattle.match_machine.specs.declared.state.Kept.{Kept}
 use Rattle.match_machine.specs.declared.state.Kept.TheVariants as kept
 
@@ -16,6 +17,16 @@ pub record Standing : Type 0 where
   pub notes : List s.Note
   pub pending : Pending
   pub backs : List Back
+
+-- with a choice more, of an attempt at the place q and the cursor c
+abbrev pub with_choice : Standing → Kept → (q c : ℕ) → Standing
+with_choice x k q c =
+    record x { backs = record { kept = k; thread = record { code = x.code; place = q; cursor = c; notes = x.notes; pending = x.pending } } ∷ x.backs }
+
+-- back from one to another, at its newest choice
+abbrev pub IsBackTo : Standing → Standing → Choice → Type 0
+IsBackTo old new x =
+    old.backs ≡ record { kept = x.kept; thread = record { code = new.code; place = x.place; cursor = x.cursor; notes = new.notes; pending = new.pending } } ∷ new.backs
 
 abbrev pub no_backs : List Back → Bool
 no_backs [] = true
@@ -47,15 +58,6 @@ older (x ∷ xs) = xs
 -- the newest note is that of OPEN
 abbrev pub IsOpen : Standing → Type 0
 IsOpen st = (b : ℕ) × (ns : List s.Note) × (st.notes ≡ s.Opened b ∷ ns)
-
--- the notes of the newest choice
-abbrev pub top_notes : List Back → List s.Note
-top_notes [] = []
-top_notes (x ∷ xs) = x.thread.notes
-
--- the newest of them is that of OPEN
-abbrev pub IsOpenAtBack : Standing → Type 0
-IsOpenAtBack st = (b : ℕ) × (ns : List s.Note) × (top_notes st.backs ≡ s.Opened b ∷ ns)
 
 -- the newest is that of an entered pattern
 abbrev pub inside : List s.Note → Bool

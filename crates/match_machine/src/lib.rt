@@ -14,13 +14,14 @@
 mod act;
 mod again;
 mod answers;
-mod arbs;
 mod choice;
 mod ends;
 mod event;
 mod falls;
 mod glide;
+mod look;
 mod matcher;
+mod prefilter;
 mod run;
 mod search;
 mod starts;

@@ -6,8 +6,8 @@ ghost use Rattle.std.specs.Prelude.{if◌then◌else◌};
 ghost use Rattle.model.specs.Pattern.Steps as s;
 ghost use Rattle.model.specs.Pattern.Steps.{Code};
 ghost use Rattle.model.specs.Pattern.Patterns.{Pending};
-ghost use Rattle.match_machine.specs.Standing.{Standing, Back, inside, opened, unopened, fenced};
-ghost use Rattle.match_machine.specs.Standing.{unfenced, no_backs, oldest, older, IsAtArb, IsOpen, IsOpenAtBack, from_kept};
+ghost use Rattle.match_machine.specs.Standing.{Standing, IsBackTo, inside, opened, unopened, fenced, with_choice};
+ghost use Rattle.match_machine.specs.Standing.{unfenced, no_backs, oldest, older, IsAtArb, IsOpen, from_kept};
 ghost use Rattle.match_machine.specs.Logs.{assigned, pending_of, note_of, chain, entry_at, below_of, last_code};
 ghost use Rattle.match_machine.specs.Logs.{LeavesAll};
 ghost use Rattle.match_machine.specs.Turns.{IsRetried, IsRewound};
@@ -327,19 +327,7 @@ impl Trail {
     /// Keeps a choice. Takes memory only where a log has to grow.
     #[inline(always)]
     pub fn keep(&mut self, kept: Kept, place: usize, cursor: usize) -> Result<(), AllocError>
-        ensures { OnOk result
-            (self.new ≡ record self.old {
-              backs = record {
-                kept = kept;
-                thread = record {
-                  code = self.old.code;
-                  place = place;
-                  cursor = cursor;
-                  notes = self.old.notes;
-                  pending = self.old.pending;
-                };
-              } ∷ self.old.backs;
-            }) }
+        ensures { OnOk result (self.new ≡ with_choice self.old kept place cursor) }
     {
         if !self.stored {
             self.store_code()?;
@@ -360,19 +348,7 @@ impl Trail {
     /// Keeps a choice, by the shorter way where the code is stored.
     #[inline(always)]
     fn keep_stored(&mut self, kept: Kept, place: usize, cursor: usize) -> Result<(), AllocError>
-        ensures { OnOk result
-            (self.new ≡ record self.old {
-              backs = record {
-                kept = kept;
-                thread = record {
-                  code = self.old.code;
-                  place = place;
-                  cursor = cursor;
-                  notes = self.old.notes;
-                  pending = self.old.pending;
-                };
-              } ∷ self.old.backs;
-            }) }
+        ensures { OnOk result (self.new ≡ with_choice self.old kept place cursor) }
     {
         let (count, room) = (self.choices.len(), self.choices.capacity());
         if !self.stored || count >= room {
@@ -393,19 +369,7 @@ impl Trail {
     #[cold]
     #[inline(never)]
     fn keep_growing(&mut self, kept: Kept, place: usize, cursor: usize) -> Result<(), AllocError>
-        ensures { OnOk result
-            (self.new ≡ record self.old {
-              backs = record {
-                kept = kept;
-                thread = record {
-                  code = self.old.code;
-                  place = place;
-                  cursor = cursor;
-                  notes = self.old.notes;
-                  pending = self.old.pending;
-                };
-              } ∷ self.old.backs;
-            }) }
+        ensures { OnOk result (self.new ≡ with_choice self.old kept place cursor) }
     {
         store(&self.code, self.stored, &mut self.codes)?;
         self.stored = true;
@@ -435,19 +399,6 @@ impl Trail {
                 }
             }
             _ => None,
-        }
-    }
-
-    /// Whether the newest note of the newest choice is that of OPEN, where no note was added since.
-    pub fn is_open_at_back(&self) -> bool
-        ensures { result ≡ true → IsOpenAtBack self.now }
-    {
-        match self.choices.last() {
-            Some(choice) => {
-                let marks = choice.marks();
-                self.log.len() <= marks.log && is_opened_at(self.log.as_slice(), marks.head)
-            }
-            None => false,
         }
     }
 
@@ -545,18 +496,7 @@ impl Trail {
     /// Back to the newest choice, if there is one.
     #[inline(always)]
     pub fn back(&mut self) -> Result<Option<Choice>, AllocError>
-        ensures { IfOk result (λ o.
-            MatchOption o (self.old.backs ≡ []) (λ x.
-            self.old.backs ≡ record {
-              kept = x.kept;
-              thread = record {
-                code = self.new.code;
-                place = x.place;
-                cursor = x.cursor;
-                notes = self.new.notes;
-                pending = self.new.pending;
-              };
-            } ∷ self.new.backs)) }
+        ensures { IfOk result (λ o. MatchOption o (self.old.backs ≡ []) (λ x. IsBackTo self.old self.new x)) }
     {
         let choices = self.choices.as_slice();
         let (log, pending, codes) = (self.log.len(), self.pending.len(), self.codes.len());
@@ -575,18 +515,7 @@ impl Trail {
     /// The same, where a log may have to be cut. Apart, so that the other way is short.
     #[inline(never)]
     fn back_cutting(&mut self) -> Result<Option<Choice>, AllocError>
-        ensures { IfOk result (λ o.
-            MatchOption o (self.old.backs ≡ []) (λ x.
-            self.old.backs ≡ record {
-              kept = x.kept;
-              thread = record {
-                code = self.new.code;
-                place = x.place;
-                cursor = x.cursor;
-                notes = self.new.notes;
-                pending = self.new.pending;
-              };
-            } ∷ self.new.backs)) }
+        ensures { IfOk result (λ o. MatchOption o (self.old.backs ≡ []) (λ x. IsBackTo self.old self.new x)) }
     {
         match self.choices.pop() {
             Some(choice) => {
