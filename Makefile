@@ -34,7 +34,7 @@ SNOBOL_SOURCES := $(shell find crates.txt $(wildcard $(call PARTS,snobol)) 2>/de
 LISTER_SOURCES := $(shell find crates.txt $(wildcard $(call PARTS,sno_list)) 2>/dev/null)
 PAGE_SOURCES := $(shell find crates.txt $(wildcard $(call PARTS,page)) 2>/dev/null)
 
-.PHONY: help run try sno snobol list install deb uninstall release test decks coverage pages bound ways batch load refuse failing damage deep wrong time check bench compare variants random fmt clean page site browse toolchain program deck input
+.PHONY: help run try sno snobol list install deb uninstall release test decks coverage collecting pages bound ways batch load refuse failing damage deep wrong time check bench compare variants random fmt clean page site browse toolchain program deck input
 .DEFAULT_GOAL := help
 
 help: ## list the targets
@@ -131,6 +131,9 @@ decks: build/sno build/snobol ## the decks and commands of tests/ alone, on the 
 
 coverage: toolchain ## which ways of the machine the decks of tests/ take; nothing is proved, in some two minutes
 	@tools/counted $(COUNTED) && tests/run --coverage $(COUNTED)
+
+collecting: toolchain ## all decks of tests/ on a program that gives objects back at each step; nothing is proved
+	@tools/collecting build/collecting/sno && tests/run build/collecting/sno
 
 pages: build/sno build/sno_list build/snobol ## what the pages name and show, on the proved programs
 	@tests/docs build/sno build/sno_list build/snobol

@@ -168,5 +168,9 @@ module _ {V : Type 0} where
   nth_none (x ∷ es) zero h = absurd (cc)
   nth_none (x ∷ es) (suc i) h = nth_none es i h
 
+pub no_values : {V : Type 0} (es : List (Entry V)) → length (map (λ e. e.value) es) ≡ 0 → es ≡ []
+no_values [] h = refl
+no_values (e ∷ es) h = absurd (cc)
+
 pub entries_stand : {V : Type 0} (es : List (held.Key × V)) → StandBelow (length es) (map (λ e. e.value) (entries_of es))
 entries_stand es k lt = (k, subst (λ n. k < n) (entries_long es) lt, refl)

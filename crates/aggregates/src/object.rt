@@ -44,11 +44,25 @@ pub(crate) enum Object<V> {
 
 impl<V: Element> Object<V> {
     /// Lets go what it holds: an empty table stands in its place. Takes no memory.
-    #[inline(never)]
+    #[inline(always)]
     pub(crate) fn clear(&mut self, alloc: Global)
         ensures { object_of self.new ≡ values.TableOf [] }
     {
-        *self = Object::Table(Table::new(alloc));
+        if !self.holds_nothing() {
+            *self = Object::Table(Table::new(alloc));
+        }
+    }
+
+    // Whether it is an empty table.
+    #[inline(always)]
+    #[tactic(auto, using(crate::proofs::Entries::no_values))]
+    fn holds_nothing(&self) -> bool
+        ensures { result ≡ true → object_of self.now ≡ values.TableOf [] }
+    {
+        match self {
+            Object::Table(table) => table.len() == 0,
+            Object::Array(_) | Object::Record(_) => false,
+        }
     }
 
     /// How many values it holds.

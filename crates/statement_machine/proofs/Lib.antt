@@ -17,6 +17,7 @@ pub mod Parts
 pub mod Bringing
 pub mod Matching
 pub mod Running
+pub mod GivingBack
 pub mod Seeing
 pub mod Stopping
 pub mod Telling

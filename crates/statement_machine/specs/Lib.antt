@@ -3,6 +3,7 @@ pub mod Asking
 pub mod Runnable
 pub mod Held
 pub mod Runs
+pub mod Collecting
 pub mod Stopped
 pub mod Calling
 pub mod Resuming

@@ -14,6 +14,7 @@
 mod alone;
 mod callers;
 mod calls;
+mod collecting;
 mod elements;
 mod evaluating;
 mod failing;

@@ -3,6 +3,7 @@ use Rattle.model.specs.Laws.Agreement.{first_m}
 use Rattle.model.specs.Laws.PrintedBefore.{after_w}
 use Rattle.loader.specs.Places.{offset_at}
 use Rattle.statement_machine.proofs.Flowing.{statement_begins, statement_stands}
+use Rattle.statement_machine.proofs.GivingBack.{collected_same}
 use Rattle.statement_machine.proofs.Running.{begun_is}
 use Rattle.statement_machine.proofs.WellFormed.{runnable}
 use Rattle.statement_machine.specs.declared.state.State.{State}
@@ -28,7 +29,7 @@ returns-clause-begun c = λ io.
     let ops = ap (λ (s : State). s.operands.top) rest ∙ c.in_ok-run.ensures.place.1 in
     let hs = ap (λ (s : State). s.handlers.top) rest ∙ c.in_ok-run.ensures.place.2 in
     let at = statement_begins im (runnable im c.start-place.ensures.loaded) im.entry c.start-place.result c.start-place.ensures.place in
-    begun_is im _ (record c.in_ok-run.run' { state = record c.enter_variables.new.self { world = c.keep_slots.new.self } }) io at (ap (offset_at im.code) place) e.0 e.1 ops hs (c.keep_slots.ensures.unseen io ∙ c.in_ok-enter_variables.ensures.unseen io ∙ c.in_ok-run.ensures.world io ∙ ap (λ l. after_w io.printed (first_m l io.left)) c.level.ensures)
+    collected_same _ _ (begun_is im _ (record c.in_ok-run.run' { state = record c.enter_variables.new.self { world = c.keep_slots.new.self } }) io at (ap (offset_at im.code) place) e.0 e.1 ops hs (c.keep_slots.ensures.unseen io ∙ c.in_ok-enter_variables.ensures.unseen io ∙ c.in_ok-run.ensures.world io ∙ ap (λ l. after_w io.printed (first_m l io.left)) c.level.ensures))
 
 pub form_of-requires : goal.form_of-requires
 form_of-requires c = record { runs = runnable c.args.program.now c.start-place.ensures.loaded }

@@ -1,0 +1,133 @@
+//! Objects that nothing reaches are given back between two steps.
+
+ghost use Rattle.std.specs.Prelude.{◌≡◌, ◌++◌, IfOk, IfSome, true};
+ghost use Rattle.frames.specs.Frames.{AreCalls};
+ghost use Rattle.statement_machine.specs.Collecting.{IsInCalls, IsSameRun, StateLives};
+ghost use Rattle.world.specs.Marking.{without_unmarked};
+
+use crate::run::{Run, Task};
+use crate::state::State;
+use aggregates::Marks;
+use frames::{are_calls, mark_operands};
+use std::alloc::AllocError;
+use world::{World, mark_values};
+
+/// How much objects hold that are made before any is given back.
+const LEAST: usize = 1 << 16;
+
+/// Each number counts as so many values among what stays. All numbers are gone through when objects are given back, so the
+/// work stays a fixed part of what is made.
+const EACH_NUMBER: usize = 3;
+
+/// When objects are given back: once as much was made as stayed the last time. It counts objects and the values that they
+/// held when they were made.
+#[derive(Clone, Copy)]
+pub(crate) struct Pace {
+    // How many objects were counted.
+    counted: usize,
+    // How much was made since objects were given back.
+    made: usize,
+    // How much is made before objects are given back.
+    due: usize,
+}
+
+impl Pace {
+    /// Nothing was made.
+    pub(crate) fn new() -> Pace {
+        Pace {
+            counted: 0,
+            made: 0,
+            due: LEAST,
+        }
+    }
+
+    // Counts the objects that were made. Whether objects are to be given back.
+    #[inline(never)]
+    fn count(&mut self, world: &World) -> bool {
+        let count = world.object_count();
+        for object in self.counted..count {
+            let size = world.object_size(object);
+            self.made = self.made.saturating_add(size).saturating_add(1);
+        }
+        self.counted = count;
+        self.made >= self.due
+    }
+
+    // From now on nothing was made. So much stayed.
+    fn begin(&mut self, stayed: usize) {
+        self.made = 0;
+        self.due = stayed.max(LEAST);
+    }
+}
+
+// How much stays: the numbers of all objects, and what those hold that have a mark.
+fn marked_size(world: &World, marks: &Marks) -> usize {
+    let mut size = world.object_count().saturating_mul(EACH_NUMBER);
+    for (object, marked) in marks.as_slice().iter().enumerate() {
+        if *marked {
+            size = size.saturating_add(world.object_size(object));
+        }
+    }
+    size
+}
+
+impl State {
+    // The marks of the objects that it reaches, if there is room for marks.
+    fn reached(&self) -> Result<Option<Marks>, AllocError>
+        ensures { IfOk result (λ found. IfSome found (λ marks. StateLives self.now marks)) }
+    {
+        let mut marks = self.world.no_marks(self.alloc)?;
+        self.world.mark_variables(&mut marks)?;
+        mark_operands(&self.operands, &mut marks)?;
+        mark_values(self.saved.as_slice(), &mut marks)?;
+        if self.world.mark_reached(&mut marks)? {
+            Ok(Some(marks))
+        } else {
+            Ok(None)
+        }
+    }
+}
+
+impl Run {
+    // Whether it is in the code, and calls alone wait.
+    fn is_in_calls(&self) -> bool
+        ensures { result ≡ true → IsInCalls self.now }
+    {
+        match &self.task {
+            Task::Code => are_calls(&self.frames),
+            _ => false,
+        }
+    }
+
+    // Gives back the objects that nothing reaches. Where a match waits, or memory is refused, nothing is given back.
+    #[cold]
+    #[inline(never)]
+    fn collect(&mut self)
+        ensures { IsSameRun self.old self.new }
+    {
+        let made = self.pace.made;
+        self.pace.begin(made);
+        if !self.is_in_calls() {
+            return;
+        }
+        let Ok(Some(marks)) = self.state.reached() else {
+            return;
+        };
+        self.state.world.drop_unmarked(self.state.alloc, &marks);
+        let stayed = marked_size(&self.state.world, &marks);
+        self.pace.begin(stayed);
+    }
+
+    /// Gives back the objects that nothing reaches, if as much was made as stayed the last time.
+    #[inline(always)]
+    pub(crate) fn collect_if_due(&mut self)
+        ensures { IsSameRun self.old self.new }
+    {
+        if self.state.world.object_count() == self.pace.counted {
+            return;
+        }
+        if self.pace.count(&self.state.world) {
+            self.collect();
+        }
+    }
+}
