@@ -9,7 +9,7 @@ from .command import run
 PLACE = "docs/snobol.md"
 CODES = [f"{letter}{number}" for letter, most in zip("CLPEUFW", (7, 5, 6, 16, 4, 7, 5)) for number in range(1, most + 1)]
 TOPICS = (
-    "memory read write steps stlimit undefined-label undefined-function case columns behind-end unused ported"
+    "memory read write steps stlimit undefined-label undefined-function case columns behind-end unused ported source"
 ).split()
 MEANING = re.compile(r"(\S+): \S.*\n\n(?:\S.*[.]\n)+(?:\nA deck that (is refused|ends) so:\n\n((?:.*\n)*))?")
 

@@ -5,3 +5,4 @@ pub mod Objects
 pub mod Made
 pub mod Marked
 pub mod Wanted
+pub mod Parts

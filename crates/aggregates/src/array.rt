@@ -84,6 +84,13 @@ impl<V: Element> Array<V> {
         self.elements.get(place)
     }
 
+    /// Its dimensions.
+    pub(crate) fn bounds(&self) -> &[Bounds]
+        ensures { result.now ≡ self.now.0 }
+    {
+        &self.bounds
+    }
+
     /// How many elements it has.
     pub(crate) fn size(&self) -> usize
         ensures { result ≡ length self.now.1 }

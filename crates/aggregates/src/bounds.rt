@@ -1,6 +1,6 @@
 //! The dimensions of arrays.
 
-ghost use Rattle.std.specs.Prelude.{◌≡◌, ◌<◌, ◌-◌, ◌^◌, ◌∷◌, [], min, Some, pos, ◌<ℤ◌, nat_abs, IfSome};
+ghost use Rattle.std.specs.Prelude.{◌≡◌, ◌<◌, ◌-◌, ◌^◌, ◌∷◌, [], min, Some, pos, ◌<ℤ◌, ◌+ℤ◌, nat_abs, IfSome};
 ghost use Rattle.model.specs.Language.Aggregates.{place_from};
 ghost use Rattle.model.specs.Language.Prototypes.{bounds_from, elements_in, are_bounds};
 ghost use Rattle.aggregates.specs.Bounds.{offset_in};
@@ -46,6 +46,20 @@ impl Bounds {
             low: 1,
             high: count,
         }
+    }
+
+    /// The lowest subscript.
+    pub fn low(&self) -> i64
+        ensures { self.now.low ≡ result }
+    {
+        self.low
+    }
+
+    /// The highest subscript.
+    pub fn high(&self) -> i64
+        ensures { (self.now.low +ℤ pos self.now.count) ≡ (result +ℤ pos 1) }
+    {
+        self.high
     }
 
     /// How many subscripts stand below this one, if it is one of them.

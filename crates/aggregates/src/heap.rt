@@ -338,10 +338,10 @@ impl<V: Element> Heap<V> {
         }
     }
 
-    // The object of this number.
+    /// The object of this number.
     #[inline(always)]
     #[tactic(auto, using(crate::proofs::Objects::objects_at, crate::proofs::Objects::objects_past))]
-    fn object(&self, number: usize) -> Option<&Object<V>>
+    pub(crate) fn object(&self, number: usize) -> Option<&Object<V>>
         ensures { option_map object_of (option_copied result) ≡ slice_get self.now number }
     {
         if number >= self.objects.len() {

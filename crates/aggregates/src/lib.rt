@@ -23,6 +23,7 @@ mod names;
 mod object;
 mod place;
 mod table;
+mod views;
 
 pub use bounds::{Bounds, are_bounds};
 pub use element::Element;

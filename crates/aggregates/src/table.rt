@@ -1,6 +1,6 @@
 //! A table: values for keys, in the order in which the keys were first assigned.
 
-ghost use Rattle.std.specs.Prelude.{◌≡◌, ◌<◌, ◌^◌, [], Some, IfOk, OnOk, OnErr, false, length, map, slice_get};
+ghost use Rattle.std.specs.Prelude.{◌≡◌, ◌<◌, ◌^◌, ◌≤◌, [], Some, None, IfOk, IfSome, OnOk, OnErr, false, length, map, slice_get};
 ghost use Rattle.std.specs.Option.{option_copied};
 ghost use Rattle.model.specs.Language.Operators.{with_entry};
 ghost use Rattle.model.specs.Language.Values as values;
@@ -78,6 +78,18 @@ impl<V: Element> Table<V> {
             return None;
         };
         Some(value)
+    }
+
+    /// The entry that stands at an index.
+    pub(crate) fn entry(&self, index: usize) -> Option<(&Key, &V)>
+        ensures there { IfSome result (λ e. slice_get self.now index
+            ≡ Some (record { key = key_of e.0.now; value = e.1.now })) }
+        ensures all { result ≡ None → length self.now ≤ index }
+    {
+        let Some((key, value)) = self.values.get_index(index) else {
+            return None;
+        };
+        Some((key, value))
     }
 
     /// The value of the entry that stands at an index, if one does. Takes no memory.

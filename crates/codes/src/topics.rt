@@ -29,10 +29,12 @@ pub enum Topic {
     Unused,
     /// A deck was written anew.
     Ported,
+    /// A module isn't the one of a deck.
+    OtherDeck,
 }
 
 /// The codes of topics.
-pub(crate) const TOPICS: [Code; 11] = [
+pub(crate) const TOPICS: [Code; 12] = [
     Code {
         name: "read",
         text: "a file that can't be read",
@@ -102,11 +104,17 @@ pub(crate) const TOPICS: [Code; 11] = [
         help: "snobol port writes the deck so; snobol --strict runs it as it is.",
         deck: "",
     },
+    Code {
+        name: "source",
+        text: "the module isn't the one of this deck",
+        help: "Give the deck as it was when the module was compiled, or compile it anew.",
+        deck: "",
+    },
 ];
 
 // Where the code of a topic stands.
 fn topic_place(topic: Topic) -> usize
-    ensures { result < 11 }
+    ensures { result < 12 }
 {
     match topic {
         Topic::CannotRead => 0,
@@ -120,6 +128,7 @@ fn topic_place(topic: Topic) -> usize
         Topic::BehindEnd => 8,
         Topic::Unused => 9,
         Topic::Ported => 10,
+        Topic::OtherDeck => 11,
     }
 }
 

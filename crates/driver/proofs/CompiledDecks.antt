@@ -1,5 +1,5 @@
 -- A deck's statements that are read and put one by one.
-use Rattle.std.proofs.Common.{◌≡◌, ◌≢◌, ◌∙◌, refl, sym, ap, ap₂, subst, ℕ, zero, suc, ◌+◌, ◌<◌, ◌≤◌, Bool, true, false, List, [], ◌∷◌, ◌++◌, map, length, take, drop, get_or, append_assoc, append-nil, arith, Option, Some, None, Ok, add-one, bytes_eq, if◌then◌else◌, Bor, option_map}
+use Rattle.std.proofs.Common.{◌≡◌, ◌∙◌, refl, sym, ap, ap₂, subst, ℕ, zero, suc, ◌+◌, ◌<◌, ◌≤◌, true, false, List, [], ◌∷◌, ◌++◌, map, length, take, get_or, append_assoc, append-nil, arith, Option, Some, None, Ok, add-one, bytes_eq, if◌then◌else◌}
 use Rattle.std.specs.List.{AllByRecursion}
 use Rattle.std.proofs.lemmas.List.{length-map}
 use Rattle.std.proofs.lemmas.Slice.Eq.{bytes_eq-Decides}
@@ -7,20 +7,19 @@ use Rattle.std.proofs.Math.Seq.{take-suc}
 use Rattle.std.specs.Prelude.{Result}
 use Rattle.model.specs.declared.cards.CardFault.{CardFault}
 use Rattle.model.specs.declared.cards.Statement.{Statement}
-use Rattle.model.specs.Laws.Decks.{CardsFit, DecksFit, TreesFit}
+use Rattle.model.specs.Laws.Decks.{DecksFit, TreesFit}
 use Rattle.model.specs.Deck.Cards as cards
-use Rattle.model.specs.Deck.Faults.{verdict, Accepted, call_fits, cause_of, deck_trees, fault_of, faults, faults_after, labels_given, read, throughout, tree_of_read}
+use Rattle.model.specs.Deck.Faults.{verdict, Accepted, cause_of, deck_trees, fault_of, faults, faults_after, labels_given, read, tree_of_read}
 use Rattle.model.specs.Deck.Cut.{toks_of}
 use Rattle.model.specs.Deck.Pieces.{pieces}
 use Rattle.model.specs.Deck.Statements.{end_word, unlabelled, labelled, Tree, plain, end}
 use Rattle.model.specs.Deck.Tokens.{Tok}
 use Rattle.model.specs.Deck.TreeViews.{stmt_of}
-use Rattle.model.specs.Deck.Trees.{Bytes, Stmt, Plain, End}
+use Rattle.model.specs.Deck.Trees.{Bytes, Stmt}
 use Rattle.model.specs.Deck.Weights.{total, weight}
 use Rattle.model.specs.Language.Programs.{label_of_stmt}
 use Rattle.model.proofs.Decks.StatementSound.{stmt_sound}
 use Rattle.model.proofs.Decks.Verdicts.{accepts, Have, none_left, none_right, read_is}
-use Rattle.lexer.specs.Lexed.{name_in_front}
 use Rattle.tree_drops.specs.declared.StmtTree.{StmtTree}
 use Rattle.parser.specs.Heads.{head_of}
 use Rattle.parser.specs.Reads.{HasRead, IsGiven}

@@ -1,6 +1,5 @@
 -- The exit status of the program, as a function of what it has to tell.
 use Rattle.std.specs.Prelude.{◌≡◌, ◌⊎◌, ℕ, List, [], ◌∷◌, Option, Some, None}
-use Rattle.model.specs.declared.format.FormatFault.{FormatFault}
 use Rattle.model.specs.declared.format.FormatRule.{FormatRule}
 use Rattle.model.specs.declared.format.FormatRule.TheVariants as rule
 use Rattle.model.specs.declared.format.LoadFault.{LoadFault}
@@ -11,7 +10,6 @@ use Rattle.model.specs.declared.run.Status.{Status}
 use Rattle.model.specs.declared.run.Status.TheVariants as status
 use Rattle.driver.specs.declared.refusal.Refusal.{Refusal}
 use Rattle.driver.specs.declared.refusal.Refusal.TheVariants as refusal
-use Rattle.driver.specs.declared.running.Ran.{Ran}
 use Rattle.driver.specs.declared.telling.Told.{Told}
 use Rattle.driver.specs.declared.telling.Told.TheVariants as told
 use Rattle.driver.specs.declared.words.Job.{Job}

@@ -1,5 +1,5 @@
 -- A deck's statements that are read and put one by one.
-use Rattle.std.specs.Prelude.{◌≡◌, ◌≤◌, ℕ, List, [], ◌∷◌, Option, length, take}
+use Rattle.std.specs.Prelude.{◌≡◌, ◌≤◌, ℕ, List, [], Option, length, take}
 use Rattle.model.specs.declared.cards.Statement.{Statement}
 use Rattle.model.specs.Deck.Faults.{deck_trees, faults_after}
 use Rattle.model.specs.Deck.Trees.{Bytes, Stmt}

@@ -21,6 +21,7 @@ mod running;
 mod showing;
 mod telling;
 mod upgrading;
+mod watching;
 mod whole;
 mod words;
 
@@ -32,5 +33,6 @@ pub use running::{Ran, run_module, run_with_card};
 pub use showing::{ShowFault, check_module, instruction_name, show};
 pub use telling::{Told, WriteFault, report};
 pub use upgrading::upgrade;
+pub use watching::watch_deck;
 pub use whole::run_deck;
 pub use words::{Job, UnitFile, read_words};

@@ -12,9 +12,10 @@ ghost use Rattle.driver.specs.Cards.{card_told, number_in};
 ghost use Rattle.driver.specs.Compiled.{IsModuleOf};
 ghost use Rattle.driver.specs.Whole.{IsModuleRun, RefinesMeaning};
 
-use loader::{Module, load};
+use crate::watching::watch_with_card;
+use loader::Module;
 use model::{Ending, LoadFault, Status};
-use statement_machine::run_from_entry;
+use statement_machine::Unwatched;
 use std::alloc::Global;
 use unit_io::Units;
 
@@ -42,8 +43,8 @@ fn card_at(program: &Module, statement: i64) -> u32
     }
 }
 
-// The card that is told beside a status.
-fn card_told(program: &Module, status: Status) -> u32
+/// The card that is told beside a status.
+pub(crate) fn card_told(program: &Module, status: Status) -> u32
     requires { IsLoaded program.now }
     ensures { result ≡ card_told program.now.cards status }
 {
@@ -79,10 +80,7 @@ pub fn run_with_card<U: Units>(
     ensures card { IfOk result (λ ran.
         (m : Image) × (read_image bytes.now ≡ Ok m) × (ran.card ≡ card_told m.cards ran.status)) }
 {
-    let program = load(alloc, bytes)?;
-    let status = run_from_entry(alloc, &program, units, bound);
-    let card = card_told(&program, status);
-    Ok(Ran { status, card })
+    watch_with_card(alloc, bytes, units, bound, &mut Unwatched)
 }
 
 /// Runs the module that bytes spell, at most so many steps, or tells why it is refused.

@@ -2,29 +2,18 @@
 
 ghost use Rattle.std.specs.Prelude.{◌≡◌, IfErr, IfOk, OnErr};
 ghost use Rattle.model.specs.Deck.Cards.{first_cards};
-ghost use Rattle.loader.specs.Answers.{no_memory};
 ghost use Rattle.statement_machine.specs.Stopped.{stop_of_run};
 ghost use Rattle.unit_io.specs.Service.{KeepsCounts};
-ghost use Rattle.driver.specs.declared.refusal.Refusal.TheVariants.{Memory};
 ghost use Rattle.driver.specs.Cards.{card_told};
 ghost use Rattle.driver.specs.Compiled.{IsRefusalOf};
 ghost use Rattle.driver.specs.Whole.{IsRunOf, RefinesMeaning};
 
-use crate::compiling::compile_deck;
 use crate::refusal::Refusal;
-use crate::running::{Ran, run_with_card};
-use model::LoadFault;
+use crate::running::Ran;
+use crate::watching::watch_deck;
+use statement_machine::Unwatched;
 use std::alloc::Global;
 use unit_io::Units;
-
-// The loader takes each module that was compiled, unless it lacks memory.
-fn lacking(fault: LoadFault) -> Refusal
-    requires memory { fault ≡ no_memory }
-    ensures { result ≡ Memory }
-{
-    let _ = fault;
-    Refusal::Memory
-}
 
 /// Compiles a deck and runs its module, at most so many steps, or reports why the deck is refused.
 pub fn run_deck<U: Units>(
@@ -49,9 +38,5 @@ pub fn run_deck<U: Units>(
     // The card of the statement at which the run ended by an error or the limit.
     ensures card { IfOk result (λ ran. ran.card ≡ card_told (first_cards deck.now) ran.status) }
 {
-    let module = compile_deck(alloc, deck)?;
-    match run_with_card(alloc, &module, units, bound) {
-        Ok(ran) => Ok(ran),
-        Err(fault) => Err(lacking(fault)),
-    }
+    watch_deck(alloc, deck, units, bound, &mut Unwatched)
 }

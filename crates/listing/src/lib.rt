@@ -22,4 +22,4 @@ mod words;
 pub use decks::{Trouble, list};
 pub use files::run;
 pub use lines::Style;
-pub use terminal::output_style;
+pub use terminal::{columns, output_style};

@@ -24,15 +24,15 @@ fn number(digits: &[u8]) -> Option<usize> {
     Some(number)
 }
 
-// The width that the environment tells.
-fn width<R: Env>(rt: &R) -> usize {
+/// How many columns a line has, if the environment tells it.
+pub fn columns<R: Env>(rt: &R) -> Option<usize> {
     let mut buffer = [0_u8; LONGEST];
     let Ok(length) = rt.var("COLUMNS", &mut buffer) else {
-        return USUAL;
+        return None;
     };
     match buffer.get(..length) {
-        Some(digits) if !digits.is_empty() => number(digits).unwrap_or(USUAL),
-        _ => USUAL,
+        Some(digits) if !digits.is_empty() => number(digits),
+        _ => None,
     }
 }
 
@@ -55,5 +55,8 @@ fn wants_none<R: Env>(rt: &R) -> bool {
 
 /// How lines are written on standard output.
 pub fn output_style<R: Env + Files + AllocGlobal>(rt: &R) -> Style {
-    Style::new(width(rt), is_terminal(rt) && !wants_none(rt))
+    Style::new(
+        columns(rt).unwrap_or(USUAL),
+        is_terminal(rt) && !wants_none(rt),
+    )
 }

@@ -86,6 +86,11 @@ impl<'a> Sources<'a> {
         }
     }
 
+    /// The deck in which a card stood before the decks were written anew, if they were, and its number there.
+    pub fn named(&self, card: u32) -> (&'a str, u32) {
+        self.place(self.origin(card))
+    }
+
     /// The deck in which a card stands, and its number there.
     fn place(&self, card: u32) -> (&'a str, u32) {
         let mut found = (self.last_name(), card);

@@ -9,11 +9,14 @@ use std::io::{self, Write};
 /// How far a card stands from the margin.
 const MARGIN: &str = "    ";
 
+/// The least columns in which a card is shown.
+const NARROWEST: usize = 20;
+
 /// How messages are written.
 #[derive(Clone, Copy, Debug, PartialEq, Eq)]
 pub enum Form {
-    /// A line each, with the card and a caret.
-    Text,
+    /// A line each, with the card and a caret, in so many columns.
+    Text(usize),
     /// A line each.
     Lines,
     /// An object of JSON each, on a line.
@@ -44,30 +47,79 @@ fn line_of(alloc: Global, message: &Message) -> Result<String, AllocError> {
     Ok(line)
 }
 
-// Puts a byte of a card; one that isn't printable as its number. How many columns it takes.
-fn put_byte(line: &mut String, byte: u8) -> Result<usize, AllocError> {
-    if (32..=126).contains(&byte) {
-        line.push(char::from(byte))?;
-        return Ok(1);
-    }
-    write!(line, "\\x{byte:02x}")?;
-    Ok(4)
+// How many columns a byte of a card takes.
+fn width_of(byte: u8) -> usize {
+    if (32..=126).contains(&byte) { 1 } else { 4 }
 }
 
-// The card, and a caret under the column.
-fn put_card(line: &mut String, card: &[u8], column: Option<usize>) -> Result<(), AllocError> {
-    let mut before: usize = 0;
-    line.push_str(MARGIN)?;
-    for (at, byte) in card.iter().copied().enumerate() {
-        let width = put_byte(line, byte)?;
-        if column.is_some_and(|column| at < column) {
-            before = before.saturating_add(width);
-        }
+// How many columns bytes of a card take.
+fn width_of_all(bytes: &[u8]) -> usize {
+    let mut width: usize = 0;
+    for byte in bytes.iter().copied() {
+        width = width.saturating_add(width_of(byte));
     }
+    width
+}
+
+// Puts a byte of a card; one that isn't printable as its number.
+fn put_byte(line: &mut String, byte: u8) -> Result<(), AllocError> {
+    if (32..=126).contains(&byte) {
+        line.push(char::from(byte))?;
+        return Ok(());
+    }
+    write!(line, "\\x{byte:02x}")
+}
+
+// What is shown of a card that is wider than it may be: the bytes from the first one on with which the caret's stands
+// within three quarters.
+fn shown(card: &[u8], column: usize, room: usize) -> &[u8] {
+    let most = room.saturating_sub(room.checked_div(4).unwrap_or(0));
+    let mut first = column;
+    let mut width: usize = 0;
+    for byte in card.get(..column).unwrap_or(&[]).iter().rev().copied() {
+        width = width.saturating_add(width_of(byte));
+        if width >= most {
+            break;
+        }
+        first = first.saturating_sub(1);
+    }
+    card.get(first..).unwrap_or(card)
+}
+
+// Puts as many bytes of a card as there is room for.
+fn put_bytes(line: &mut String, bytes: &[u8], room: usize) -> Result<(), AllocError> {
+    let mut left = room;
+    for byte in bytes.iter().copied() {
+        let Some(rest) = left.checked_sub(width_of(byte)) else {
+            break;
+        };
+        put_byte(line, byte)?;
+        left = rest;
+    }
+    Ok(())
+}
+
+// The card, and a caret under the column. Of a card that is too wide the part around the column is shown.
+fn put_card(
+    line: &mut String,
+    card: &[u8],
+    column: Option<usize>,
+    columns: usize,
+) -> Result<(), AllocError> {
+    let room = columns.max(NARROWEST).saturating_sub(MARGIN.len());
+    let at = column.unwrap_or(0).min(card.len());
+    let part = if width_of_all(card) > room {
+        shown(card, at, room)
+    } else {
+        card
+    };
+    line.push_str(MARGIN)?;
+    put_bytes(line, part, room)?;
     line.push('\n')?;
     if column.is_some() {
+        let left_out = card.len().saturating_sub(part.len());
         line.push_str(MARGIN)?;
-        for _ in 0..before {
+        for _ in 0..width_of_all(card.get(left_out..at).unwrap_or(&[])) {
             line.push(' ')?;
         }
         line.push_str("^\n")?;
@@ -76,12 +128,17 @@ fn put_card(line: &mut String, card: &[u8], column: Option<usize>) -> Result<(),
 }
 
 // The lines of a message with its card.
-fn text_of(alloc: Global, message: &Message, cards: &Cards<'_>) -> Result<String, AllocError> {
+fn text_of(
+    alloc: Global,
+    message: &Message,
+    cards: &Cards<'_>,
+    columns: usize,
+) -> Result<String, AllocError> {
     let mut text = line_of(alloc, message)?;
     if message.place.card.is_some() {
         let card = cards.card(message.place.whole_card);
         if !card.is_empty() {
-            put_card(&mut text, card, message.place.column)?;
+            put_card(&mut text, card, message.place.column, columns)?;
         }
     }
     let help = message.code.help;
@@ -101,7 +158,7 @@ pub fn write_messages<W: Write>(
     for message in messages {
         let line = match form {
             Form::Lines => line_of(alloc, message)?,
-            Form::Text => text_of(alloc, message, &cards)?,
+            Form::Text(columns) => text_of(alloc, message, &cards, columns)?,
             Form::Json => json_line(alloc, message)?,
             Form::Codes => return Ok(()),
         };

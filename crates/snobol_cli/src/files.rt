@@ -32,7 +32,7 @@ fn not_read<'a>(error: io::Error, file: &'a str) -> Outcome<'a> {
     }
 }
 
-fn not_written<'a>(error: io::Error, file: &'a str) -> Outcome<'a> {
+pub(crate) fn not_written<'a>(error: io::Error, file: &'a str) -> Outcome<'a> {
     match error.kind() {
         ErrorKind::OutOfMemory => Outcome::from(Told::NoMemory),
         _ => Outcome {

@@ -1,20 +1,20 @@
 //! What is done for each row of the table of words.
 
-use crate::files::{Outcome, read_file, write_file};
+use crate::files::{Outcome, write_file};
 use crate::included::read_whole;
 use crate::looking::{check, how_for, list_decks};
 use crate::porting::port_deck;
-use crate::reporting::{form_for, no_memory, report_alone, report_outcome, unwritten};
+use crate::reporting::{form_for, report_alone, report_outcome, unwritten};
 use crate::running::{Asked, run_decks};
+use crate::showing::{show_module, show_with_cards};
 use crate::statuses::{BAD_WORDS, DONE, FAILED};
 use codes::{Code, code_named};
-use driver::{ShowFault, Told, compile_deck, show};
+use driver::{Told, compile_deck};
 use messages::Form;
 use snobol_words::Job;
-use std::alloc::Global;
 use std::env::Env;
 use std::fs::Files;
-use std::io::{self, BufWriter, Input, IsTerminal, Print, Write};
+use std::io::{self, Input, IsTerminal, Print, Write};
 
 fn print_code<R: Print>(rt: &R, code: Code) -> io::Result<()> {
     println!(rt; "{}: {}\n\n{}", code.name, code.text, code.help)?;
@@ -66,37 +66,6 @@ fn compile<R: Env + Files + Input + AllocGlobal, W: Write>(
     }
 }
 
-// Writes a module's instructions.
-fn write_module<W: Write>(alloc: Global, bytes: &[u8], out: &mut W) -> Result<(), ShowFault> {
-    show(alloc, bytes, out)?;
-    out.flush()?;
-    Ok(())
-}
-
-fn show_module<R: Files + Input + Print + AllocGlobal, W: Write>(
-    rt: &R,
-    module: &str,
-    form: Form,
-    errors: &mut W,
-) -> u8 {
-    let alloc = rt.alloc();
-    let Ok(mut out) = BufWriter::new(alloc, io::writer(rt)) else {
-        return no_memory(rt, form, errors);
-    };
-    let bytes = match read_file(rt, module) {
-        Ok(bytes) => bytes,
-        Err(outcome) => return report_alone(alloc, form, &outcome, module, errors),
-    };
-    match write_module(alloc, &bytes, &mut out) {
-        Ok(()) => DONE,
-        Err(ShowFault::Module(fault)) => {
-            let outcome = Outcome::from(Told::BadModule(fault));
-            report_alone(alloc, form, &outcome, module, errors)
-        }
-        Err(ShowFault::Write(_)) => unwritten(rt, form, errors),
-    }
-}
-
 /// Does what it is asked to do, writes messages to `errors`, and gives the exit status.
 pub(crate) fn perform<R: Env + Files + Input + Print + AllocGlobal, W: Write + IsTerminal>(
     rt: &R,
@@ -109,18 +78,20 @@ pub(crate) fn perform<R: Env + Files + Input + Print + AllocGlobal, W: Write + I
             records,
             steps,
             port,
+            reports,
             form,
         } => {
             let asked = Asked {
                 records: &records,
                 steps,
                 port,
-                form: form_for(form, &*errors),
+                reports,
+                form: form_for(rt, form, &*errors),
             };
             run_decks(rt, &given, asked, errors)
         }
         Job::Check { decks, reporting } => {
-            let how = how_for(reporting, &*errors);
+            let how = how_for(rt, reporting, &*errors);
             check(rt, &decks, how, errors)
         }
         Job::List {
@@ -128,21 +99,28 @@ pub(crate) fn perform<R: Env + Files + Input + Print + AllocGlobal, W: Write + I
             has_code,
             reporting,
         } => {
-            let how = how_for(reporting, &*errors);
+            let how = how_for(rt, reporting, &*errors);
             list_decks(rt, &decks, has_code, how, errors)
         }
         Job::Explain { code } => explain(rt, code, errors),
         Job::Compile { deck, module, form } => {
-            let form = form_for(form, &*errors);
+            let form = form_for(rt, form, &*errors);
             compile(rt, deck, module, form, errors)
         }
         Job::Port { deck, folds, form } => {
-            let form = form_for(form, &*errors);
+            let form = form_for(rt, form, &*errors);
             port_deck(rt, deck, folds, form, errors)
         }
-        Job::Show { module, form } => {
-            let form = form_for(form, &*errors);
-            show_module(rt, module, form, errors)
+        Job::Show {
+            module,
+            source,
+            form,
+        } => {
+            let form = form_for(rt, form, &*errors);
+            match source {
+                Some(deck) => show_with_cards(rt, module, deck, form, errors),
+                None => show_module(rt, module, form, errors),
+            }
         }
     }
 }

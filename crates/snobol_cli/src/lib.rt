@@ -17,7 +17,9 @@ mod looking;
 mod porting;
 mod reporting;
 mod running;
+mod showing;
 mod statuses;
+mod watching;
 mod words_unit;
 
 use crate::jobs::perform;

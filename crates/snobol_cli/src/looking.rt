@@ -23,9 +23,9 @@ pub(crate) struct How {
 }
 
 /// How it is reported, where standard error is this.
-pub(crate) fn how_for<W: IsTerminal>(reporting: Reporting, errors: &W) -> How {
+pub(crate) fn how_for<R: Env, W: IsTerminal>(rt: &R, reporting: Reporting, errors: &W) -> How {
     How {
-        form: form_for(reporting.form, errors),
+        form: form_for(rt, reporting.form, errors),
         warnings: reporting.warnings,
     }
 }
@@ -104,8 +104,8 @@ pub(crate) fn check<R: Env + Files + Input + AllocGlobal, W: Write>(
     }
 }
 
-// Writes a listing.
-fn write_list<R: Env + Files + Print + AllocGlobal>(
+/// Writes a listing.
+pub(crate) fn write_list<R: Env + Files + Print + AllocGlobal>(
     rt: &R,
     sources: &Sources<'_>,
     has_code: bool,

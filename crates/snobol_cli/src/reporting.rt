@@ -5,17 +5,21 @@ use crate::statuses::{BAD_MODULE, BAD_WORDS, FAILED, REFUSED, status_of};
 use codes::Topic;
 use driver::{Refusal, Told, UnitFile, report};
 use fault_messages::{of_file, of_memory, of_module, of_refusal, of_run};
+use listing::columns;
 use messages::{Form, Message, Sources, write_messages};
 use model::{FormatFault, FormatRule, LoadFault};
+use snobol_words::COLUMNS;
 use std::alloc::{AllocError, Global};
+use std::env::Env;
 use std::fs::Files;
 use std::io::{IsTerminal, Write};
 
 /// The form in which messages are written, where the words may say none.
-pub(crate) fn form_for<W: IsTerminal>(asked: Option<Form>, errors: &W) -> Form {
+pub(crate) fn form_for<R: Env, W: IsTerminal>(rt: &R, asked: Option<Form>, errors: &W) -> Form {
     match asked {
+        Some(Form::Text(usual)) => Form::Text(columns(rt).unwrap_or(usual)),
         Some(form) => form,
-        None if errors.is_terminal() => Form::Text,
+        None if errors.is_terminal() => Form::Text(columns(rt).unwrap_or(COLUMNS)),
         None => Form::Lines,
     }
 }

@@ -7,15 +7,17 @@ use crate::included::take_in;
 use crate::porting::{is_foreign, use_written, written_anew};
 use crate::reporting::{report_alone, report_outcome};
 use crate::statuses::FAILED;
+use crate::watching::{Watched, run_watched, write_seen};
 use crate::words_unit::WordsUnit;
 use driver::{Ran, Told, UnitFile, finished, run_deck};
 use messages::{Form, Sources};
 use model::{Status, Stop, UnitFault};
 use program::{system_of, units_of};
-use snobol_words::{Given, Port};
+use snobol_words::{Given, Port, ReportFiles};
 use std::env::Env;
 use std::fs::Files;
 use std::io::{self, Input, Print, Write};
+use unit_io::Units;
 
 // A run that a unit stopped before it began.
 fn unread(unit: u8, reason: io::Error) -> Outcome<'static> {
@@ -48,14 +50,27 @@ fn reason_of<R: Files>(rt: &R, ran: Ran, files: &[UnitFile<'_>]) -> Option<io::E
     }
 }
 
+// Compiles a deck and runs its module, and nothing is seen of it.
+fn run_unwatched<R: AllocGlobal, U: Units>(
+    rt: &R,
+    sources: &Sources<'_>,
+    units: &mut U,
+    steps: u64,
+) -> Result<Watched<'static>, Outcome<'static>> {
+    match run_deck(rt.alloc(), sources.bytes(), units, steps) {
+        Ok(ran) => Ok(Watched::unseen(ran)),
+        Err(refusal) => Err(Outcome::from(Told::Refused(refusal))),
+    }
+}
+
 // Compiles a deck and runs its module on the units that are given.
-fn run_sources<R: Files + Input + Print + AllocGlobal>(
+fn run_sources<'a, R: Files + Input + Print + AllocGlobal, W: Write>(
     rt: &R,
     sources: &Sources<'_>,
     files: &[UnitFile<'_>],
-    records: &[&str],
-    steps: u64,
-) -> Result<Outcome<'static>, Outcome<'static>> {
+    asked: Asked<'a>,
+    errors: &mut W,
+) -> Result<Outcome<'a>, Outcome<'a>> {
     if let Some((unit, reason)) = unreadable(rt, files) {
         return Ok(unread(unit, reason));
     }
@@ -67,17 +82,18 @@ fn run_sources<R: Files + Input + Print + AllocGlobal>(
         Ok(units) => units,
         Err(told) => return Err(Outcome::from(told)),
     };
-    let mut units = WordsUnit::new(rt.alloc(), records, units);
-    match run_deck(rt.alloc(), sources.bytes(), &mut units, steps) {
-        Ok(ran) => {
-            let ran = finished(ran, units.into_units().flush());
-            Ok(Outcome {
-                told: Told::Ran(ran),
-                reason: reason_of(rt, ran, files),
-            })
-        }
-        Err(refusal) => Err(Outcome::from(Told::Refused(refusal))),
-    }
+    let mut units = WordsUnit::new(rt.alloc(), asked.records, units);
+    let watched = if asked.reports.are_wanted() {
+        run_watched(rt, sources, asked.reports, &mut units, asked.steps, errors)?
+    } else {
+        run_unwatched(rt, sources, &mut units, asked.steps)?
+    };
+    let ran = finished(watched.ran, units.into_units().flush());
+    write_seen(rt, asked.reports, &watched.seen?, errors)?;
+    Ok(Outcome {
+        told: Told::Ran(ran),
+        reason: reason_of(rt, ran, files),
+    })
 }
 
 // Whether a run was stopped since nobody reads what it prints.
@@ -100,21 +116,21 @@ fn is_unread<R: Files + AllocGlobal>(rt: &R, told: &Told<'_>, files: &[UnitFile<
 
 // Runs decks, which are written anew if that is permitted, and they are refused as they are, or need it, or small letters
 // are to be raised.
-fn run_as_asked<R: Files + Input + Print + AllocGlobal, W: Write>(
+fn run_as_asked<'a, R: Files + Input + Print + AllocGlobal, W: Write>(
     rt: &R,
     sources: &mut Sources<'_>,
     given: &Given<'_>,
-    asked: Asked<'_>,
+    asked: Asked<'a>,
     errors: &mut W,
-) -> Result<Outcome<'static>, Outcome<'static>> {
+) -> Result<Outcome<'a>, Outcome<'a>> {
     let Port::Anew { folds } = asked.port else {
-        return run_sources(rt, sources, &given.files, asked.records, asked.steps);
+        return run_sources(rt, sources, &given.files, asked, errors);
     };
     let Ok(written) = written_anew(rt.alloc(), sources, folds) else {
         return Err(Outcome::from(Told::NoMemory));
     };
     if !(written.is_needed() || folds && written.is_changed()) {
-        let ran = run_sources(rt, sources, &given.files, asked.records, asked.steps);
+        let ran = run_sources(rt, sources, &given.files, asked, errors);
         let is_refused = match &ran {
             Err(outcome) => is_foreign(&outcome.told),
             Ok(_) => false,
@@ -124,7 +140,7 @@ fn run_as_asked<R: Files + Input + Print + AllocGlobal, W: Write>(
         }
     }
     match use_written(rt.alloc(), sources, written, asked.form, errors) {
-        Ok(()) => run_sources(rt, sources, &given.files, asked.records, asked.steps),
+        Ok(()) => run_sources(rt, sources, &given.files, asked, errors),
         Err(told) => Err(Outcome::from(told)),
     }
 }
@@ -135,6 +151,7 @@ pub(crate) struct Asked<'a> {
     pub(crate) records: &'a [&'a str],
     pub(crate) steps: u64,
     pub(crate) port: Port,
+    pub(crate) reports: ReportFiles<'a>,
     pub(crate) form: Form,
 }
 

@@ -76,6 +76,14 @@ fn code_option<'a>(alloc: Global) -> Arg<'a> {
         .help("With the instructions under each statement")
 }
 
+fn source_option<'a>(alloc: Global) -> Arg<'a> {
+    Arg::new(alloc, "source")
+        .long("source")
+        .value_name("DECK")
+        .action(ArgAction::Set)
+        .help("Show them under the cards of the deck from which the module was compiled")
+}
+
 fn fold_option<'a>(alloc: Global) -> Arg<'a> {
     Arg::new(alloc, "fold")
         .long("fold")
@@ -88,6 +96,37 @@ fn strict_option<'a>(alloc: Global) -> Arg<'a> {
         .long("strict")
         .action(ArgAction::SetTrue)
         .help("Run the decks as they are, though they were written for another SNOBOL4")
+}
+
+// A report of a run, to standard error or to a file.
+fn report_option<'a>(alloc: Global, name: &'a str, help: &'a str) -> Arg<'a> {
+    Arg::new(alloc, name)
+        .long(name)
+        .value_name("FILE")
+        .num_args(0..=1)
+        .require_equals(true)
+        .default_missing_value("-")
+        .action(ArgAction::Set)
+        .help(help)
+}
+
+fn with_reports<'a>(alloc: Global, command: Command<'a>) -> Result<Command<'a>, AllocError> {
+    command
+        .arg(report_option(
+            alloc,
+            "trace",
+            "Write a line for each statement that begins, to standard error or a file",
+        ))?
+        .arg(report_option(
+            alloc,
+            "profile",
+            "Write how often each statement ran and how many steps it took",
+        ))?
+        .arg(report_option(
+            alloc,
+            "dump",
+            "Write what the variables hold at the end of the run",
+        ))
 }
 
 fn named<'a>(alloc: Global, name: &'a str, about: &'a str) -> Command<'a> {
@@ -148,11 +187,12 @@ fn port_words<'a>(alloc: Global) -> Result<Command<'a>, AllocError> {
 fn show_words<'a>(alloc: Global) -> Result<Command<'a>, AllocError> {
     named(alloc, "show", "Shows the instructions of a module")
         .arg(word(alloc, "MODULE", "The module"))?
+        .arg(source_option(alloc))?
         .arg(messages_option(alloc))
 }
 
 fn run_words<'a>(alloc: Global) -> Result<Command<'a>, AllocError> {
-    named(alloc, "snobol", ABOUT)
+    let run = named(alloc, "snobol", ABOUT)
         .version(VERSION)
         .override_usage(USAGE)
         .after_help(AFTER)
@@ -164,7 +204,8 @@ fn run_words<'a>(alloc: Global) -> Result<Command<'a>, AllocError> {
         .arg(steps_option(alloc))?
         .arg(fold_option(alloc))?
         .arg(strict_option(alloc))?
-        .arg(messages_option(alloc))
+        .arg(messages_option(alloc))?;
+    with_reports(alloc, run)
 }
 
 // A command with one below it.

@@ -23,6 +23,24 @@ pub enum Port {
     Never,
 }
 
+/// The files for what is reported of a run besides messages, where it is wanted; `-` is standard error.
+#[derive(Clone, Copy, Debug)]
+pub struct ReportFiles<'a> {
+    /// A line for each statement that begins.
+    pub trace: Option<&'a str>,
+    /// How often each statement ran, and its steps.
+    pub profile: Option<&'a str>,
+    /// What the run holds at its end.
+    pub dump: Option<&'a str>,
+}
+
+impl ReportFiles<'_> {
+    /// Whether any is wanted.
+    pub fn are_wanted(&self) -> bool {
+        self.trace.is_some() || self.profile.is_some() || self.dump.is_some()
+    }
+}
+
 /// How what is wrong in a deck is reported.
 #[derive(Clone, Copy, Debug)]
 pub struct Reporting {
@@ -39,6 +57,7 @@ pub enum Job<'a> {
         records: Vec<&'a str>,
         steps: u64,
         port: Port,
+        reports: ReportFiles<'a>,
         form: Option<Form>,
     },
     /// Report what is wrong in decks, read as one.
@@ -71,6 +90,8 @@ pub enum Job<'a> {
     /// Show a module's instructions.
     Show {
         module: &'a str,
+        /// The deck whose cards are shown with them.
+        source: Option<&'a str>,
         form: Option<Form>,
     },
 }

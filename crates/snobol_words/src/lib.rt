@@ -13,5 +13,5 @@ mod jobs;
 mod words;
 
 pub use given::{BadWord, Given, WORDS_UNIT};
-pub use jobs::{Job, NoJob, Port, Reporting, Warnings};
-pub use words::{VERSION, read_words};
+pub use jobs::{Job, NoJob, Port, ReportFiles, Reporting, Warnings};
+pub use words::{COLUMNS, VERSION, read_words};

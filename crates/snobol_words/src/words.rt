@@ -2,7 +2,7 @@
 
 use crate::commands::command;
 use crate::given::sorted;
-use crate::jobs::{Job, NoJob, Port, Reporting, Warnings};
+use crate::jobs::{Job, NoJob, Port, ReportFiles, Reporting, Warnings};
 use clap::error::ErrorKind;
 use clap::{ArgMatches, Error};
 use messages::Form;
@@ -11,11 +11,14 @@ use std::alloc::{AllocError, Global};
 /// The version of the program.
 pub const VERSION: &str = "1.0";
 
+/// The columns of a message's card, where the environment doesn't tell them.
+pub const COLUMNS: usize = 80;
+
 fn form_asked(matches: &ArgMatches<'_>) -> Option<Form> {
     match matches.get_str("messages")? {
         "json" => Some(Form::Json),
         "codes" => Some(Form::Codes),
-        _ => Some(Form::Text),
+        _ => Some(Form::Text(COLUMNS)),
     }
 }
 
@@ -25,6 +28,14 @@ fn port_asked(matches: &ArgMatches<'_>) -> Port {
     }
     Port::Anew {
         folds: matches.get_flag("fold"),
+    }
+}
+
+fn reports_asked<'a>(matches: &ArgMatches<'a>) -> ReportFiles<'a> {
+    ReportFiles {
+        trace: matches.get_str("trace"),
+        profile: matches.get_str("profile"),
+        dump: matches.get_str("dump"),
     }
 }
 
@@ -66,6 +77,7 @@ fn run_job<'a>(alloc: Global, matches: &ArgMatches<'a>) -> Result<Job<'a>, NoJob
         records,
         steps: matches.get_one::<u64>("steps").unwrap_or(u64::MAX),
         port: port_asked(matches),
+        reports: reports_asked(matches),
         form: form_asked(matches),
     })
 }
@@ -97,6 +109,7 @@ fn subcommand_job<'a>(
         }),
         "show" => Ok(Job::Show {
             module: there(matches, "MODULE"),
+            source: matches.get_str("source"),
             form: form_asked(matches),
         }),
         _ => Ok(Job::Explain {

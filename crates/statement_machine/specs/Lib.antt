@@ -10,3 +10,4 @@ pub mod Resuming
 pub use Rattle.world.specs.Answers
 pub mod Elements
 pub mod Joined
+pub mod Views

@@ -39,8 +39,11 @@ mod state;
 mod statements;
 mod status;
 mod variables;
+mod watching;
 
 pub use machine::{Machine, run_from_entry};
+pub use segment_loop::{Clock, Unwatched, Watch};
+pub use watching::{WatchRun, watch_from_entry};
 
 /// Where the meaning of a deck ends having used r rules, a run of its module has ended after this many steps for each
 /// of r + 1 rules: three of a statement (BEGIN, BODY and its goto), and two of its body (an absent object and the

@@ -16,9 +16,11 @@ ghost use Rattle.statement_machine.specs.declared.status.Halt.{Halt as RustHalt}
 
 use crate::run::Run;
 use crate::status::Halt;
+use crate::watching::{Heard, WatchRun, watch_from_entry};
 use loader::Module;
-use model::{Status, Stop};
+use model::Status;
 use parts::{Parts, parts_of};
+use segment_loop::Unwatched;
 use segments::{Form, form_of};
 use std::alloc::{AllocError, Global};
 use std::marker::Model;
@@ -27,11 +29,11 @@ use unit_io::Units;
 /// A run of a module.
 #[derive(Drop)]
 pub struct Machine<'m, 'a> {
-    program: &'m Module<'a>,
-    form: Form,
-    parts: Parts,
-    run: Run,
-    halt: Option<Halt>,
+    pub(crate) program: &'m Module<'a>,
+    pub(crate) form: Form,
+    pub(crate) parts: Parts,
+    pub(crate) run: Run,
+    pub(crate) halt: Option<Halt>,
 }
 
 impl<'m, 'a> Model for Machine<'m, 'a> {
@@ -91,15 +93,49 @@ impl<'m, 'a> Machine<'m, 'a> {
         ensures again { (halt : RustHalt) → self.old.halt ≡ Some halt → (self.new ≡ self.old)
             × (units.new ≡ units.old) }
     {
+        self.run_watched(units, bound, &mut Unwatched)
+    }
+
+    /// What `run` does, watched.
+    pub(crate) fn run_watched<U: Units, W: WatchRun>(
+        &mut self,
+        units: &mut U,
+        bound: u64,
+        watch: &mut W,
+    ) -> Status
+        ensures image { self.new.image ≡ self.old.image }
+        ensures status { result ≡ status_at self.new.halt }
+        ensures served { Served U.Units
+            (stopped_now self.old.halt result) units.old units.new (λ io io'.
+            IfRan result ((st : m.State) → Holds self.old io st
+            → Holds self.new io' (steps (module_of self.old.image) bound st))) }
+        ensures printed { (st : Io → m.State) → ((io : Io) → Holds self.old io (st io)) →
+            PrintsWithin (stopped_now self.old.halt result) (U.told units.old) (U.told units.new) (λ io.
+            steps (module_of self.old.image) bound (st io)) }
+        ensures stops { (st : Io → m.State) → ((io : Io) → Holds self.old io (st io)) →
+            StopsWithin self.old.image bound (stopped_now self.old.halt result) (U.told units.old) (U.told units.new) st }
+        ensures again { (halt : RustHalt) → self.old.halt ≡ Some halt → (self.new ≡ self.old)
+            × (units.new ≡ units.old) }
+    {
         if let Some(halt) = self.halt {
             return halt.status();
         }
-        match self
-            .run
-            .make_steps(self.program, &mut self.form, &self.parts, units, bound)
-        {
-            Ok(()) => Status::Running,
+        let mut heard = Heard::of(&self.run.state.world);
+        match self.run.make_steps(
+            self.program,
+            &mut self.form,
+            &self.parts,
+            units,
+            bound,
+            &mut heard,
+            watch,
+        ) {
+            Ok(()) => {
+                watch.ends(bound, &self.run.state.world);
+                Status::Running
+            }
             Err(halt) => {
+                watch.ends(heard.steps, &self.run.state.world);
                 self.halt = Some(halt);
                 halt.status()
             }
@@ -123,8 +159,5 @@ pub fn run_from_entry<U: Units>(
     // A run that a unit stopped did so where the machine may ask one.
     ensures asked { StopsWhereAsked program.now bound (stop_of_run result) (U.told units.old) (U.told units.new) }
 {
-    match Machine::new(alloc, program) {
-        Ok(mut machine) => machine.run(units, bound),
-        Err(_) => Status::Stopped(Stop::NoMemory),
-    }
+    watch_from_entry(alloc, program, units, bound, &mut Unwatched)
 }

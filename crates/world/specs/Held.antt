@@ -65,6 +65,10 @@ abbrev pub output_in : Option Variable → Option ℕ
 output_in None = None
 output_in (Some v) = v.output
 
+-- a variable of this name stands in this slot, and holds this
+abbrev pub IsIn : (slot : ℕ) → Bytes → Value → List (Bytes × Variable) → Type 0
+IsIn slot x u vs = (v : Variable) × (slice_get vs slot ≡ Some (x, v)) × (v.value ≡ u)
+
 -- the variable in a slot holds this
 abbrev pub Holds : (slot : ℕ) → Value → WorldView → Type 0
 Holds slot u h = (v : Variable) × (slice_get (values_of h.variables) slot ≡ Some v) × (v.value ≡ u)

@@ -80,7 +80,7 @@ impl World {
     }
 
     /// How many calls there are that didn't end.
-    pub(crate) fn level(&self) -> i64
+    pub fn level(&self) -> i64
         ensures { self.now.keys.fnclevel ≡ result }
     {
         integer(&self.keywords, KeyId::FncLevel)
@@ -125,5 +125,12 @@ impl World {
     {
         let count = counted(integer(&self.keywords, KeyId::StFCount));
         self.keywords.put(KeyId::StFCount, count);
+    }
+
+    /// How many statements failed.
+    pub fn failures(&self) -> i64
+        ensures { self.now.keys.stfcount ≡ result }
+    {
+        integer(&self.keywords, KeyId::StFCount)
     }
 }

@@ -31,6 +31,7 @@ mod shared_name;
 mod types;
 mod unit_calls;
 mod value;
+mod views;
 mod world;
 mod world_operators;
 

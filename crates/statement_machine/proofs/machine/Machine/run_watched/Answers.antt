@@ -6,7 +6,7 @@ use Rattle.statement_machine.proofs.Running.{goes_on}
 use Rattle.statement_machine.proofs.Seeing.{ran_on, ran_out, ran_same}
 use Rattle.statement_machine.proofs.Printing.{halt_prints}
 use Rattle.statement_machine.proofs.Asked.{halt_stops}
-use Rattle.statement_machine.proofs.machine.Machine.run.Goals as goal
+use Rattle.statement_machine.proofs.machine.Machine.run_watched.Goals as goal
 
 pub returns-in-Some-clause-served : goal.returns-in-Some-clause-served
 returns-in-Some-clause-served g c =
