@@ -1,5 +1,5 @@
 -- Instructions that fetch names and assign to them.
-use Rattle.std.proofs.Common.{◌≡◌, ℕ, List, ◌∷◌, Option, Result}
+use Rattle.std.proofs.Common.{◌≡◌, ℕ, List, ◌∷◌, Option, Result, refl}
 use Rattle.model.specs.declared.image.Image.{Image}
 use Rattle.model.specs.declared.instr.Instr.TheVariants as op
 use Rattle.model.specs.Language.Io.{Io}
@@ -17,11 +17,14 @@ use Rattle.frames.specs.Stacked.{Stacked}
 use Rattle.frames.specs.View.{operands_of}
 use Rattle.frames.specs.declared.frame.Frame.{Frame}
 use Rattle.world.specs.Answers.{AnswersAs, AnswersOrFails}
+use Rattle.world.specs.Asking.{io_after}
 use Rattle.world.specs.Held.{WorldView, world_of}
 use Rattle.world.specs.Values.{value_of}
 use Rattle.world.specs.declared.value.Value.{Value}
 use Rattle.world.specs.declared.world_operators.Span.{Span}
 use Rattle.world.specs.declared.fault.Fault.{Fault}
+use Rattle.statement_machine.specs.Asking.{io_at}
+use Rattle.statement_machine.proofs.Asked.{op_io}
 use Rattle.statement_machine.specs.Held.{Left, Meets, StaysSound, after, handlers_in, waiting}
 use Rattle.statement_machine.specs.declared.state.State.{State}
 use Rattle.statement_machine.specs.declared.status.Exit.{Exit}
@@ -60,6 +63,9 @@ module _ (im : Image) (frames : List Frame) (q : ℕ) (s new : State) (mid : Wor
       → (io io' : Io) → AnswersOrFails answer (world_of mid io') (fetch_op (name_of n.name) (world_of s.world io)) → Left im frames r new io' (after im op.Fetch q frames s io)
   fetched answer e g io io' x = rw e (g io' (fetch_op (name_of n.name) (world_of s.world io)) x)
 
+  pub fetch_io : s.operands ≡ record rest { top = operand.Name n ∷ rest.top } → (io : Io) → io_at (after im op.Fetch q frames s io) ≡ io_after (fetch_op (name_of n.name) (world_of s.world io))
+  fetch_io e io = rw e (op_io (fetch_op (name_of n.name) (world_of s.world io)) hs (operands_of rest.top) fs (λ v w. Run to (OV v ∷ operands_of rest.top) hs fs w) (λ v w. refl))
+
   pub fetch_sound : (answer : Result (Option MVal) Fault) → Meets im op.Fetch q frames s → s.operands ≡ record rest { top = operand.Name n ∷ rest.top } → GoesWith im frames q answer mid (operands_of rest.top) hs fs r new → StaysSound im frames r new
   fetch_sound answer h e g =
       let o = some_answer_or_failure answer (world_of mid no_records) in
@@ -72,6 +78,11 @@ module _ (im : Image) (frames : List Frame) (q : ℕ) (s new : State) (mid : Wor
   fetched_above answer e g io io' x =
       let h : Left im frames r new io' (after_op (fetch_op (name_of n.name) (world_of s.world io)) hs (operands_of s.operands.top) fs (λ v w. Run to (OV v ∷ operands_of s.operands.top) hs fs w)) = g io' (fetch_op (name_of n.name) (world_of s.world io)) x in
       rw e (rw e at h)
+
+  pub fetch_above_io : s.operands ≡ record rest { top = operand.Name n ∷ rest.top } → (io : Io) → io_at (after im op.FetchK q frames s io) ≡ io_after (fetch_op (name_of n.name) (world_of s.world io))
+  fetch_above_io e io =
+      let ops : List m.Operand = operands_of (operand.Name n ∷ rest.top) in
+      rw e (op_io (fetch_op (name_of n.name) (world_of s.world io)) hs ops fs (λ v w. Run to (OV v ∷ ops) hs fs w) (λ v w. refl))
 
   pub fetch_above_sound : (answer : Result (Option MVal) Fault) → Meets im op.FetchK q frames s → s.operands ≡ record rest { top = operand.Name n ∷ rest.top } → GoesWith im frames q answer mid (operands_of s.operands.top) hs fs r new → StaysSound im frames r new
   fetch_above_sound answer h e g =
@@ -87,6 +98,9 @@ module _ (im : Image) (frames : List Frame) (q : ℕ) (s new : State) (mid : Wor
       → (io io' : Io) → AnswersAs answer (world_of mid io') (assign_op (name_of n.name) (value_of v) (world_of s.world io)) → Left im frames r new io' (after im op.Assign q frames s io)
   assigned v answer e g io io' x = rw e (g io' (assign_op (name_of n.name) (value_of v) (world_of s.world io)) x)
 
+  pub assign_io : (v : Value) → s.operands ≡ record rest { top = operand.Value v ∷ operand.Name n ∷ rest.top } → (io : Io) → io_at (after im op.Assign q frames s io) ≡ io_after (assign_op (name_of n.name) (value_of v) (world_of s.world io))
+  assign_io v e io = rw e (op_io (assign_op (name_of n.name) (value_of v) (world_of s.world io)) hs (operands_of rest.top) fs (λ u w. Run to (operands_of rest.top) hs fs w) (λ u w. refl))
+
   pub assign_sound : (v : Value) (answer : Result (record {}) Fault) → Meets im op.Assign q frames s → s.operands ≡ record rest { top = operand.Value v ∷ operand.Name n ∷ rest.top } → Goes im frames q answer mid (operands_of rest.top) hs fs r new → StaysSound im frames r new
   assign_sound v answer h e g =
       let o = some_answer answer (world_of mid no_records) in
@@ -97,6 +111,11 @@ module _ (im : Image) (frames : List Frame) (q : ℕ) (s new : State) (mid : Wor
       → Goes im frames q answer mid (operands_of rest.top) hs fs r new
       → (io io' : Io) → AnswersAs answer (world_of mid io') (splice_op (name_of n.name) d.subject d.start d.end (value_of v) (world_of s.world io)) → Left im frames r new io' (after im op.Splice q frames s io)
   spliced v d answer e g io io' x = rw e (g io' (splice_op (name_of n.name) d.subject d.start d.end (value_of v) (world_of s.world io)) x)
+
+  pub splice_io : (v : Value) (d : Span) → s.operands ≡ record rest { top = operand.Value v ∷ operand.Span d ∷ operand.Name n ∷ rest.top }
+      → (io : Io) → io_at (after im op.Splice q frames s io) ≡ io_after (splice_op (name_of n.name) d.subject d.start d.end (value_of v) (world_of s.world io))
+  splice_io v d e io =
+      rw e (op_io (splice_op (name_of n.name) d.subject d.start d.end (value_of v) (world_of s.world io)) hs (operands_of rest.top) fs (λ u w. Run to (operands_of rest.top) hs fs w) (λ u w. refl))
 
   pub splice_sound : (v : Value) (d : Span) (answer : Result (record {}) Fault) → Meets im op.Splice q frames s → s.operands ≡ record rest { top = operand.Value v ∷ operand.Span d ∷ operand.Name n ∷ rest.top } → Goes im frames q answer mid (operands_of rest.top) hs fs r new → StaysSound im frames r new
   splice_sound v d answer h e g =

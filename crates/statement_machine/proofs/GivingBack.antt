@@ -1,22 +1,19 @@
 -- Runs that give objects back between steps.
-use Rattle.std.proofs.Common.{◌≡◌, ℕ, Bool, List, ◌+◌, ◌-◌, ◌≤◌, arith, ◌++◌, map, refl, sym, ap, ◌∙◌, subst, Option, Some, None}
+use Rattle.std.proofs.Common.{◌≡◌, ℕ, Bool, List, ◌-◌, ◌≤◌, arith, ◌++◌, map, refl, sym, ap, ◌∙◌, subst, Option}
 use Rattle.model.specs.declared.image.Image.{Image}
 use Rattle.model.specs.declared.run.Ending.{Ending}
-use Rattle.model.specs.declared.run.Stop.{Stop}
-use Rattle.model.specs.declared.run.Stop.TheVariants as stop
 use Rattle.model.specs.Language.Io.{Io}
 use Rattle.model.specs.Language.Told.{IfTold}
-use Rattle.model.specs.Laws.Agreement.{Records, seen_at}
+use Rattle.model.specs.Laws.Agreement.{seen_at}
 use Rattle.model.specs.Machine.Living.{AlikeBy, runs, matches, ended, stuck, Collected, never, once_more, Grows, OperandsLive, ValueLives, ValuesLive}
 use Rattle.model.specs.Machine.Steps as m
 use Rattle.model.specs.Machine.Steps.{steps}
 use Rattle.model.specs.Module.Images.{module_of}
-use Rattle.model.proofs.Machine.Collecting.{go_on_collected, operands_on, steps_collected, value_on}
+use Rattle.model.proofs.Machine.Collecting.{operands_on, steps_collected, value_on}
 use Rattle.model.proofs.Machine.StepsLiving.{seen_alike}
 use Rattle.segments.proofs.Leading.{steps_rest}
 use Rattle.statement_machine.proofs.Running.{some_made}
-use Rattle.statement_machine.proofs.Telling.{told_on, told_then}
-use Rattle.statement_machine.specs.Asking.{AsksAt, StopsAt, StopsWithin}
+use Rattle.statement_machine.proofs.Telling.{told_then}
 use Rattle.statement_machine.specs.Held.{handlers_in, state_of, waiting}
 use Rattle.statement_machine.specs.Runs.{LacksNothing, TaskStands, left_at, run_of, state_at}
 use Rattle.statement_machine.specs.Collecting.{IsInCalls, IsSameRun, StateLives}
@@ -58,12 +55,6 @@ module _ (marked : ℕ → Bool) where
   left_alike _ _ (ended i) = refl
   left_alike _ _ (stuck i) = refl
 
-  asks_alike : (im : Image) (printed : Records) (a b : m.State) → AlikeBy marked a b → AsksAt im b printed → AsksAt im a printed
-  asks_alike im printed _ _ (runs o f i) h = h
-  asks_alike im printed _ _ (matches g k f i) h = h
-  asks_alike im printed _ _ (ended i) h = h
-  asks_alike im printed _ _ (stuck i) h = h
-
 pub seen_collected : (a b : m.State) → Collected a b → seen_at b ≡ seen_at a
 seen_collected a b never = refl
 seen_collected a b (once_more marked h r) = seen_collected _ b r ∙ seen_alike marked a _ h
@@ -75,10 +66,6 @@ io_collected a b (once_more marked h r) = io_collected _ b r ∙ io_alike marked
 pub left_collected : (a b : m.State) → Collected a b → left_at b ≡ left_at a
 left_collected a b never = refl
 left_collected a b (once_more marked h r) = left_collected _ b r ∙ left_alike marked a _ h
-
-pub asks_collected : (im : Image) (printed : Records) (a b : m.State) → Collected a b → AsksAt im b printed → AsksAt im a printed
-asks_collected im printed a b never h = h
-asks_collected im printed a b (once_more marked h r) k = asks_alike marked im printed a _ h (asks_collected im printed _ b r k)
 
 -- ---- steps, and objects given back, and more steps
 
@@ -116,30 +103,6 @@ all_given im left st total none h = let z : left ≡ 0 = omega (arith, none) in 
 pub ended_given : (im : Image) (left : ℕ) (e : Ending) (now mid : Run) (s : State) (io io' : Io) (total : m.State) → IsSameRun now mid → Collected total (steps (module_of im) left (run_of im now io))
     → steps (module_of im) left (run_of im mid io) ≡ m.Over e (world_of s.world io') → Collected total (m.Over e (world_of s.world io'))
 ended_given im left e now mid s io io' total given h over = subst (λ x. Collected total x) over (rest_given im left now mid io total given h)
-
--- ---- where a run stops
-
-then_asks : (im : Image) (n k bound : ℕ) (st mid : m.State) (printed : Records) → n + k ≤ bound → Collected (steps (module_of im) n st) mid → StopsAt im k mid printed → StopsAt im bound st printed
-then_asks im n k bound st mid printed le e r = record {
-  made = n + r.made;
-  within = omega (arith, r.within, le);
-  asks = asks_collected im printed _ _ (go_on_collected im n r.made st mid e) r.asks;
-}
-
--- after steps that went well
-pub stops_given : (im : Image) (n k bound : ℕ) (why : Option Stop) (x y z : Option Io) (r now mid : Run) → n + k ≤ bound → IsSameRun now mid
-    → IfTold x y (λ io io'. Collected (steps (module_of im) n (run_of im r io)) (run_of im now io'))
-    → StopsWithin im k why y z (λ io. run_of im mid io) → StopsWithin im bound why x z (λ io. run_of im r io)
-stops_given im n k bound None x y z r now mid le given e h = tt
-stops_given im n k bound (Some stop.NoMemory) x y z r now mid le given e h = tt
-stops_given im n k bound (Some (stop.Unit u cause)) x y z r now mid le given e h =
-    told_then x y z _ _ _ (λ io io1 io2 p q. then_asks im n k bound (run_of im r io) (run_of im mid io1) io2.printed le (collected_on _ _ _ p (given.collected im io1)) q) e h
-
--- at a state that is the same but for what was given back
-pub stops_collected : (im : Image) (bound : ℕ) (why : Option Stop) (x y : Option Io) (st now : Io → m.State) → ((io : Io) → Collected (st io) (now io)) → StopsWithin im bound why x y now → StopsWithin im bound why x y st
-stops_collected im bound None x y st now e h = tt
-stops_collected im bound (Some stop.NoMemory) x y st now e h = tt
-stops_collected im bound (Some (stop.Unit u cause)) x y st now e h = told_on x y _ _ (λ io io' q. then_asks im 0 bound bound (st io) (now io) io'.printed (omega arith) (e io) q) h
 
 -- ---- what a run needs
 

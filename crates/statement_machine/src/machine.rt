@@ -87,7 +87,7 @@ impl<'m, 'a> Machine<'m, 'a> {
         ensures printed { (st : Io → m.State) → ((io : Io) → Holds self.old io (st io)) →
             PrintsWithin (stopped_now self.old.halt result) (U.told units.old) (U.told units.new) (λ io.
             steps (module_of self.old.image) bound (st io)) }
-        // A run that a unit stopped did so where the machine may ask one.
+        // A run that a unit stopped did so where the machine asks that unit.
         ensures stops { (st : Io → m.State) → ((io : Io) → Holds self.old io (st io)) →
             StopsWithin self.old.image bound (stopped_now self.old.halt result) (U.told units.old) (U.told units.new) st }
         ensures again { (halt : RustHalt) → self.old.halt ≡ Some halt → (self.new ≡ self.old)
@@ -156,7 +156,7 @@ pub fn run_from_entry<U: Units>(
     // A run that stopped has printed a beginning of what the machine prints.
     ensures printed { IfStop result
         (IfTold (U.told units.old) (U.told units.new) (IsStoppedRun program.now bound)) }
-    // A run that a unit stopped did so where the machine may ask one.
+    // A run that a unit stopped did so where the machine asks that unit.
     ensures asked { StopsWhereAsked program.now bound (stop_of_run result) (U.told units.old) (U.told units.new) }
 {
     watch_from_entry(alloc, program, units, bound, &mut Unwatched)

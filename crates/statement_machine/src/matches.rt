@@ -10,6 +10,8 @@ ghost use Rattle.model.specs.Language.Operators.{assign_all, assign_op, told_val
 ghost use Rattle.model.specs.Pattern.Steps.{event_of};
 ghost use Rattle.model.specs.declared.image.Image.{Image};
 ghost use Rattle.pattern_compiler.specs.View.{name_of};
+ghost use Rattle.world.specs.Asking.{Prints, io_after};
+ghost use Rattle.statement_machine.specs.Asking.{PrintsNext, io_at};
 ghost use Rattle.statement_machine.specs.Held.{Left, waiting};
 ghost use Rattle.statement_machine.specs.Runs.{IsMatched, PrintsTo, PrintsWithin, found_kinds, matching_in, world_in};
 ghost use Rattle.statement_machine.specs.Stopped.{GoesOrHalts, halted_by};
@@ -54,6 +56,8 @@ fn assign_noting<U: Units>(
         AnswersAs (done result) (world_of world.new io')
         (assign_op (name_of name.now) (value_of value) (world_of world.old io))) }
     ensures quiet { IsQuiet (stopped_by result) (U.told units.old) (U.told units.new) }
+    ensures asked { Prints (stopped_by result) (λ io. io_after
+        (assign_op (name_of name.now) (value_of value) (world_of world.old io))) }
     ensures names { world.new.names ≡ world.old.names }
 {
     let mut slot = NO_SLOT;
@@ -78,6 +82,8 @@ fn assign<U: Units>(
         AnswersAs (done result) (world_of world.new io')
         (assign_op (name_of name.now) (value_of value) (world_of world.old io))) }
     ensures quiet { IsQuiet (stopped_by result) (U.told units.old) (U.told units.new) }
+    ensures asked { Prints (stopped_by result) (λ io. io_after
+        (assign_op (name_of name.now) (value_of value) (world_of world.old io))) }
     ensures names { world.new.names ≡ world.old.names }
 {
     if let Name::Variable(variable) = name {
@@ -103,6 +109,8 @@ fn assign_all<U: Units>(
         (assign_all (pending_of pending.now) (world_of world.old io))) }
     ensures printed { PrintsTo (stopped_by result) (U.told units.old) (U.told units.new) (λ io.
         world_in (assign_all (pending_of pending.now) (world_of world.old io))) }
+    ensures next { PrintsNext (stopped_by result) (U.told units.old) (U.told units.new) (λ io. io_after
+        (assign_all (pending_of pending.now) (world_of world.old io))) }
     ensures names { world.new.names ≡ world.old.names }
 {
     for assignment in pending {
@@ -143,6 +151,11 @@ impl State {
             on_event (module_of im) (event_of matching.old.search.state)
             (matching_in im matching.old self.old) matching.old.search.state (waiting im fs self.old)
             (world_of self.old.world io)) }
+        ensures next { (im : Image) (fs : List Frame)
+            → PrintsNext (halted_by result) (U.told units.old) (U.told units.new) (λ io. io_at
+            (on_event (module_of im) (event_of matching.old.search.state)
+            (matching_in im matching.old self.old) matching.old.search.state (waiting im fs self.old)
+            (world_of self.old.world io))) }
         ensures shape { OnOk result
             ((self.new.place ≡ matching.old.place) × (self.new.handlers ≡ self.old.handlers)
             × (self.new.operands.under ≡ self.old.operands.under)

@@ -5,6 +5,8 @@ ghost use Rattle.model.specs.Language.Io.{Io};
 ghost use Rattle.model.specs.declared.image.Image.{Image};
 ghost use Rattle.model.specs.declared.run.Stop.TheVariants.{NoMemory};
 ghost use Rattle.frames.specs.declared.frame.Frame.{Frame};
+ghost use Rattle.world.specs.Asking.{Takes};
+ghost use Rattle.statement_machine.specs.Asking.{io_at};
 ghost use Rattle.statement_machine.specs.Held.{Left, StaysSound};
 ghost use Rattle.statement_machine.specs.Resuming.{CallerStands, resumed_with};
 ghost use Rattle.statement_machine.specs.Stopped.{IfHalted, halted_by};
@@ -28,6 +30,8 @@ impl State {
             (im : Image) (fs : List Frame)
             → Left im fs result self.new io' (resumed_with im fs false next given self.old io)) }
         ensures quiet { IsQuiet (halted_by result) (U.told units.old) (U.told units.new) }
+        ensures asked { (im : Image) (fs : List Frame)
+            → Takes (halted_by result) (λ io. io_at (resumed_with im fs false next given self.old io)) }
         ensures sound { (im : Image) (fs : List Frame) → CallerStands im fs false next self.old
             → StaysSound im fs result self.new }
         ensures names { self.new.world.names ≡ self.old.world.names }
@@ -63,6 +67,8 @@ impl State {
             (im : Image) (fs : List Frame)
             → Left im fs result self.new io' (resumed_with im fs want_name next given self.old io)) }
         ensures quiet { IsQuiet (halted_by result) (U.told units.old) (U.told units.new) }
+        ensures asked { (im : Image) (fs : List Frame)
+            → Takes (halted_by result) (λ io. io_at (resumed_with im fs want_name next given self.old io)) }
         ensures sound { (im : Image) (fs : List Frame) → CallerStands im fs want_name next self.old
             → StaysSound im fs result self.new }
         ensures names { self.new.world.names ≡ self.old.world.names }

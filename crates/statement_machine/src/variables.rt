@@ -13,6 +13,8 @@ ghost use Rattle.frames.specs.declared.frame.Frame.{Frame};
 ghost use Rattle.world.specs.Answers.{AnswersAs, AnswersOrFails, answer_map, done, stopped_by};
 ghost use Rattle.world.specs.Held.{world_of};
 ghost use Rattle.world.specs.Values.{value_of};
+ghost use Rattle.world.specs.Asking.{Prints, Takes};
+ghost use Rattle.statement_machine.specs.Asking.{io_at};
 ghost use Rattle.statement_machine.specs.Held.{Left, Meets, StaysSound, after, handlers_in, waiting};
 ghost use Rattle.statement_machine.specs.Stopped.{halted_by};
 ghost use Rattle.unit_io.specs.Service.{IsQuiet, KeepsCounts, Served};
@@ -66,6 +68,7 @@ impl State {
             (handlers_in im self.old) (waiting im fs self.old) w)) }
         ensures counts { (old new : ℕ → ℕ) → KeepsCounts (stopped_by answer) old new
             → KeepsCounts (halted_by result) old new }
+        ensures asked { (f : Io → Io) → Takes (stopped_by answer) f → Takes (halted_by result) f }
         ensures names { self.new.world.names ≡ self.old.world.names }
     {
         match answer {
@@ -82,6 +85,8 @@ impl State {
             (im : Image) (fs : List Frame)
             → Left im fs result self.new io' (after im Instr.Assign next fs self.old io)) }
         ensures quiet { IsQuiet (halted_by result) (U.told units.old) (U.told units.new) }
+        ensures asked { (im : Image) (fs : List Frame)
+            → Prints (halted_by result) (λ io. io_at (after im Instr.Assign next fs self.old io)) }
         ensures sound { (im : Image) (fs : List Frame) → Meets im Instr.Assign next fs self.old
             → StaysSound im fs result self.new }
         ensures names { self.new.world.names ≡ self.old.world.names }
@@ -101,6 +106,8 @@ impl State {
             (im : Image) (fs : List Frame)
             → Left im fs result self.new io' (after im Instr.Fetch next fs self.old io)) }
         ensures quiet { IsQuiet (halted_by result) (U.told units.old) (U.told units.new) }
+        ensures asked { (im : Image) (fs : List Frame)
+            → Takes (halted_by result) (λ io. io_at (after im Instr.Fetch next fs self.old io)) }
         ensures sound { (im : Image) (fs : List Frame) → Meets im Instr.Fetch next fs self.old
             → StaysSound im fs result self.new }
         ensures names { self.new.world.names ≡ self.old.world.names }
@@ -117,6 +124,8 @@ impl State {
             (im : Image) (fs : List Frame)
             → Left im fs result self.new io' (after im Instr.FetchK next fs self.old io)) }
         ensures quiet { IsQuiet (halted_by result) (U.told units.old) (U.told units.new) }
+        ensures asked { (im : Image) (fs : List Frame)
+            → Takes (halted_by result) (λ io. io_at (after im Instr.FetchK next fs self.old io)) }
         ensures sound { (im : Image) (fs : List Frame) → Meets im Instr.FetchK next fs self.old
             → StaysSound im fs result self.new }
         ensures names { self.new.world.names ≡ self.old.world.names }
@@ -133,6 +142,8 @@ impl State {
             (im : Image) (fs : List Frame)
             → Left im fs result self.new io' (after im Instr.Splice next fs self.old io)) }
         ensures quiet { IsQuiet (halted_by result) (U.told units.old) (U.told units.new) }
+        ensures asked { (im : Image) (fs : List Frame)
+            → Prints (halted_by result) (λ io. io_at (after im Instr.Splice next fs self.old io)) }
         ensures sound { (im : Image) (fs : List Frame) → Meets im Instr.Splice next fs self.old
             → StaysSound im fs result self.new }
         ensures names { self.new.world.names ≡ self.old.world.names }

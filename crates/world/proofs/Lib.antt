@@ -5,6 +5,7 @@ pub mod Integers
 pub mod Powers
 pub mod Keywords
 pub mod Telling
+pub mod Asked
 pub mod UnitCalls
 pub mod Objects
 pub mod Reaching

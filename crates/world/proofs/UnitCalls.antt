@@ -4,6 +4,7 @@ use Rattle.std.specs.Prelude.{OnErr, OnOk, IsErrAnd, if◌then◌else◌}
 use Rattle.std.proofs.lemmas.Result.{err_from_is_err_and}
 use Rattle.std.proofs.lemmas.Slice.Eq.{bytes_eq-Decides}
 use Rattle.model.specs.declared.run.ErrorCode.TheVariants as error
+use Rattle.model.specs.declared.run.Stop.{Stop}
 use Rattle.model.specs.Deck.Trees.{Bytes}
 use Rattle.model.specs.Language.Io.{Io}
 use Rattle.model.specs.Language.Told.{IfTold}
@@ -25,6 +26,8 @@ use Rattle.world.specs.declared.fault.Fault.{Fault}
 use Rattle.world.specs.declared.fault.Fault.TheVariants as fault
 use Rattle.world.specs.declared.value.Value.{Value}
 use Rattle.world.specs.declared.world.Variable as var
+use Rattle.world.specs.Asking.{Prints, Takes, io_after}
+use Rattle.world.proofs.Asked.{prints_on, takes_on}
 use Rattle.world.proofs.Telling.{told_same, told_on, told_read, end_stays}
 
 -- ---- a record as a value
@@ -123,30 +126,52 @@ fetched_value x h variable v i o at reads none same =
     ∙ ap (λ z. Gives (value_of z) (world_of h io)) (sym same))
 
 -- a record of the unit that a variable reads from
+pub reads_unit : (x : Bytes) (u : ℕ) (h : WorldView) (variable : var.Variable) (i : Option ℕ) → variable_at x h.variables ≡ Some variable → i ≡ (if is_zero h.keys.input then None else variable.input) → i ≡ Some u
+    → (io : Io) → fetch_op (Variable x) (world_of h io) ≡ take_record x u (io.left u) (world_of h io)
+reads_unit x u h variable i at reads unit io =
+    ap (λ z. fetch_var x (input_in z) (world_of h io)) at ∙ record_read (is_zero h.keys.input) x variable.input u (world_of h io) refl (sym reads ∙ unit)
+
 pub fetched_unit : (x : Bytes) (u : ℕ) (h new : WorldView) (variable : var.Variable) (i : Option ℕ) (r : Result (Option MVal) Fault) (o m : Option Io) → variable_at x h.variables ≡ Some variable → i ≡ (if is_zero h.keys.input then None else variable.input) → i ≡ Some u
     → IfTold o m (λ io io'. AnswersOrFails r (world_of new io') (take_record x u (io.left u) (world_of h io)))
     → IfTold o m (λ io io'. AnswersOrFails r (world_of new io') (fetch_op (Variable x) (world_of h io)))
 fetched_unit x u h new variable i r o m at reads unit records =
     told_on o m _ _
-    (λ io io' a. subst (λ p. AnswersOrFails r (world_of new io') p)
-    (sym (ap (λ z. fetch_var x (input_in z) (world_of h io)) at ∙ record_read (is_zero h.keys.input) x variable.input u (world_of h io) refl (sym reads ∙ unit))) a)
+    (λ io io' a. subst (λ p. AnswersOrFails r (world_of new io') p) (sym (reads_unit x u h variable i at reads unit io)) a)
     records
+
+pub fetch_asks : (x : Bytes) (u : ℕ) (h : WorldView) (variable : var.Variable) (i : Option ℕ) (why : Option Stop) → variable_at x h.variables ≡ Some variable → i ≡ (if is_zero h.keys.input then None else variable.input) → i ≡ Some u
+    → Takes why (λ io. io_after (take_record x u (io.left u) (world_of h io))) → Takes why (λ io. io_after (fetch_op (Variable x) (world_of h io)))
+fetch_asks x u h variable i why at reads unit t = takes_on why _ _ (λ io. ap io_after (reads_unit x u h variable i at reads unit io)) t
 
 -- ---- assigning
 
 abbrev pub write_if : Bool → ℕ → MVal → MW → Op MW (record {})
 write_if off u v w = if off then Gives (record {}) w else print_text u (to_text v) w
 
+written_text : (u : ℕ) (v v' : MVal) (h : WorldView) → v ≡ v' → is_zero h.keys.output ≡ false → (io : Io) → write_var (Some u) v' (world_of h io) ≡ print_text u (to_text v) (world_of h io)
+written_text u v v' h same on io = sym (ap (λ z. print_text u (to_text z) (world_of h io)) same ∙ ap (λ b. write_if b u v' (world_of h io)) (sym on))
+
 pub written : (u : ℕ) (v v' : MVal) (h : WorldView) (r : Result (record {}) Fault) (o n : Option Io) → v ≡ v' → is_zero h.keys.output ≡ false
     → IfTold o n (λ io io'. (k : WorldView) → AnswersAs r (world_of k io') (print_text u (to_text v) (world_of k io)))
     → IfTold o n (λ io io'. AnswersAs r (world_of h io') (write_var (Some u) v' (world_of h io)))
 written u v v' h r o n same on prints =
     told_on o n _ _
-    (λ io io' f. subst (λ p. AnswersAs r (world_of h io') p) (ap (λ z. print_text u (to_text z) (world_of h io)) same ∙ ap (λ b. write_if b u v' (world_of h io)) (sym on)) (f h))
+    (λ io io' f. subst (λ p. AnswersAs r (world_of h io') p) (sym (written_text u v v' h same on io)) (f h))
     prints
+
+pub write_asks : (u : ℕ) (v v' : MVal) (h : WorldView) (why : Option Stop) → v ≡ v' → is_zero h.keys.output ≡ false
+    → ((k : WorldView) → Prints why (λ io. io_after (print_text u (to_text v) (world_of k io)))) → Prints why (λ io. io_after (write_var (Some u) v' (world_of h io)))
+write_asks u v v' h why same on prints = prints_on why _ _ (λ io. ap io_after (written_text u v v' h same on io)) (prints h)
 
 if_same : (x : Bytes) (v w : MVal) → (if bytes_eq x x then v else w) ≡ v
 if_same x v w = ap (λ b. if b then v else w) ((bytes_eq-Decides x x).1 refl)
+
+writes_to : (x : Bytes) (u : ℕ) (v : MVal) (h new : WorldView) → Some u ≡ output_in (variable_at x h.variables) → ((io : Io) → world_of new io ≡ set_var x v (world_of h io))
+    → (io : Io) → assign_op (Variable x) v (world_of h io) ≡ write_var (Some u) (value_in (variable_at x new.variables)) (world_of new io)
+writes_to x u v h new out set io =
+    sym (ap (λ z. write_var (Some u) z (world_of new io)) (ap (λ w. w.vars x) (set io) ∙ if_same x v ((world_of h io).vars x))
+    ∙ ap (λ w. write_var (Some u) v w) (set io)
+    ∙ ap (λ z. write_var z v (set_var x v (world_of h io))) out)
 
 pub assigned_to_unit : (x : Bytes) (u : ℕ) (v : MVal) (h new : WorldView) (r : Result (record {}) Fault) (o m : Option Io) → Some u ≡ output_in (variable_at x h.variables)
     → ((io : Io) → world_of new io ≡ set_var x v (world_of h io))
@@ -154,11 +179,12 @@ pub assigned_to_unit : (x : Bytes) (u : ℕ) (v : MVal) (h new : WorldView) (r :
     → IfTold o m (λ io io'. AnswersAs r (world_of new io') (assign_op (Variable x) v (world_of h io)))
 assigned_to_unit x u v h new r o m out set writes =
     told_on o m _ _
-    (λ io io' a. subst (λ p. AnswersAs r (world_of new io') p)
-    (ap (λ z. write_var (Some u) z (world_of new io)) (ap (λ w. w.vars x) (set io) ∙ if_same x v ((world_of h io).vars x))
-    ∙ ap (λ w. write_var (Some u) v w) (set io)
-    ∙ ap (λ z. write_var z v (set_var x v (world_of h io))) out) a)
+    (λ io io' a. subst (λ p. AnswersAs r (world_of new io') p) (sym (writes_to x u v h new out set io)) a)
     writes
+
+pub assign_asks : (x : Bytes) (u : ℕ) (v : MVal) (h new : WorldView) (why : Option Stop) → Some u ≡ output_in (variable_at x h.variables) → ((io : Io) → world_of new io ≡ set_var x v (world_of h io))
+    → Prints why (λ io. io_after (write_var (Some u) (value_in (variable_at x new.variables)) (world_of new io))) → Prints why (λ io. io_after (assign_op (Variable x) v (world_of h io)))
+assign_asks x u v h new why out set writes = prints_on why _ _ (λ io. ap io_after (writes_to x u v h new out set io)) writes
 
 pub assigned_alone : (x : Bytes) (v : MVal) (h new : WorldView) (o : Option Io) → None ≡ output_in (variable_at x h.variables)
     → ((io : Io) → world_of new io ≡ set_var x v (world_of h io))

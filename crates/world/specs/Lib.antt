@@ -2,6 +2,7 @@ pub mod Values
 pub mod Objects
 pub mod Marking
 pub mod Answers
+pub mod Asking
 pub mod Held
 pub mod Counts
 pub mod Functions

@@ -13,6 +13,7 @@ ghost use Rattle.model.specs.declared.run.Stop.TheVariants.{NoMemory};
 ghost use Rattle.pattern_compiler.specs.View.{name_of};
 ghost use Rattle.prototypes.specs.Views.{names_of};
 ghost use Rattle.world.specs.Answers.{answer_map, op_of, stopped_by, AnswersOrFails, IfStopped};
+ghost use Rattle.world.specs.Asking.{Takes, io_after};
 ghost use Rattle.world.specs.Calling.{AreFilled, ArePut, AreSaved, IsKept, LeavesTo, given_of, kept_with, saved_as, saved_below};
 ghost use Rattle.world.specs.declared.calls.Given.TheVariants as given;
 ghost use Rattle.world.specs.Held.{value_in, variable_at, world_of};
@@ -400,6 +401,7 @@ impl World {
             AnswersOrFails (answer_map (option_map value_of) result) (world_of self.new io')
             (as_value (given_of given) (world_of self.old io))) }
         ensures quiet { PrintsNothing (U.told units.old) (U.told units.new) }
+        ensures asked { Takes (stopped_by result) (λ io. io_after (as_value (given_of given) (world_of self.old io))) }
         ensures err { OnErr result (self.new ≡ self.old) }
         ensures names { self.new.names ≡ self.old.names }
     {

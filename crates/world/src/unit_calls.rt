@@ -11,6 +11,7 @@ ghost use Rattle.model.specs.declared.run.Stop.TheVariants.{NoMemory};
 ghost use Rattle.pattern_compiler.specs.View.{name_of};
 ghost use Rattle.world.specs.Values.{value_of};
 ghost use Rattle.world.specs.Held.{WorldView, IsSet, IsSetOrKept, world_of, taken, variable_at, value_in};
+ghost use Rattle.world.specs.Asking.{Prints, Takes, io_after};
 ghost use Rattle.world.specs.Answers.{answer_map, AnswersAs, AnswersOrFails, done, IfStopped, stop_of, stopped_by};
 ghost use Rattle.unit_io.specs.Service.{IsQuiet, PrintsNothing, Served};
 
@@ -33,6 +34,8 @@ impl World {
             AnswersOrFails (answer_map (option_map value_of) result) (world_of self.new io')
             (fetch_op (name_of name.now) (world_of self.old io))) }
         ensures quiet { PrintsNothing (U.told units.old) (U.told units.new) }
+        ensures asked { Takes (stopped_by result) (λ io. io_after
+            (fetch_op (name_of name.now) (world_of self.old io))) }
         ensures err { OnErr result (self.new ≡ self.old) }
         ensures end { result ≡ Ok None → self.new ≡ self.old }
         ensures names { self.new.names ≡ self.old.names }
@@ -52,6 +55,8 @@ impl World {
             AnswersOrFails (answer_map (option_map value_of) result) (world_of self.new io')
             (fetch_op (name_of name.now) (world_of self.old io))) }
         ensures quiet { PrintsNothing (U.told units.old) (U.told units.new) }
+        ensures asked { Takes (stopped_by result) (λ io. io_after
+            (fetch_op (name_of name.now) (world_of self.old io))) }
         ensures err { OnErr result (self.new ≡ self.old) }
         ensures end { result ≡ Ok None → self.new ≡ self.old }
         ensures names { self.new.names ≡ self.old.names }
@@ -79,6 +84,8 @@ impl World {
             AnswersOrFails (answer_map (option_map value_of) result) (world_of self.new io')
             (fetch_op (Variable name.now) (world_of self.old io))) }
         ensures quiet { PrintsNothing (U.told units.old) (U.told units.new) }
+        ensures asked { Takes (stopped_by result) (λ io. io_after
+            (fetch_op (Variable name.now) (world_of self.old io))) }
         ensures err { OnErr result (self.new ≡ self.old) }
         ensures end { result ≡ Ok None → self.new ≡ self.old }
         ensures names { self.new.names ≡ self.old.names }
@@ -101,6 +108,8 @@ impl World {
             AnswersOrFails (answer_map (option_map value_of) result) (world_of self.new io')
             (fetch_op (Variable name.now) (world_of self.old io))) }
         ensures quiet { PrintsNothing (U.told units.old) (U.told units.new) }
+        ensures asked { Takes (stopped_by result) (λ io. io_after
+            (fetch_op (Variable name.now) (world_of self.old io))) }
         ensures err { OnErr result (self.new ≡ self.old) }
         ensures end { result ≡ Ok None → self.new ≡ self.old }
         ensures names { self.new.names ≡ self.old.names }
@@ -128,6 +137,8 @@ impl World {
             AnswersOrFails (answer_map (option_map value_of) result) (world_of self.new io')
             (take_record name.now unit (io.left unit) (world_of self.old io))) }
         ensures quiet { PrintsNothing (U.told units.old) (U.told units.new) }
+        ensures asked { Takes (stopped_by result) (λ io. io_after
+            (take_record name.now unit (io.left unit) (world_of self.old io))) }
         ensures err { OnErr result (self.new ≡ self.old) }
         ensures end { result ≡ Ok None → self.new ≡ self.old }
         ensures names { self.new.names ≡ self.old.names }
@@ -183,6 +194,8 @@ impl World {
             AnswersAs (done result) (world_of self.new io')
             (assign_op (name_of name.now) (value_of value) (world_of self.old io))) }
         ensures quiet { IsQuiet (stopped_by result) (U.told units.old) (U.told units.new) }
+        ensures asked { Prints (stopped_by result) (λ io. io_after
+            (assign_op (name_of name.now) (value_of value) (world_of self.old io))) }
         ensures ok { OnOk result (IsSet (name_of name.now) (value_of value) self.old self.new) }
         ensures err { OnErr result
             (IsSetOrKept (name_of name.now) (value_of value) self.old self.new) }
@@ -205,6 +218,8 @@ impl World {
             AnswersAs (done result) (world_of self.new io')
             (assign_op (name_of name.now) (value_of value) (world_of self.old io))) }
         ensures quiet { IsQuiet (stopped_by result) (U.told units.old) (U.told units.new) }
+        ensures asked { Prints (stopped_by result) (λ io. io_after
+            (assign_op (name_of name.now) (value_of value) (world_of self.old io))) }
         ensures ok { OnOk result (IsSet (name_of name.now) (value_of value) self.old self.new) }
         ensures err { OnErr result
             (IsSetOrKept (name_of name.now) (value_of value) self.old self.new) }
@@ -236,6 +251,8 @@ impl World {
             AnswersAs (done result) (world_of self.new io')
             (assign_op (Variable name.now) (value_of value) (world_of self.old io))) }
         ensures quiet { IsQuiet (stopped_by result) (U.told units.old) (U.told units.new) }
+        ensures asked { Prints (stopped_by result) (λ io. io_after
+            (assign_op (Variable name.now) (value_of value) (world_of self.old io))) }
         ensures ok { OnOk result (IsSet (Variable name.now) (value_of value) self.old self.new) }
         ensures err { OnErr result
             (IsSetOrKept (Variable name.now) (value_of value) self.old self.new) }
@@ -262,6 +279,8 @@ impl World {
             AnswersAs (done result) (world_of self.new io')
             (assign_op (Variable name.now) (value_of value) (world_of self.old io))) }
         ensures quiet { IsQuiet (stopped_by result) (U.told units.old) (U.told units.new) }
+        ensures asked { Prints (stopped_by result) (λ io. io_after
+            (assign_op (Variable name.now) (value_of value) (world_of self.old io))) }
         ensures ok { OnOk result (IsSet (Variable name.now) (value_of value) self.old self.new) }
         ensures err { OnErr result
             (IsSetOrKept (Variable name.now) (value_of value) self.old self.new) }
@@ -287,6 +306,9 @@ impl World {
             (splice_op (name_of name.now) span.now.subject span.now.start span.now.end
             (value_of value.now) (world_of self.old io))) }
         ensures quiet { IsQuiet (stopped_by result) (U.told units.old) (U.told units.new) }
+        ensures asked { Prints (stopped_by result) (λ io. io_after
+            (splice_op (name_of name.now) span.now.subject span.now.start span.now.end
+            (value_of value.now) (world_of self.old io))) }
         ensures only { (self.new ≡ self.old) ⊎
             ((v : MVal) × IsSet (name_of name.now) v self.old self.new) }
         ensures names { self.new.names ≡ self.old.names }
@@ -309,6 +331,9 @@ impl World {
             (splice_op (name_of name.now) span.now.subject span.now.start span.now.end
             (value_of value.now) (world_of self.old io))) }
         ensures quiet { IsQuiet (stopped_by result) (U.told units.old) (U.told units.new) }
+        ensures asked { Prints (stopped_by result) (λ io. io_after
+            (splice_op (name_of name.now) span.now.subject span.now.start span.now.end
+            (value_of value.now) (world_of self.old io))) }
         ensures only { (self.new ≡ self.old) ⊎
             ((v : MVal) × IsSet (name_of name.now) v self.old self.new) }
         ensures names { self.new.names ≡ self.old.names }
@@ -333,6 +358,9 @@ impl World {
             (splice_op (Variable name.now) span.now.subject span.now.start span.now.end
             (value_of value.now) (world_of self.old io))) }
         ensures quiet { IsQuiet (stopped_by result) (U.told units.old) (U.told units.new) }
+        ensures asked { Prints (stopped_by result) (λ io. io_after
+            (splice_op (Variable name.now) span.now.subject span.now.start span.now.end
+            (value_of value.now) (world_of self.old io))) }
         ensures only { (self.new ≡ self.old) ⊎
             ((v : MVal) × IsSet (Variable name.now) v self.old self.new) }
         ensures names { self.new.names ≡ self.old.names }
@@ -356,6 +384,9 @@ impl World {
             (write_var (Some unit) (value_in (variable_at name.now self.now.variables))
             (world_of self.now io))) }
         ensures quiet { IsQuiet (stopped_by result) (U.told units.old) (U.told units.new) }
+        ensures asked { Prints (stopped_by result) (λ io. io_after
+            (write_var (Some unit) (value_in (variable_at name.now self.now.variables))
+            (world_of self.now io))) }
     {
         if is_zero(&self.keywords, KeyId::Output) {
             return Ok(());
@@ -373,6 +404,8 @@ fn print<U: Units>(alloc: Global, units: &mut U, unit: u8, value: &Value) -> Res
         (h : WorldView) → AnswersAs (done result) (world_of h io')
         (print_text unit (to_text (value_of value.now)) (world_of h io))) }
     ensures quiet { IsQuiet (stopped_by result) (U.told units.old) (U.told units.new) }
+    ensures asked { (h : WorldView) → Prints (stopped_by result) (λ io. io_after
+        (print_text unit (to_text (value_of value.now)) (world_of h io))) }
 {
     let text = match value.to_text(alloc) {
         Ok(text) => text,

@@ -6,7 +6,9 @@ use Rattle.world.specs.Held.{world_of}
 use Rattle.world.specs.Values.{value_of}
 use Rattle.world.specs.declared.value.Value.TheVariants as value
 use Rattle.unit_io.proofs.Serving.{served_then}
+use Rattle.statement_machine.proofs.Asked.{pending_next}
 use Rattle.statement_machine.proofs.Printing.{assigned_prints, assigned_rest, pending_prints, printed_more, quiet_same, residual_quiet}
+use Rattle.world.proofs.Asked.{passed_on}
 use Rattle.statement_machine.proofs.matches.assign_all.Goals as goal
 
 pub returns-in_err-clone-clause-printed : goal.returns-in_err-clone-clause-printed
@@ -29,3 +31,12 @@ loop-assignment-preserved g c =
       served = served_then _ c.loop-assignment.invariant.served c.in_ok-assign.ensures.served
           (λ before now after so_far one. assigned_rest c.args.pending.now c.loop-assignment.assignment-index x v (world_of c.args.world.now before) (world_of c.loop-assignment.world now) (world_of c.assign.new.world after) c.loop-assignment-test.true c.assignment-item.is (search rules) so_far one);
     }
+
+pub returns-in_err-assign-clause-next : goal.returns-in_err-assign-clause-next
+returns-in_err-assign-clause-next g c =
+    let x = c.assignment-item.result in
+    let result = c.from_residual-in_err-assign.result in
+    let f = c.in_err-assign.field-0.0 in
+    pending_next c.args.world.now c.loop-assignment.world c.args.pending.now c.loop-assignment.assignment-index x (value_of (value.String c.in_ok-clone.field-0)) c.loop-assignment-test.true c.assignment-item.is (search rules)
+    (stopped_by result) _ _ _ c.loop-assignment.invariant.served.told
+    (passed_on result f _ c.from_residual-in_err-assign.ensures.1 c.in_err-assign.ensures.asked) (residual_quiet result f _ _ c.from_residual-in_err-assign.ensures.1 c.in_err-assign.ensures.quiet)

@@ -9,6 +9,9 @@ use Rattle.statement_machine.specs.declared.status.Exit.TheVariants as exit
 use Rattle.statement_machine.proofs.Calling.{defined_as, found_as}
 use Rattle.statement_machine.proofs.Matching.{left_leaves}
 use Rattle.statement_machine.proofs.Stopping.{served_alone}
+use Rattle.world.proofs.Asked.{takes_on}
+use Rattle.statement_machine.specs.Stopped.{halted_by}
+use Rattle.statement_machine.specs.Asking.{io_at}
 use Rattle.statement_machine.proofs.run.Run.call_function.Goals as goal
 
 pub returns-in-Some-Defined-clause-served : goal.returns-in-Some-Defined-clause-served
@@ -48,3 +51,32 @@ returns-in-None-clause-served g c =
     let r = c.args.self.now in
     served_alone g.U.Units c.args.units.now (Err (exit.Fault (Error UndefinedFunction))) tt
     (λ io. found_as im r.frames.top c.args.name.now c.args.want_name c.args.next r.state io _ None (c.in_ok-entry.ensures.function io) c.in-None.is)
+
+pub returns-in-Some-Defined-clause-asked : goal.returns-in-Some-Defined-clause-asked
+returns-in-Some-Defined-clause-asked g c =
+    let im = c.args.program.now in
+    let r = c.args.self.now in
+    let f = c.in-Some-Defined in
+    let is = f.is ∙ ap (λ x. Some x) f.field-0-is in
+    takes_on (halted_by c.enter.result) _ _
+    (λ io. ap io_at (found_as im r.frames.top c.args.name.now c.args.want_name c.args.next r.state io _ _ (c.in_ok-entry.ensures.function io) is
+    ∙ defined_as im r.frames.top c.args.name.now f.entry f.prototype c.args.want_name c.args.next r.state io (subst (IfNamed c.args.name.now) is c.in_ok-entry.ensures.named)))
+    c.enter.ensures.asked
+
+pub returns-in-Some-Constructor-clause-asked : goal.returns-in-Some-Constructor-clause-asked
+returns-in-Some-Constructor-clause-asked g c =
+    let im = c.args.program.now in
+    let r = c.args.self.now in
+    let f = c.in-Some-Constructor in
+    takes_on (halted_by c.construct.result) _ _
+    (λ io. ap io_at (found_as im r.frames.top c.args.name.now c.args.want_name c.args.next r.state io _ (Some (function.Constructor f.fields)) (c.in_ok-entry.ensures.function io) (f.is ∙ ap (λ x. Some x) f.field-0-is)))
+    (c.construct.ensures.asked im r.frames.top)
+
+pub returns-in-Some-Field-clause-asked : goal.returns-in-Some-Field-clause-asked
+returns-in-Some-Field-clause-asked g c =
+    let im = c.args.program.now in
+    let r = c.args.self.now in
+    let f = c.in-Some-Field in
+    takes_on (halted_by c.select.result) _ _
+    (λ io. ap io_at (found_as im r.frames.top c.args.name.now c.args.want_name c.args.next r.state io _ (Some function.Field) (c.in_ok-entry.ensures.function io) (f.is ∙ ap (λ x. Some x) f.field-0-is)))
+    (c.select.ensures.asked im r.frames.top)

@@ -1,4 +1,4 @@
-use Rattle.std.proofs.Common.{sym, subst, Err}
+use Rattle.std.proofs.Common.{ap, sym, subst, Err}
 use Rattle.unit_io.proofs.Serving.{served_on}
 use Rattle.statement_machine.specs.declared.status.Exit.TheVariants as exit
 use Rattle.statement_machine.proofs.Stopping.{served_alone}
@@ -16,6 +16,10 @@ use Rattle.statement_machine.proofs.Calling.{came_bad, came_by}
 use Rattle.statement_machine.proofs.Flowing.{seen}
 use Rattle.statement_machine.proofs.Keys.{halts}
 use Rattle.statement_machine.proofs.Telling.{no_records}
+use Rattle.world.proofs.Asked.{takes_on}
+use Rattle.statement_machine.proofs.Asked.{no_unit}
+use Rattle.statement_machine.specs.Stopped.{halted_by}
+use Rattle.statement_machine.specs.Asking.{io_at}
 use Rattle.statement_machine.proofs.run.Run.call_primitive.Goals as goal
 
 pub returns-in-Ok-Value-clause-served : goal.returns-in-Ok-Value-clause-served
@@ -70,3 +74,33 @@ returns-in-Err-clause-served g c =
     served_alone g.U.Units c.args.units.now (Err (exit.Fault c.in-Err.fault)) c.in-Err.ensures.stop
     (λ io. halts (prim_op codes_of c.args.id (arguments_in s) (world_of s.world io)) c.in-Err.fault (record s { world = c.call_prim-outcome.new.world }) io (handlers_in im s) (operands_of s.operands.top) (waiting im r.frames.top s) _
     (came_bad im r.frames.top c.args.want_name c.args.id c.args.next s c.as_slice.result.now c.call_prim-outcome.new.world io c.as_slice.ensures.value c.in-Err.fault (c.in-Err.ensures.answer io)))
+
+pub returns-in-Ok-Value-clause-asked : goal.returns-in-Ok-Value-clause-asked
+returns-in-Ok-Value-clause-asked g c =
+    let im = c.args.program.now in
+    let r = c.args.self.now in
+    takes_on (halted_by c.resume.result) _ _
+    (λ io. ap io_at (came_by im r.frames.top c.args.want_name c.args.id c.args.next r.state c.as_slice.result.now c.call_prim-outcome.new.world io c.as_slice.ensures.value c.in-Ok-Value.field-0 (outcome.Value c.in-Ok-Value.value) c.in-Ok-Value.field-0-is (c.in-Ok-Value.ensures.answer io)))
+    (c.resume.ensures.asked im r.frames.top)
+
+pub returns-in-Ok-Name-clause-asked : goal.returns-in-Ok-Name-clause-asked
+returns-in-Ok-Name-clause-asked g c =
+    let im = c.args.program.now in
+    let r = c.args.self.now in
+    takes_on (halted_by c.resume-in-Ok-Name.result) _ _
+    (λ io. ap io_at (came_by im r.frames.top c.args.want_name c.args.id c.args.next r.state c.as_slice.result.now c.call_prim-outcome.new.world io c.as_slice.ensures.value c.in-Ok-Name.field-0 (outcome.Name c.in-Ok-Name.name) c.in-Ok-Name.field-0-is (c.in-Ok-Name.ensures.answer io)))
+    (c.resume-in-Ok-Name.ensures.asked im r.frames.top)
+
+pub returns-in-Ok-Failure-clause-asked : goal.returns-in-Ok-Failure-clause-asked
+returns-in-Ok-Failure-clause-asked g c = no_unit c.fail.result _ c.fail.ensures.stop
+
+pub returns-in-Ok-Call-clause-asked : goal.returns-in-Ok-Call-clause-asked
+returns-in-Ok-Call-clause-asked g c =
+    let im = c.args.program.now in
+    let r = c.args.self.now in
+    takes_on (halted_by c.call_function.result) _ _
+    (λ io. ap io_at (came_by im r.frames.top c.args.want_name c.args.id c.args.next r.state c.as_slice.result.now c.call_prim-outcome.new.world io c.as_slice.ensures.value c.in-Ok-Call.field-0 (outcome.Call c.in-Ok-Call.name c.in-Ok-Call.arguments) c.in-Ok-Call.field-0-is (c.in-Ok-Call.ensures.answer io)))
+    c.call_function.ensures.asked
+
+pub returns-in-Err-clause-asked : goal.returns-in-Err-clause-asked
+returns-in-Err-clause-asked g c = no_unit (Err (exit.Fault c.in-Err.fault)) _ c.in-Err.ensures.stop

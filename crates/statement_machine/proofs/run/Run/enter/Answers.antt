@@ -7,6 +7,9 @@ use Rattle.model.specs.Module.Flow.{InGoto}
 use Rattle.model.specs.Module.Images.{module_of}
 use Rattle.statement_machine.specs.Runs.{Leaves}
 use Rattle.statement_machine.proofs.Telling.{no_records}
+use Rattle.world.proofs.Asked.{takes_on}
+use Rattle.statement_machine.specs.Stopped.{halted_by}
+use Rattle.statement_machine.specs.Asking.{io_at}
 use Rattle.statement_machine.proofs.run.Run.enter.Goals as goal
 
 pub returns-clause-served : goal.returns-clause-served
@@ -20,3 +23,10 @@ pub returns-clause-sound : goal.returns-clause-sound
 returns-clause-sound g c h =
     let im = c.args.program.now in
     c.go_to.ensures.sound (subst (λ fs. RunsUpon InGoto fs × FramesStand im fs) (sym (c.in_ok-open_call.ensures.opened im no_records)) (tt, (h.0, h.1)))
+
+pub returns-clause-asked : goal.returns-clause-asked
+returns-clause-asked g c =
+    let im = c.args.program.now in
+    takes_on (halted_by c.go_to.result) _ _
+    (λ io. sym (λ i. io_at (go_to_return (module_of im) c.args.entry.now (return_of c.args.entry.now) (c.in_ok-open_call.ensures.opened im io i) (c.in_ok-open_call.ensures.entered io i))))
+    c.go_to.ensures.asked

@@ -6,10 +6,13 @@ use Rattle.model.specs.declared.instr.Instr.TheVariants as op
 use Rattle.model.proofs.Machine.Standing as laws
 use Rattle.frames.specs.View.{operands_of}
 use Rattle.loader.specs.Places.{offset_at}
-use Rattle.statement_machine.specs.Held.{handlers_in, waiting}
+use Rattle.statement_machine.specs.Held.{after, handlers_in, waiting}
 use Rattle.statement_machine.proofs.Flowing.{above, asks, label_needs}
 use Rattle.statement_machine.proofs.Matching.{code_now, fits, goto_now}
 use Rattle.unit_io.proofs.Serving.{served_on}
+use Rattle.world.proofs.Asked.{takes_on}
+use Rattle.statement_machine.specs.Stopped.{halted_by}
+use Rattle.statement_machine.specs.Asking.{io_at}
 use Rattle.statement_machine.proofs.run.Run.execute_call.Goals as goal
 
 pub go_to_value-requires-clause-operands : goal.go_to_value-requires-clause-operands
@@ -122,3 +125,39 @@ returns-in-PrimN-clause-sound g c =
     let there = (c.requires.there.0 ∙ ap (λ i. At i (offset_at im.code c.args.next)) c.in-PrimN.is) in
     c.primitive-in-PrimN.ensures.sound
     (λ rest e. laws.name_primitive im c.requires.runnable.complete (offset_at im.code s.place) (offset_at im.code c.args.next) (operands_of s.operands.top) (handlers_in im s) (waiting im r.frames.top s) st.0 st.1 c.in-PrimN.id c.in-PrimN.count there rest e, st.1)
+
+pub returns-in-Return-clause-asked : goal.returns-in-Return-clause-asked
+returns-in-Return-clause-asked g c =
+    let im = c.args.program.now in
+    let r = c.args.self.now in
+    takes_on (halted_by c.return_from.result) _ _ (λ io. ap (λ i. io_at (after im i c.args.next r.frames.top r.state io)) c.in-Return.is) (c.return_from.ensures.asked im)
+
+pub returns-in-GotoV-clause-asked : goal.returns-in-GotoV-clause-asked
+returns-in-GotoV-clause-asked g c =
+    let im = c.args.program.now in
+    let r = c.args.self.now in
+    takes_on (halted_by c.go_to_value.result) _ _ (λ io. ap (λ i. io_at (after im i c.args.next r.frames.top r.state io)) c.in-GotoV.is) c.go_to_value.ensures.asked
+
+pub returns-in-CallV-clause-asked : goal.returns-in-CallV-clause-asked
+returns-in-CallV-clause-asked g c =
+    let im = c.args.program.now in
+    let r = c.args.self.now in
+    takes_on (halted_by c.call.result) _ _ (λ io. ap (λ i. io_at (after im i c.args.next r.frames.top r.state io)) c.in-CallV.is) c.call.ensures.asked
+
+pub returns-in-CallN-clause-asked : goal.returns-in-CallN-clause-asked
+returns-in-CallN-clause-asked g c =
+    let im = c.args.program.now in
+    let r = c.args.self.now in
+    takes_on (halted_by c.call-in-CallN.result) _ _ (λ io. ap (λ i. io_at (after im i c.args.next r.frames.top r.state io)) c.in-CallN.is) c.call-in-CallN.ensures.asked
+
+pub returns-in-PrimV-clause-asked : goal.returns-in-PrimV-clause-asked
+returns-in-PrimV-clause-asked g c =
+    let im = c.args.program.now in
+    let r = c.args.self.now in
+    takes_on (halted_by c.primitive.result) _ _ (λ io. ap (λ i. io_at (after im i c.args.next r.frames.top r.state io)) c.in-PrimV.is) c.primitive.ensures.asked
+
+pub returns-in-PrimN-clause-asked : goal.returns-in-PrimN-clause-asked
+returns-in-PrimN-clause-asked g c =
+    let im = c.args.program.now in
+    let r = c.args.self.now in
+    takes_on (halted_by c.primitive-in-PrimN.result) _ _ (λ io. ap (λ i. io_at (after im i c.args.next r.frames.top r.state io)) c.in-PrimN.is) c.primitive-in-PrimN.ensures.asked

@@ -1,4 +1,4 @@
-use Rattle.std.proofs.Common.{sym, subst, Ok}
+use Rattle.std.proofs.Common.{ap, sym, subst, Ok}
 use Rattle.unit_io.proofs.Serving.{served_on}
 use Rattle.statement_machine.proofs.Stopping.{served_alone}
 use Rattle.statement_machine.proofs.Matching.{left_leaves, run_seen}
@@ -9,6 +9,9 @@ use Rattle.world.specs.Held.{world_of}
 use Rattle.statement_machine.specs.Held.{waiting}
 use Rattle.statement_machine.proofs.Calling.{returned, went}
 use Rattle.statement_machine.proofs.Telling.{no_records}
+use Rattle.world.proofs.Asked.{takes_on}
+use Rattle.statement_machine.specs.Stopped.{halted_by}
+use Rattle.statement_machine.specs.Asking.{io_at}
 use Rattle.statement_machine.proofs.run.Run.go_to.Goals as goal
 
 pub returns-in-None-clause-served : goal.returns-in-None-clause-served
@@ -35,3 +38,11 @@ returns-in-Some-clause-served g c =
     let s = c.goto_entry.new.self in
     served_on c.return_from.ensures.served
     (λ io io' l. subst (λ st. Leaves im c.return_from.result c.return_from.new.self io' st) (sym (returned im r.frames.top c.in_ok-goto_entry.field-0 c.in-Some.kind s io _ c.in-Some.is (c.in_ok-goto_entry.ensures.left r.frames.top io))) (l im))
+
+pub returns-in-Some-clause-asked : goal.returns-in-Some-clause-asked
+returns-in-Some-clause-asked g c =
+    let im = c.args.program.now in
+    let r = c.args.self.now in
+    takes_on (halted_by c.return_from.result) _ _
+    (λ io. ap io_at (returned im r.frames.top c.in_ok-goto_entry.field-0 c.in-Some.kind c.goto_entry.new.self io _ c.in-Some.is (c.in_ok-goto_entry.ensures.left r.frames.top io)))
+    (c.return_from.ensures.asked im)

@@ -1,4 +1,4 @@
-use Rattle.std.proofs.Common.{[], sym, subst, Ok, Err}
+use Rattle.std.proofs.Common.{[], ap, sym, subst, Ok, Err}
 use Rattle.unit_io.proofs.Serving.{served_on}
 use Rattle.statement_machine.proofs.Stopping.{served_alone}
 use Rattle.statement_machine.proofs.Matching.{left_leaves, run_seen}
@@ -10,6 +10,9 @@ use Rattle.world.specs.Held.{world_of}
 use Rattle.statement_machine.specs.Held.{waiting}
 use Rattle.statement_machine.proofs.Calling.{returned, went}
 use Rattle.statement_machine.proofs.Telling.{no_records}
+use Rattle.world.proofs.Asked.{takes_on}
+use Rattle.statement_machine.specs.Stopped.{halted_by}
+use Rattle.statement_machine.specs.Asking.{io_at}
 use Rattle.statement_machine.proofs.run.Run.go_to_value.Goals as goal
 
 pub returns-in-Ok-None-clause-served : goal.returns-in-Ok-None-clause-served
@@ -42,3 +45,11 @@ returns-in-Ok-Some-clause-served g c =
 pub returns-in-Err-clause-served : goal.returns-in-Err-clause-served
 returns-in-Err-clause-served g c =
     served_alone g.U.Units c.args.units.now (Err c.in-Err.exit) c.in-Err.ensures.stop (λ io. c.in-Err.ensures.left 0 c.args.self.now.frames.top io)
+
+pub returns-in-Ok-Some-clause-asked : goal.returns-in-Ok-Some-clause-asked
+returns-in-Ok-Some-clause-asked g c =
+    let im = c.args.program.now in
+    let r = c.args.self.now in
+    takes_on (halted_by c.return_from.result) _ _
+    (λ io. ap io_at (returned im r.frames.top c.in-Ok-Some.field-0 c.in-Ok-Some.kind c.goto_value.new.self io _ c.in-Ok-Some.field-0-is (c.in-Ok-Some.ensures.left 0 r.frames.top io)))
+    (c.return_from.ensures.asked im)

@@ -1,10 +1,14 @@
-use Rattle.std.proofs.Common.{sym, subst}
+use Rattle.std.proofs.Common.{ap, sym, subst}
 use Rattle.unit_io.proofs.Serving.{served_on}
 use Rattle.statement_machine.specs.Runs.{Leaves}
 use Rattle.statement_machine.proofs.Calling.{caller_stands, primitive_is}
 use Rattle.statement_machine.proofs.Matching.{code_stands, left_leaves}
 use Rattle.statement_machine.proofs.Stopping.{served_alone}
 use Rattle.statement_machine.proofs.Tests.{as_call, as_primitive}
+use Rattle.world.proofs.Asked.{takes_on}
+use Rattle.statement_machine.proofs.Asked.{no_unit}
+use Rattle.statement_machine.specs.Stopped.{halted_by}
+use Rattle.statement_machine.specs.Asking.{io_at}
 use Rattle.statement_machine.proofs.run.Run.primitive.Goals as goal
 
 pub returns-clause-served : goal.returns-clause-served
@@ -53,3 +57,17 @@ returns-then-count-eq1-clause-sound g c h =
     let t = c.test_one in
     code_stands im t.result r t.new.self c.requires.code
     (t.ensures.sound im r.frames.top (as_call im r.frames.top c.args.want_name c.args.count 1 c.args.next r.state c.if-not-want_name.true c.if-count-eq1.true h))
+
+pub returns-clause-asked : goal.returns-clause-asked
+returns-clause-asked g c =
+    let im = c.args.program.now in
+    let r = c.args.self.now in
+    takes_on (halted_by c.call_primitive.result) _ _
+    (λ io. ap io_at (primitive_is im r.frames.top c.args.count r.state c.take_arguments.new.self c.in_ok-take_arguments.ensures.taken c.args.want_name c.args.id c.args.next io c.in_ok-take_arguments.ensures.pops))
+    c.call_primitive.ensures.asked
+
+pub returns-then-count-eq2-clause-asked : goal.returns-then-count-eq2-clause-asked
+returns-then-count-eq2-clause-asked g c = no_unit c.test_two.result _ c.test_two.ensures.stop
+
+pub returns-then-count-eq1-clause-asked : goal.returns-then-count-eq1-clause-asked
+returns-then-count-eq1-clause-asked g c = no_unit c.test_one.result _ c.test_one.ensures.stop

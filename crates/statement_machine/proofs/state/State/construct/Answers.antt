@@ -8,6 +8,11 @@ use Rattle.statement_machine.specs.declared.status.Exit.TheVariants as exit
 use Rattle.statement_machine.specs.Calling.{arguments_in}
 use Rattle.statement_machine.proofs.Calling.{given_ends, given_gives}
 use Rattle.statement_machine.proofs.Stopping.{served_alone}
+use Rattle.statement_machine.proofs.Asked.{no_unit}
+use Rattle.world.proofs.Asked.{takes_on}
+use Rattle.statement_machine.specs.Stopped.{halted_by}
+use Rattle.statement_machine.specs.Asking.{io_at}
+use Rattle.statement_machine.specs.Calling.{given_by}
 use Rattle.statement_machine.proofs.state.State.construct.Goals as goal
 
 pub returns-in-Ok-clause-served : goal.returns-in-Ok-clause-served
@@ -24,3 +29,13 @@ returns-in-Err-clause-served g c =
     served_alone g.U.Units c.args.units.now (Err (exit.Fault c.in-Err.fault)) c.in-Err.ensures.stop
     (λ io im fs. given_ends im fs c.args.want_name c.args.next (construct_op c.args.name.now c.args.fields.now (arguments_in s) (world_of s.world io)) s new io c.in-Err.fault
     (subst (λ xs. AnswersAs (Err c.in-Err.fault) (world_of new.world io) (construct_op c.args.name.now c.args.fields.now (map value_of xs) (world_of s.world io))) c.as_slice.ensures.value (c.in-Err.ensures.made io)))
+
+pub returns-in-Ok-clause-asked : goal.returns-in-Ok-clause-asked
+returns-in-Ok-clause-asked g c im fs =
+    let s = c.args.self.now in
+    takes_on (halted_by c.resume.result) _ _
+    (λ io. ap (λ o. io_at (given_by im fs c.args.want_name c.args.next o s)) (ap (λ xs. construct_op c.args.name.now c.args.fields.now (map value_of xs) (world_of s.world io)) (sym c.as_slice.ensures.value) ∙ c.in-Ok.ensures.made io))
+    (c.resume.ensures.asked im fs)
+
+pub returns-in-Err-clause-asked : goal.returns-in-Err-clause-asked
+returns-in-Err-clause-asked g c im fs = no_unit (Err (exit.Fault c.in-Err.fault)) _ c.in-Err.ensures.stop

@@ -1,4 +1,4 @@
-use Rattle.std.proofs.Common.{sym, subst, refl, Err}
+use Rattle.std.proofs.Common.{ap, sym, subst, refl, Err, ◌∙◌}
 use Rattle.frames.specs.View.{operands_of}
 use Rattle.unit_io.proofs.Serving.{served_on}
 use Rattle.world.specs.Calling.{given_of}
@@ -14,6 +14,11 @@ use Rattle.statement_machine.proofs.Calling.{ended_is, end_stands, gave_back, ga
 use Rattle.statement_machine.proofs.Flowing.{seen}
 use Rattle.statement_machine.proofs.Operations.{faults, gives, refuses}
 use Rattle.statement_machine.proofs.Telling.{no_records}
+use Rattle.statement_machine.proofs.Asked.{no_unit}
+use Rattle.world.proofs.Asked.{takes_on}
+use Rattle.statement_machine.specs.Stopped.{halted_by}
+use Rattle.statement_machine.specs.Asking.{io_at}
+use Rattle.statement_machine.specs.Calling.{given_by}
 use Rattle.statement_machine.proofs.state.State.end_call.Goals as goal
 
 pub returns-in-Ok-Some-clause-served : goal.returns-in-Ok-Some-clause-served
@@ -55,3 +60,21 @@ returns-in-Err-clause-served g c =
     let mid = record s { saved = c.leave.new.saved; world = c.leave.new.self } in
     served_alone g.U.Units c.args.units.now (Err (exit.Fault c.in-Err.fault)) c.in-Err.ensures.stop
     (λ io im fs. faults (leave_op c.args.kind (kept_with kept s.saved.items) (world_of s.world io)) c.in-Err.fault mid io (handlers_in im s) (operands_of s.operands.top) (waiting_below im fs kept s) _ (c.in-Err.ensures.left io))
+
+pub returns-in-Ok-Some-clause-asked : goal.returns-in-Ok-Some-clause-asked
+returns-in-Ok-Some-clause-asked g c im fs =
+    let s = c.args.self.now in
+    let kept = c.args.kept.now in
+    let mid = record s { saved = c.leave.new.saved; world = c.leave.new.self } in
+    takes_on (halted_by c.resume.result) _ _
+    (λ io.
+    let o = leave_op c.args.kind (kept_with kept s.saved.items) (world_of s.world io) in
+    ap io_at (ended_is im fs c.args.want_name c.args.place kept s mid refl refl c.in-Ok-Some.ensures.values c.args.kind io)
+    ∙ ap (λ x. io_at (given_by im fs c.args.want_name c.args.place x mid)) (gave_back c.in-Ok-Some.field-0 c.in-Ok-Some.given (world_of mid.world io) o c.in-Ok-Some.field-0-is (c.in-Ok-Some.ensures.left io)))
+    (c.resume.ensures.asked im fs)
+
+pub returns-in-Ok-None-clause-asked : goal.returns-in-Ok-None-clause-asked
+returns-in-Ok-None-clause-asked g c im fs = no_unit c.fail.result _ c.fail.ensures.stop
+
+pub returns-in-Err-clause-asked : goal.returns-in-Err-clause-asked
+returns-in-Err-clause-asked g c im fs = no_unit (Err (exit.Fault c.in-Err.fault)) _ c.in-Err.ensures.stop

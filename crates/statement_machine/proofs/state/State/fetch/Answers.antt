@@ -1,10 +1,14 @@
 use Rattle.std.specs.Prelude.{option_map}
-use Rattle.world.specs.Answers.{answer_map}
+use Rattle.world.specs.Answers.{answer_map, stopped_by}
 use Rattle.world.specs.Values.{value_of}
 use Rattle.unit_io.proofs.Serving.{served_for}
-use Rattle.statement_machine.proofs.Fetching.{fetched, fetch_sound}
+use Rattle.statement_machine.proofs.Fetching.{fetched, fetch_io, fetch_sound}
 use Rattle.statement_machine.specs.Stopped.{halted_by}
 use Rattle.statement_machine.proofs.Printing.{quiet_ever}
+use Rattle.world.proofs.Asked.{takes_on}
+use Rattle.statement_machine.specs.Asking.{io_at}
+use Rattle.model.specs.declared.instr.Instr.TheVariants as op
+use Rattle.statement_machine.specs.Held.{after}
 use Rattle.statement_machine.proofs.state.State.fetch.Goals as goal
 
 pub returns-clause-served : goal.returns-clause-served
@@ -22,3 +26,8 @@ returns-clause-sound g c im fs h =
 
 pub returns-clause-quiet : goal.returns-clause-quiet
 returns-clause-quiet g c = quiet_ever (halted_by c.gave.result) _ _ c.fetch_at-answer.ensures.quiet
+
+pub returns-clause-asked : goal.returns-clause-asked
+returns-clause-asked g c im fs =
+    c.gave.ensures.asked (λ io. io_at (after im op.Fetch c.args.next fs c.args.self.now io))
+    (takes_on (stopped_by c.fetch_at-answer.result) _ _ (fetch_io im fs c.args.next c.args.self.now c.gave.new.self c.fetch_at-answer.new.self c.gave.result c.pop_name-named.new.operands c.pop_name-named.result c.pop_name-named.ensures) c.fetch_at-answer.ensures.asked)

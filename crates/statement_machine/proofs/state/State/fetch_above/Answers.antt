@@ -1,11 +1,15 @@
 use Rattle.std.proofs.Common.{ap, drop}
 use Rattle.std.specs.Prelude.{option_map}
-use Rattle.world.specs.Answers.{answer_map}
+use Rattle.world.specs.Answers.{answer_map, stopped_by}
 use Rattle.world.specs.Values.{value_of}
 use Rattle.unit_io.proofs.Serving.{served_for}
-use Rattle.statement_machine.proofs.Fetching.{fetched_above, fetch_above_sound}
+use Rattle.statement_machine.proofs.Fetching.{fetched_above, fetch_above_io, fetch_above_sound}
 use Rattle.statement_machine.specs.Stopped.{halted_by}
 use Rattle.statement_machine.proofs.Printing.{quiet_ever}
+use Rattle.world.proofs.Asked.{takes_on}
+use Rattle.statement_machine.specs.Asking.{io_at}
+use Rattle.model.specs.declared.instr.Instr.TheVariants as op
+use Rattle.statement_machine.specs.Held.{after}
 use Rattle.statement_machine.proofs.state.State.fetch_above.Goals as goal
 
 pub returns-clause-served : goal.returns-clause-served
@@ -23,3 +27,9 @@ returns-clause-sound g c im fs h =
 
 pub returns-clause-quiet : goal.returns-clause-quiet
 returns-clause-quiet g c = quiet_ever (halted_by c.gave.result) _ _ c.fetch_at-answer.ensures.quiet
+
+pub returns-clause-asked : goal.returns-clause-asked
+returns-clause-asked g c im fs =
+    c.gave.ensures.asked (λ io. io_at (after im op.FetchK c.args.next fs c.args.self.now io))
+    (takes_on (stopped_by c.fetch_at-answer.result) _ _ (fetch_above_io im fs c.args.next c.args.self.now c.gave.new.self c.fetch_at-answer.new.self c.gave.result (record c.args.self.now.operands { top = drop 1 c.args.self.now.operands.top }) c.top_name-named.result.now
+    (ap (λ l. record c.args.self.now.operands { top = l }) c.top_name-named.ensures)) c.fetch_at-answer.ensures.asked)

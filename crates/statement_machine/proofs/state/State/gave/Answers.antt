@@ -6,6 +6,9 @@ use Rattle.world.specs.Held.{world_of}
 use Rattle.world.specs.Values.{value_of}
 use Rattle.statement_machine.specs.Held.{handlers_in, waiting}
 use Rattle.statement_machine.proofs.Operations.{gives, refuses, faults}
+use Rattle.statement_machine.proofs.Asked.{no_unit}
+use Rattle.world.specs.Asking.{Takes}
+use Rattle.world.specs.Answers.{stopped_by}
 use Rattle.statement_machine.proofs.state.State.gave.Goals as goal
 
 pub returns-in-Ok-Some-clause-left : goal.returns-in-Ok-Some-clause-left
@@ -27,3 +30,12 @@ returns-in-Err-clause-left c im fs io o a =
     let s = c.args.self.now in
     faults o c.in-Err.fault s io (handlers_in im s) (operands_of s.operands.top) (waiting im fs s) _
     (subst (λ r. AnswersOrFails (answer_map (option_map value_of) r) (world_of s.world io) o) c.in-Err.is a)
+
+pub returns-in-Ok-Some-clause-asked : goal.returns-in-Ok-Some-clause-asked
+returns-in-Ok-Some-clause-asked c f h = no_unit c.put.result _ c.put.ensures.stop
+
+pub returns-in-Ok-None-clause-asked : goal.returns-in-Ok-None-clause-asked
+returns-in-Ok-None-clause-asked c f h = no_unit c.fail.result _ c.fail.ensures.stop
+
+pub returns-in-Err-clause-asked : goal.returns-in-Err-clause-asked
+returns-in-Err-clause-asked c f h = subst (λ r. Takes (stopped_by r) f) c.in-Err.is h

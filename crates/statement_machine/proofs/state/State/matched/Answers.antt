@@ -1,4 +1,6 @@
-use Rattle.std.proofs.Common.{◌≡◌, ap, refl, sym, ◌∙◌}
+use Rattle.std.proofs.Common.{◌≡◌, Err, ap, refl, sym, ◌∙◌}
+use Rattle.world.specs.Answers.{stopped_by}
+use Rattle.world.specs.Held.{world_of}
 use Rattle.model.specs.Pattern.Patterns.{Matched}
 use Rattle.model.specs.Pattern.Steps.{event_of}
 use Rattle.match_machine.specs.View.{event_is, pending_of}
@@ -8,6 +10,8 @@ use Rattle.statement_machine.specs.Stopped.{halted_by}
 use Rattle.statement_machine.proofs.Matching.{matched_halts}
 use Rattle.statement_machine.proofs.Printing.{settled_prints, unsettled_prints}
 use Rattle.unit_io.proofs.Serving.{served_on}
+use Rattle.statement_machine.proofs.Asked.{found_io, next_as, no_unit}
+use Rattle.statement_machine.proofs.Stopping.{lacking}
 use Rattle.statement_machine.proofs.state.State.matched.Goals as goal
 
 pub returns-in-Err-clause-served : goal.returns-in-Err-clause-served
@@ -30,3 +34,13 @@ returns-in-Err-clause-printed g c = λ im fs.
     let ps = c.in-Matched.pending.now in
     let e : event_of c.args.matching.now.search.state ≡ Matched c.in-Matched.start c.in-Matched.end (pending_of ps) = sym c.event.ensures ∙ ap event_is c.in-Matched.is in
     rw e (unsettled_prints im (matching_in im c.args.matching.now s) c.args.matching.now.search.state (waiting im fs s) c.in-Matched.start c.in-Matched.end c.in-Err.fault _ _ ps ps s.world refl c.in-Err.ensures.printed)
+
+pub returns-in_err-found-clause-next : goal.returns-in_err-found-clause-next
+returns-in_err-found-clause-next g c im fs = no_unit c.from_residual.result _ (lacking c.from_residual.result c.from_residual.ensures.1)
+
+pub returns-in-Err-clause-next : goal.returns-in-Err-clause-next
+returns-in-Err-clause-next g c = λ im fs.
+    let s = c.args.self.now in
+    let ps = c.in-Matched.pending.now in
+    let e : event_of c.args.matching.now.search.state ≡ Matched c.in-Matched.start c.in-Matched.end (pending_of ps) = sym c.event.ensures ∙ ap event_is c.in-Matched.is in
+    rw e (next_as (stopped_by {A = Unit {0}} (Err c.in-Err.fault)) _ _ _ _ (λ io. found_io im (matching_in im c.args.matching.now s) c.args.matching.now.search.state (waiting im fs s) c.in-Matched.start c.in-Matched.end (pending_of ps) (world_of s.world io)) c.in-Err.ensures.next)

@@ -1,4 +1,4 @@
-use Rattle.std.proofs.Common.{true, false, subst, sym}
+use Rattle.std.proofs.Common.{true, false, ap, subst, sym}
 use Rattle.model.specs.Language.Calls.{AValue}
 use Rattle.model.proofs.Machine.Standing as laws
 use Rattle.unit_io.proofs.Serving.{served_on}
@@ -10,6 +10,10 @@ use Rattle.statement_machine.specs.Resuming.{CallerStands, caller_in, resumed_wi
 use Rattle.statement_machine.proofs.Flowing.{seen}
 use Rattle.statement_machine.proofs.Stopping.{served_alone}
 use Rattle.statement_machine.proofs.Telling.{no_records}
+use Rattle.statement_machine.proofs.Asked.{no_unit}
+use Rattle.world.proofs.Asked.{takes_on}
+use Rattle.statement_machine.specs.Stopped.{halted_by}
+use Rattle.statement_machine.specs.Asking.{io_at}
 use Rattle.statement_machine.proofs.state.State.resume.Goals as goal
 
 pub returns-then-want_name-clause-served : goal.returns-then-want_name-clause-served
@@ -45,3 +49,13 @@ returns-in_default-clause-served g c =
 pub returns-in_default-clause-sound : goal.returns-in_default-clause-sound
 returns-in_default-clause-sound g c im fs h =
     c.resume_for_value.ensures.sound im fs (subst (λ b. CallerStands im fs b c.args.next c.args.self.now) c.if-want_name.false h)
+
+pub returns-then-want_name-clause-asked : goal.returns-then-want_name-clause-asked
+returns-then-want_name-clause-asked g c im fs = no_unit c.resume_for_name.result _ c.resume_for_name.ensures.stop
+
+pub returns-in-Value-clause-asked : goal.returns-in-Value-clause-asked
+returns-in-Value-clause-asked g c im fs = no_unit c.put.result _ c.put.ensures.stop
+
+pub returns-in_default-clause-asked : goal.returns-in_default-clause-asked
+returns-in_default-clause-asked g c im fs =
+    takes_on (halted_by c.resume_for_value.result) _ _ (λ io. ap (λ b. io_at (resumed_with im fs b c.args.next c.args.given c.args.self.now io)) c.if-want_name.false) (c.resume_for_value.ensures.asked im fs)

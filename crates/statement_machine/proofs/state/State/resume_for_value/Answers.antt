@@ -1,4 +1,4 @@
-use Rattle.std.proofs.Common.{false}
+use Rattle.std.proofs.Common.{false, refl}
 use Rattle.std.specs.Prelude.{option_map}
 use Rattle.model.specs.Language.Calls.{as_value}
 use Rattle.model.specs.Machine.Standing.{given}
@@ -6,7 +6,7 @@ use Rattle.model.proofs.Machine.Standing as laws
 use Rattle.loader.specs.Places.{offset_at}
 use Rattle.frames.specs.View.{operands_of}
 use Rattle.unit_io.proofs.Serving.{served_for}
-use Rattle.world.specs.Answers.{answer_map}
+use Rattle.world.specs.Answers.{answer_map, stopped_by}
 use Rattle.world.specs.Calling.{given_of}
 use Rattle.world.specs.Held.{world_of}
 use Rattle.world.specs.Values.{value_of}
@@ -16,6 +16,10 @@ use Rattle.statement_machine.proofs.Operations.{some_answer_or_failure}
 use Rattle.statement_machine.proofs.Telling.{no_records}
 use Rattle.statement_machine.specs.Stopped.{halted_by}
 use Rattle.statement_machine.proofs.Printing.{quiet_ever}
+use Rattle.world.proofs.Asked.{takes_on}
+use Rattle.statement_machine.proofs.Asked.{op_io}
+use Rattle.statement_machine.specs.Asking.{io_at}
+use Rattle.statement_machine.specs.Resuming.{resumed_with}
 use Rattle.statement_machine.proofs.state.State.resume_for_value.Goals as goal
 
 pub returns-clause-served : goal.returns-clause-served
@@ -32,3 +36,10 @@ returns-clause-sound g c im fs h =
 
 pub returns-clause-quiet : goal.returns-clause-quiet
 returns-clause-quiet g c = quiet_ever (halted_by c.gave.result) _ _ c.returned_value-answer.ensures.quiet
+
+pub returns-clause-asked : goal.returns-clause-asked
+returns-clause-asked g c im fs =
+    let s = c.args.self.now in
+    c.gave.ensures.asked (λ io. io_at (resumed_with im fs false c.args.next c.args.given s io))
+    (takes_on (stopped_by c.returned_value-answer.result) _ _
+    (λ io. op_io (as_value (given_of c.args.given) (world_of s.world io)) (handlers_in im s) (operands_of s.operands.top) (waiting im fs s) _ (λ v w. refl)) c.returned_value-answer.ensures.asked)

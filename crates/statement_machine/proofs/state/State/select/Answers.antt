@@ -13,6 +13,10 @@ use Rattle.world.specs.declared.fault.Fault.TheVariants.{Error}
 use Rattle.statement_machine.specs.Calling.{arguments_in}
 use Rattle.statement_machine.proofs.Keys.{halts}
 use Rattle.statement_machine.proofs.Operations.{gives}
+use Rattle.world.proofs.Asked.{takes_on}
+use Rattle.statement_machine.specs.Stopped.{halted_by}
+use Rattle.statement_machine.specs.Asking.{io_at}
+use Rattle.statement_machine.specs.Calling.{given_by}
 use Rattle.statement_machine.proofs.state.State.select.Goals as goal
 
 pub returns-in-Ok-clause-served : goal.returns-in-Ok-clause-served
@@ -32,3 +36,12 @@ returns-in-Err-clause-served g c =
     let w = world_of s.world io in
     halts (select_op c.args.name.now (arguments_in s) w) (Error c.in-Err.code) s io (handlers_in im s) (operands_of s.operands.top) (waiting im fs s) _
     (ap (λ xs. select_op c.args.name.now (map value_of xs) w) (sym c.as_slice.ensures.value) ∙ sym (c.select.ensures io) ∙ ap (λ r. op_of (answer_map given_of r) w) c.in-Err.is))
+
+pub returns-in-Ok-clause-asked : goal.returns-in-Ok-clause-asked
+returns-in-Ok-clause-asked g c im fs =
+    let s = c.args.self.now in
+    takes_on (halted_by c.resume.result) _ _
+    (λ io.
+    let w = world_of s.world io in
+    ap (λ o. io_at (given_by im fs c.args.want_name c.args.next o s)) (ap (λ xs. select_op c.args.name.now (map value_of xs) w) (sym c.as_slice.ensures.value) ∙ sym (c.select.ensures io) ∙ ap (λ r. op_of (answer_map given_of r) w) c.in-Ok.is))
+    (c.resume.ensures.asked im fs)

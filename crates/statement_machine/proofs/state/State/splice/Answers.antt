@@ -2,11 +2,13 @@ use Rattle.std.proofs.Common.{ap, ◌∙◌, ◌∷◌}
 use Rattle.frames.specs.Stacked.{Stacked}
 use Rattle.frames.specs.declared.operand.Operand.{Operand}
 use Rattle.frames.specs.declared.operand.Operand.TheVariants as operand
-use Rattle.world.specs.Answers.{done}
+use Rattle.world.specs.Answers.{done, stopped_by}
 use Rattle.unit_io.proofs.Serving.{served_for}
-use Rattle.statement_machine.proofs.Fetching.{spliced, splice_sound}
+use Rattle.statement_machine.proofs.Fetching.{spliced, splice_io, splice_sound}
 use Rattle.statement_machine.specs.Stopped.{halted_by}
 use Rattle.statement_machine.proofs.Printing.{quiet_settled}
+use Rattle.world.proofs.Asked.{prints_on}
+use Rattle.statement_machine.proofs.Asked.{unit_settled}
 use Rattle.statement_machine.proofs.state.State.splice.Goals as goal
 
 pub returns-clause-served : goal.returns-clause-served
@@ -24,3 +26,9 @@ returns-clause-sound g c im fs h =
 
 pub returns-clause-quiet : goal.returns-clause-quiet
 returns-clause-quiet g c = quiet_settled (halted_by c.went.result) _ _ _ c.went.ensures.stop c.splice_at-answer.ensures.quiet
+
+pub returns-clause-asked : goal.returns-clause-asked
+returns-clause-asked g c im fs =
+    unit_settled (halted_by c.went.result) _ _ c.went.ensures.stop
+    (prints_on (stopped_by c.splice_at-answer.result) _ _ (splice_io im fs c.args.next c.args.self.now c.went.new.self c.splice_at-answer.new.self c.went.result c.pop_name-named.new.operands c.pop_name-named.result c.pop_value-value.result c.pop_span-span.result
+    (c.pop_value-value.ensures ∙ ap (λ (l : Stacked Operand). record l { top = operand.Value c.pop_value-value.result ∷ l.top }) (c.pop_span-span.ensures ∙ ap (λ (l : Stacked Operand). record l { top = operand.Span c.pop_span-span.result ∷ l.top }) c.pop_name-named.ensures))) c.splice_at-answer.ensures.asked)

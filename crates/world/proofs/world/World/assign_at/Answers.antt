@@ -1,6 +1,13 @@
 use Rattle.std.proofs.Common.{rules, ap, sym, ◌∙◌}
 use Rattle.pattern_compiler.specs.declared.instr.Name.TheVariants as name
 use Rattle.world.proofs.UnitCalls.{assigned_there, assigned_key, set_there, set_key}
+use Rattle.world.proofs.Asked.{no_unit, prints_on}
+use Rattle.model.specs.Language.Operators.{assign_op}
+use Rattle.pattern_compiler.specs.View.{name_of}
+use Rattle.world.specs.Answers.{stopped_by}
+use Rattle.world.specs.Asking.{io_after}
+use Rattle.world.specs.Held.{world_of}
+use Rattle.world.specs.Values.{value_of}
 use Rattle.world.proofs.world.World.assign_at.Goals as goal
 
 pub returns-in-Element-clause-served : goal.returns-in-Element-clause-served
@@ -39,3 +46,16 @@ returns-in_ok-clone-in-StringKey-clause-ok g c =
     let stored = c.store-in-StringKey in
     set_there c.args.name.now (name.StringKey c.in-StringKey.object c.in_ok-clone-in-StringKey.field-0) _ c.args.self.now stored.new.self stored.result
     (c.in-StringKey.is ∙ ap (name.StringKey c.in-StringKey.object) (sym c.in_ok-clone-in-StringKey.ensures.cases)) (λ h. h) stored.ensures.stored
+
+pub returns-in-Element-clause-asked : goal.returns-in-Element-clause-asked
+returns-in-Element-clause-asked g c = no_unit c.store.result _ c.store.ensures.stop
+
+pub returns-in-IntegerKey-clause-asked : goal.returns-in-IntegerKey-clause-asked
+returns-in-IntegerKey-clause-asked g c = no_unit c.store-in-IntegerKey.result _ c.store-in-IntegerKey.ensures.stop
+
+pub returns-in_ok-clone-in-StringKey-clause-asked : goal.returns-in_ok-clone-in-StringKey-clause-asked
+returns-in_ok-clone-in-StringKey-clause-asked g c = no_unit c.store-in-StringKey.result _ c.store-in-StringKey.ensures.stop
+
+pub returns-in-Variable-clause-asked : goal.returns-in-Variable-clause-asked
+returns-in-Variable-clause-asked g c =
+    prints_on (stopped_by c.assign_variable.result) _ _ (λ io. ap (λ n. io_after (assign_op (name_of n) (value_of c.args.value) (world_of c.args.self.now io))) c.in-Variable.is) c.assign_variable.ensures.asked

@@ -1,5 +1,7 @@
 use Rattle.std.proofs.Common.{rules, sym, ◌∙◌}
-use Rattle.world.proofs.UnitCalls.{assigned_to_unit, assigned_alone}
+use Rattle.world.proofs.UnitCalls.{assign_asks, assigned_to_unit, assigned_alone}
+use Rattle.world.specs.Answers.{stopped_by}
+use Rattle.world.specs.Values.{value_of}
 use Rattle.world.proofs.world.World.assign_in.Goals as goal
 
 pub returns-in-Some-clause-served : goal.returns-in-Some-clause-served
@@ -13,3 +15,7 @@ returns-in-None-clause-served g c = record {
   told = assigned_alone c.args.name.now _ c.args.self.now c.set_in.new.self _ (sym c.in-None.is ∙ c.set_in.ensures.output) c.set_in.ensures.set;
   counts = search rules;
 }
+
+pub returns-in-Some-clause-asked : goal.returns-in-Some-clause-asked
+returns-in-Some-clause-asked g c =
+    assign_asks c.args.name.now _ (value_of c.args.value) c.args.self.now c.set_in.new.self (stopped_by c.write.result) (sym c.in-Some.is ∙ c.set_in.ensures.output) c.set_in.ensures.set c.write.ensures.asked

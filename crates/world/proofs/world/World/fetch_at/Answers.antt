@@ -1,6 +1,7 @@
 use Rattle.std.proofs.Common.{rules, ap, sym, ◌∙◌}
 use Rattle.pattern_compiler.specs.declared.instr.Name.TheVariants as name
 use Rattle.world.proofs.UnitCalls.{fetched_there, fetched_key}
+use Rattle.world.proofs.Asked.{no_unit}
 use Rattle.world.proofs.world.World.fetch_at.Goals as goal
 
 pub returns-in-Element-clause-served : goal.returns-in-Element-clause-served
@@ -21,3 +22,12 @@ returns-in_ok-clone-in-StringKey-clause-served g c = record {
       (c.in-StringKey.is ∙ ap (name.StringKey c.in-StringKey.object) (sym c.in_ok-clone-in-StringKey.ensures.cases)) c.entry-in-StringKey.ensures.value;
   counts = search rules;
 }
+
+pub returns-in-Element-clause-asked : goal.returns-in-Element-clause-asked
+returns-in-Element-clause-asked g c = no_unit c.element.result _ c.element.ensures.stop
+
+pub returns-in-IntegerKey-clause-asked : goal.returns-in-IntegerKey-clause-asked
+returns-in-IntegerKey-clause-asked g c = no_unit c.entry.result _ c.entry.ensures.stop
+
+pub returns-in_ok-clone-in-StringKey-clause-asked : goal.returns-in_ok-clone-in-StringKey-clause-asked
+returns-in_ok-clone-in-StringKey-clause-asked g c = no_unit c.entry-in-StringKey.result _ c.entry-in-StringKey.ensures.stop

@@ -1,5 +1,6 @@
 use Rattle.std.proofs.Common.{rules}
 use Rattle.world.proofs.UnitCalls.{read_takes, read_ends}
+use Rattle.world.proofs.Asked.{refused_by, takes_record}
 use Rattle.world.proofs.world.World.read.Goals as goal
 
 pub returns-in-Ok-Some-clause-served : goal.returns-in-Ok-Some-clause-served
@@ -13,3 +14,6 @@ returns-in-Ok-None-clause-served g c = record {
   told = read_ends c.args.name.now c.args.unit _ c.args.self.now _ _ c.in-Ok-None.field-0-is c.in-Ok-None.ensures.ok;
   counts = search rules;
 }
+
+pub returns-in-Err-clause-asked : goal.returns-in-Err-clause-asked
+returns-in-Err-clause-asked g c = refused_by c.args.unit c.in-Err.cause c.stop_of.result _ c.stop_of.ensures (takes_record c.args.name.now c.args.unit c.args.self.now)

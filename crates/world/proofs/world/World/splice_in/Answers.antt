@@ -1,8 +1,11 @@
-use Rattle.std.proofs.Common.{rules, inl, refl}
+use Rattle.std.proofs.Common.{Err, ap, rules, inl, refl}
 use Rattle.model.specs.Deck.Target.{Variable}
 use Rattle.model.specs.Language.Operators.{assign_op, splice_op}
 use Rattle.world.specs.Values.{value_of}
 use Rattle.world.proofs.UnitCalls.{no_more, not_replaced, replaced_by}
+use Rattle.world.proofs.Asked.{no_unit, passed_on, prints_on}
+use Rattle.world.specs.Answers.{stopped_by}
+use Rattle.world.specs.Asking.{io_after}
 use Rattle.world.proofs.world.World.splice_in.Goals as goal
 
 pub returns-in_err-whole-clause-only : goal.returns-in_err-whole-clause-only
@@ -27,3 +30,9 @@ returns-clause-served g c = record {
       (λ io. c.in_ok-whole.ensures.value io (Variable c.args.name.now)) c.assign_in.ensures.served.told;
   counts = search rules;
 }
+
+pub returns-in_err-whole-clause-asked : goal.returns-in_err-whole-clause-asked
+returns-in_err-whole-clause-asked g c = passed_on c.from_residual.result c.in_err-whole.field-0.0 _ c.from_residual.ensures.1 (no_unit {A = Unit {0}} (Err c.in_err-whole.field-0.0) _ c.in_err-whole.ensures.stop)
+
+pub returns-clause-asked : goal.returns-clause-asked
+returns-clause-asked g c = prints_on (stopped_by c.assign_in.result) _ _ (λ io. ap io_after (c.in_ok-whole.ensures.value io (Variable c.args.name.now))) c.assign_in.ensures.asked

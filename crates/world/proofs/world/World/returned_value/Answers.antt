@@ -1,0 +1,12 @@
+use Rattle.std.proofs.Common.{ap}
+use Rattle.model.specs.Language.Calls.{as_value}
+use Rattle.world.specs.Answers.{stopped_by}
+use Rattle.world.specs.Asking.{io_after}
+use Rattle.world.specs.Calling.{given_of}
+use Rattle.world.specs.Held.{world_of}
+use Rattle.world.proofs.Asked.{takes_on}
+use Rattle.world.proofs.world.World.returned_value.Goals as goal
+
+pub returns-in-Name-clause-asked : goal.returns-in-Name-clause-asked
+returns-in-Name-clause-asked g c =
+    takes_on (stopped_by c.fetch.result) _ _ (λ io. ap (λ x. io_after (as_value (given_of x) (world_of c.args.self.now io))) c.in-Name.is) c.fetch.ensures.asked
