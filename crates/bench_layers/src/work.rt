@@ -102,7 +102,11 @@ pub fn done(alloc: Global, call: Call, bytes: &[u8]) -> Option<u64> {
             let deck = read_deck(alloc, bytes).ok()?;
             Some(deck.statements.as_slice().len() as u64)
         }
-        Call::Tokens => Some(lex(alloc, bytes).ok()?.len() as u64),
+        Call::Tokens => {
+            let mut tokens = Vec::new(alloc);
+            lex(&mut tokens, bytes).ok()?;
+            Some(tokens.len() as u64)
+        }
         Call::Load => {
             let _module = load(alloc, bytes).ok()?;
             Some(bytes.len() as u64)

@@ -1,11 +1,11 @@
 -- A text that grows: its pieces are those before, with the new ones joined to the last.
-use Rattle.std.proofs.Common.{◌≡◌, refl, sym, ◌∙◌, ap, ℕ, suc, ◌<◌, ◌==◌, ◌||◌, inl, inr, true, false, List, [], ◌∷◌, ◌++◌, length, get_or, take, drop, append_assoc, append-nil}
-use Rattle.std.specs.Prelude.{Option, Some, None}
+use Rattle.std.proofs.Common.{◌≡◌, refl, sym, ◌∙◌, ap, ℕ, suc, ◌<◌, ◌==◌, ◌||◌, Bool, arith, inl, inr, true, false, List, [], ◌∷◌, ◌++◌, length, get_or, take, drop, append_assoc, append-nil}
+use Rattle.std.specs.Prelude.{Option, Some, None, is_some}
 use Rattle.std.proofs.Math.Seq.{take-suc, drop-cons}
 use Rattle.std.proofs.lemmas.Bool.{cases_Bool}
 use Rattle.std.proofs.lemmas.List.{map-append}
 use Rattle.model.specs.Deck.Cards.{Column, placed, into_first, split}
-use Rattle.card_reader.specs.Parts.{after, next_quote, glue}
+use Rattle.card_reader.specs.Parts.{IsDull, after, next_quote, glue}
 
 -- there is always a piece
 pub record Some_piece (ps : List (List Column)) : Type 0 where
@@ -100,3 +100,28 @@ piece_stops n text i lt hit =
 
 pub quote_stops : (n : ℕ) (text : List ℕ) (i : ℕ) → i < length text → (get_or text i 0 == 59) ≡ true → after None (placed n (drop i text)) ≡ after None (placed n (drop (suc i) text))
 quote_stops n text i lt hit = ap (after None) (placed_drop n text i lt) ∙ rw hit refl
+
+-- ---- no semicolon and no quote
+
+three : (x y z : Bool) → ((x || y || z) ≡ true → ⊥) → (x ≡ false) × ((y || z) ≡ false)
+three true y z h = absurd (h refl)
+three false true z h = absurd (h refl)
+three false false true h = absurd (h refl)
+three false false false h = (refl, refl)
+
+dull_split : (n : ℕ) (text : List ℕ) → IsDull text → split None (placed n text) ≡ placed n text ∷ []
+dull_split n [] h = refl
+dull_split n (b ∷ bs) h =
+    let first = three (b == 59) (b == 39) (b == 34) (h 0 (omega arith)) in
+    rw (first.0, first.1) (ap (into_first (col n b)) (dull_split n bs (λ k lt. h (suc k) (omega arith))))
+
+dull_after : (n : ℕ) (text : List ℕ) → IsDull text → after None (placed n text) ≡ None
+dull_after n [] h = refl
+dull_after n (b ∷ bs) h =
+    let first = three (b == 59) (b == 39) (b == 34) (h 0 (omega arith)) in
+    rw (first.0, first.1) (dull_after n bs (λ k lt. h (suc k) (omega arith)))
+
+pub dull_stop : (quote : Option ℕ) (text : List ℕ) → is_some quote ≡ false → IsDull text
+    → ((n : ℕ) → split quote (placed n text) ≡ placed n text ∷ []) × ((n : ℕ) → after quote (placed n text) ≡ None)
+dull_stop None text none h = (λ n. dull_split n text h, λ n. dull_after n text h)
+dull_stop (Some q) text none h = absurd (cc)

@@ -1,5 +1,5 @@
 -- The texts of the cards so far, cut into pieces as far as they are known.
-use Rattle.std.specs.Prelude.{ℕ, ◌==◌, ◌||◌, ◌∷◌, ◌++◌, List, [], Option, Some, None, if◌then◌else◌}
+use Rattle.std.specs.Prelude.{◌≡◌, ◌<◌, ℕ, ◌==◌, ◌||◌, true, ◌∷◌, ◌++◌, get_or, length, List, [], Option, Some, None, if◌then◌else◌}
 use Rattle.model.specs.Deck.Cards.{CardKind, Continuation, Start, Column, placed, split}
 
 -- the quote of the literal that is open behind these columns
@@ -12,6 +12,10 @@ after (Some q) (c ∷ cs) = if c.byte == q then after None cs else after (Some q
 abbrev pub next_quote : Option ℕ → ℕ → Option ℕ
 next_quote None b = if b == 39 || b == 34 then Some b else None
 next_quote (Some q) b = if b == q then None else Some q
+
+-- no byte is a semicolon or a quote
+abbrev pub IsDull : List ℕ → Type 0
+IsDull text = (k : ℕ) → k < length text → (get_or text k 0 == 59 || get_or text k 0 == 39 || get_or text k 0 == 34) ≡ true → ⊥
 
 -- the last piece of the first list goes on with the first of the second
 abbrev pub glue : List (List Column) → List (List Column) → List (List Column)

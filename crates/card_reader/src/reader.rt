@@ -16,6 +16,7 @@ ghost use Rattle.card_reader.specs.Reading.{text_length, merge, pieces_now};
 use crate::kinds::{Kind, card_kind, columns_of, is_blank, is_end_statement, is_plain_line};
 use crate::views::{DeckView, Growing, StatementView};
 use bumpalo::Bump;
+use memchr::memchr3;
 use model::{CardFault, CardRule, Seq};
 use std::alloc::{AllocError, Global};
 use std::mem;
@@ -73,10 +74,23 @@ fn next_quote(quote: Option<u8>, byte: u8) -> Option<u8>
     }
 }
 
+// Whether no byte of a text is a semicolon or a quote.
+fn is_dull(text: &[u8]) -> bool
+    ensures { result ≡ true → parts.IsDull text.now }
+{
+    match memchr3(b';', b'\'', b'"', text) {
+        Some(_) => false,
+        None => true,
+    }
+}
+
 // Where the piece that goes on with this text ends, from within this literal or none.
 fn piece_end(quote: Option<u8>, text: &[u8]) -> Stop
     ensures { IsStop quote text.now result }
 {
+    if quote.is_none() && is_dull(text) {
+        return Stop::End(None);
+    }
     let mut quote = quote;
     for (i, b) in text.iter().enumerate() {
         if quote.is_none() && *b == b';' {

@@ -60,10 +60,10 @@ length_snoc (y ∷ xs) x = let h = length_snoc xs x in omega (arith, h)
 -- the tree of a statement that isn't faulty is put
 pub step_put : TreesFit → (names : List (Option Bytes)) (ss : List Statement) (i : ℕ) (s : Statement) (t : StmtTree) (r q : Reader) (b c : ImageBuilder) → i < length ss → s ≡ get_or ss i s → Kept names ss i r b
     → ((xs : List Statement) → HasRead xs r → HasRead (xs ++ s ∷ []) q) → IsGiven s r (Some t)
-    → ((ns : List (Option Bytes)) (ts : List Stmt) → HasPut ns ts b → HasPut ns (ts ++ stmt_of t.statement ∷ []) c) → Kept names ss (i + 1) q c
+    → ((ns : List (Option Bytes)) (ts : List Stmt) → HasPut ns ts b → HasPut ns (ts ++ stmt_of t.statement.value ∷ []) c) → Kept names ss (i + 1) q c
 step_put trees_are names ss i s t r q b c less is k reads given puts =
     let more : take (i + 1) ss ≡ take i ss ++ s ∷ [] = take_more ss i s less is in
-    let tree = stmt_of t.statement in
+    let tree = stmt_of t.statement.value in
     let w = trees_are s.text tree given.0 in
     let l = k.light in
     let f = k.few in record {
@@ -115,10 +115,10 @@ pub record Room (ts : List Stmt) (s : Stmt) : Type 0 where
   pub few : length ts < 16777216
 
 pub room : DecksFit → TreesFit → (text : List ℕ) (names : List (Option Bytes)) (ss : List Statement) (i : ℕ) (s : Statement) (t : StmtTree) (r : Reader) (b : ImageBuilder) → cards.deck text ≡ Ok ss → i < length ss → s ≡ get_or ss i s
-    → (k : Kept names ss i r b) → IsGiven s r (Some t) → Room k.trees (stmt_of t.statement)
+    → (k : Kept names ss i r b) → IsGiven s r (Some t) → Room k.trees (stmt_of t.statement.value)
 room decks trees_are text names ss i s t r b d less is k given =
     let fit = decks text ss d in
-    let w = trees_are s.text (stmt_of t.statement) given.0 in
+    let w = trees_are s.text (stmt_of t.statement.value) given.0 in
     let short = each_at (λ (s : Statement). length s.text ≤ 4000) ss i s fit.each less is in
     let all = texts_take ss i s less is in
     let together = fit.together in
@@ -126,7 +126,7 @@ room decks trees_are text names ss i s t r b d less is k given =
     let count = fit.count in
     let l = k.light in
     let f = k.few in record {
-      countable = light_statement (stmt_of t.statement) given.1 (omega (arith, w, short));
+      countable = light_statement (stmt_of t.statement.value) given.1 (omega (arith, w, short));
       light = omega (arith, w, l, all, together, deck);
       few = omega (arith, f, less, count, deck);
     }

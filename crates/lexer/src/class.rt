@@ -55,25 +55,25 @@ pub(crate) fn byte_class(byte: u8) -> Class
 }
 
 #[inline(always)]
+#[tactic(auto, unfolding(model::specs::Deck::Cut::class))]
 pub(crate) fn is_space(byte: u8) -> bool
     ensures { result ≡ cut.is_space byte }
 {
-    matches!(byte_class(byte), Class::Space)
+    byte == b' '
 }
 
 #[inline(always)]
+#[tactic(auto, unfolding(model::specs::Deck::Cut::class))]
 pub(crate) fn is_word(byte: u8) -> bool
     ensures { result ≡ cut.is_word byte }
 {
-    matches!(
-        byte_class(byte),
-        Class::Letter | Class::Digit | Class::Dot | Class::Underscore
-    )
+    matches!(byte, b'A'..=b'Z' | b'a'..=b'z' | b'0'..=b'9' | b'.' | b'_')
 }
 
 #[inline(always)]
+#[tactic(auto, unfolding(model::specs::Deck::Cut::class))]
 pub(crate) fn is_digit(byte: u8) -> bool
     ensures { result ≡ cut.is_digit byte }
 {
-    matches!(byte_class(byte), Class::Digit)
+    byte.is_ascii_digit()
 }

@@ -1,8 +1,10 @@
 //! Tokens of a statement's text, or the least of the causes L1 to L5.
 //!
-//! `lex(alloc, text)` gives the tokens, each with its kind, its bytes and the place where they stand in the text.
+//! `lex(&mut tokens, text)` puts the tokens into a list, each with its kind, its bytes and the place where they stand in
+//! the text. The list can be used for text after text.
 //!
-//!     let tokens = lex(alloc, b"N = N + 1")?;
+//!     let mut tokens = Vec::new(alloc);
+//!     lex(&mut tokens, b"N = N + 1")?;
 //!
 //! `first_name(text)` gives the name that a text begins with, without the tokens behind it.
 //!
@@ -11,7 +13,7 @@
 //! (`Lexed`).
 #![tactic(auto)]
 
-ghost use Rattle.std.specs.Prelude.{◌≡◌, ◌≢◌, ◌≤◌, [], length, option_map, IfOk, IfErr, OnOk, None, Some};
+ghost use Rattle.std.specs.Prelude.{◌≡◌, ◌≢◌, ◌≤◌, length, option_map, IfOk, IfErr, OnOk, None, Some};
 ghost use Rattle.model.specs.declared.causes.Cause.TheVariants as cause;
 ghost use Rattle.model.specs.Deck.Cut.{Cut, least_lexical};
 ghost use Rattle.model.specs.Deck.Lexed.{Lexed};
@@ -26,26 +28,14 @@ mod scan;
 use crate::limits::Limits;
 use crate::scan::{Scanned, scan};
 use model::{Cause, Token, TokenKind};
-use std::alloc::Global;
 
-// No tokens, and room for those of a text that has one in two bytes.
-fn no_tokens<'a>(alloc: Global, text: &'a [u8]) -> Result<Vec<Token<'a>>, Cause>
-    ensures none { IfOk result (λ tokens. tokens.items ≡ []) }
-    ensures cause { IfErr result (λ c. c ≡ cause.Memory) }
-{
-    match Vec::with_capacity(alloc, text.len() / 2 + 1) {
-        Ok(tokens) => Ok(tokens),
-        Err(_) => Err(Cause::Memory),
-    }
-}
-
-// The tokens of the text, and what they break of L3 to L5.
-fn cut_text<'a>(alloc: Global, text: &'a [u8]) -> Result<(Vec<Token<'a>>, Limits), Cause>
-    ensures tokens { IfOk result (λ p. AreTokens text.now p.0.items p.1) }
+// Puts the tokens of the text in place of others. What they break of L3 to L5.
+fn cut_text<'a>(tokens: &mut Vec<Token<'a>>, text: &'a [u8]) -> Result<Limits, Cause>
+    ensures tokens { IfOk result (λ limits. AreTokens text.now tokens.new.items limits) }
     ensures cause { IfErr result (λ c.
         c ≢ cause.Memory → least_lexical (pieces text.now) ≡ Some c) }
 {
-    let mut tokens = no_tokens(alloc, text)?;
+    tokens.clear();
     let mut limits = Limits::new();
     let mut start = 0;
     while let Some(found) = scan(&text[start..]) {
@@ -68,22 +58,22 @@ fn cut_text<'a>(alloc: Global, text: &'a [u8]) -> Result<(Vec<Token<'a>>, Limits
         };
         start = end;
     }
-    Ok((tokens, limits))
+    Ok(limits)
 }
 
-/// The tokens that the text is cut into, or the least of L1 to L5 that its pieces break.
-pub fn lex(alloc: Global, text: &[u8]) -> Result<Vec<Token<'_>>, Cause>
-    ensures cut { IfOk result (λ tokens. Cut text.now (pieces_of tokens.items)) }
-    ensures spans { IfOk result (λ tokens. Spans 0 (length text.now) text.now tokens.items) }
+/// Puts the tokens that the text is cut into in place of others, or gives the least of L1 to L5 that its pieces break.
+pub fn lex<'a>(tokens: &mut Vec<Token<'a>>, text: &'a [u8]) -> Result<(), Cause>
+    ensures cut { OnOk result (Cut text.now (pieces_of tokens.new.items)) }
+    ensures spans { OnOk result (Spans 0 (length text.now) text.now tokens.new.items) }
     ensures fair { OnOk result (least_lexical (pieces text.now) ≡ None) }
-    ensures lexed { IfOk result (λ tokens. Lexed tokens.items) }
+    ensures lexed { OnOk result (Lexed tokens.new.items) }
     ensures cause { IfErr result (λ c.
         c ≢ cause.Memory → least_lexical (pieces text.now) ≡ Some c) }
 {
-    let (tokens, limits) = cut_text(alloc, text)?;
+    let limits = cut_text(tokens, text)?;
     match limits.least() {
         Some(cause) => Err(cause),
-        None => Ok(tokens),
+        None => Ok(()),
     }
 }
 

@@ -80,6 +80,7 @@ fn stars(text: &[u8]) -> Scanned
 }
 
 // The first piece, if the text isn't empty.
+#[inline(always)]
 pub(crate) fn scan(text: &[u8]) -> Option<Scanned>
     ensures { IsScanned text.now result }
 {

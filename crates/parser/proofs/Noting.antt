@@ -3,6 +3,8 @@ use Rattle.std.proofs.Common.{◌≡◌, ◌≢◌, ◌+◌, ◌<◌, arith, tak
 use Rattle.std.specs.Prelude.{Result, Ok, Err, OnOk, ◌==◌, length}
 use Rattle.std.proofs.lemmas.Bool.Decides.{nat_tests}
 use Rattle.std.proofs.Math.Seq.{take-suc}
+use Rattle.std.specs.declared.alloc.Global.{Global}
+use Rattle.std.specs.declared.boxed.Box.{Box}
 use Rattle.model.specs.declared.cards.Statement.{Statement}
 use Rattle.model.specs.declared.causes.Cause.{Cause}
 use Rattle.model.specs.declared.causes.Cause.TheVariants as cause
@@ -187,8 +189,8 @@ pub is_something : {A : Type 0} (xs : List A) (b : Bool) → b ≡ (length xs ==
 is_something [] b e f = absurd (cc)
 is_something (x ∷ xs) b e f = λ n. absurd (cc)
 
-pub cause_is : (text given : Bytes) (r : Result Tree Cause) (c : Cause) → given ≡ text → result_of r ≡ read given → r ≡ Err c → read text ≡ Err c
+pub cause_is : (text given : Bytes) (r : Result (Box Tree Global) Cause) (c : Cause) → given ≡ text → result_of r ≡ read given → r ≡ Err c → read text ≡ Err c
 cause_is text given r c g h e = ap read (sym g) ∙ sym h ∙ ap result_of e
 
-pub tree_of : (text given : Bytes) (r : Result Tree Cause) (t : Tree) (made : StmtTree) → given ≡ text → result_of r ≡ read given → r ≡ Ok t → made.statement ≡ t → read text ≡ Ok (stmt_of made.statement)
-tree_of text given r t made g h e m = ap read (sym g) ∙ sym h ∙ ap result_of e ∙ ap (λ t. Ok (stmt_of t)) (sym m)
+pub tree_of : (text given : Bytes) (r : Result (Box Tree Global) Cause) (t : Box Tree Global) (made : StmtTree) → given ≡ text → result_of r ≡ read given → r ≡ Ok t → made.statement ≡ t → read text ≡ Ok (stmt_of made.statement.value)
+tree_of text given r t made g h e m = ap read (sym g) ∙ sym h ∙ ap result_of e ∙ ap (λ t. Ok (stmt_of t.value)) (sym m)

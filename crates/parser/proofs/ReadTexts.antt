@@ -1,6 +1,8 @@
 -- What one text gives, by what its tokens give.
 use Rattle.std.proofs.Common.{◌≡◌, ◌∙◌, refl, sym, ap, subst, ◌≢◌, List, map, Option, Some, None, inl, inr}
 use Rattle.std.specs.Prelude.{◌⊎◌, Result, Ok, Err, IfOk, IfErr}
+use Rattle.std.specs.declared.alloc.Global.{Global}
+use Rattle.std.specs.declared.boxed.Box.{Box}
 use Rattle.model.specs.declared.causes.Cause.{Cause}
 use Rattle.model.specs.declared.causes.Cause.TheVariants as cause
 use Rattle.model.specs.declared.tokens.Token.{Token}
@@ -43,7 +45,7 @@ other_cause found c ts (inl m) none other = absurd (other m)
 other_cause found c ts (inr n) none other = none n.1 ∙ ap Err (sym n.0)
 
 -- what the parser says of all tokens of a text
-pub parsed : (text : Bytes) (tokens given : List Token) (r : Result trees.Stmt Cause) → given ≡ tokens → least_lexical (pieces text) ≡ None → Cut text (map piece_of tokens)
-    → IfOk r (λ s. Tree (stmt_of s) (toks given)) → IfErr r (λ c. (c ≡ cause.Memory) ⊎ ((c ≡ cause.NoTree) × HasNoTree (toks given))) → IsRead (read text) r
-parsed text tokens given (Ok s) same fair cut t c = is_tree text (stmt_of s) tokens fair cut (subst (λ ts. Tree (stmt_of s) (toks ts)) same t)
+pub parsed : (text : Bytes) (tokens given : List Token) (r : Result (Box trees.Stmt Global) Cause) → given ≡ tokens → least_lexical (pieces text) ≡ None → Cut text (map piece_of tokens)
+    → IfOk r (λ s. Tree (stmt_of s.value) (toks given)) → IfErr r (λ c. (c ≡ cause.Memory) ⊎ ((c ≡ cause.NoTree) × HasNoTree (toks given))) → IsRead (read text) r
+parsed text tokens given (Ok s) same fair cut t c = is_tree text (stmt_of s.value) tokens fair cut (subst (λ ts. Tree (stmt_of s.value) (toks ts)) same t)
 parsed text tokens given (Err x) same fair cut t c = other_cause (read text) x (toks given) c (λ none. is_none text tokens fair cut (subst (λ ts. HasNoTree (toks ts)) same none))

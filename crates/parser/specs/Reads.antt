@@ -8,19 +8,21 @@ use Rattle.model.specs.declared.trees.Stmt as declared
 use Rattle.model.specs.Deck.Faults.{call_fits, cause_of, entry_given, fault_of, faults_after, is_one_of, is_taken, keyword_known, label_given, labels_given, read, targets_fit, throughout}
 use Rattle.model.specs.Deck.Trees.{Bytes, Stmt, Plain, End}
 use Rattle.model.specs.Deck.TreeViews.{stmt_of}
+use Rattle.std.specs.declared.alloc.Global.{Global}
+use Rattle.std.specs.declared.boxed.Box.{Box}
 use Rattle.tree_drops.specs.declared.StmtTree.{StmtTree}
 use Rattle.parser.specs.Labels.{AreSame}
 use Rattle.parser.specs.declared.reading.Noted.{Noted}
 use Rattle.parser.specs.declared.reading.Noted.TheVariants as noted
 use Rattle.parser.specs.declared.reading.Reader.{Reader}
 
-abbrev pub result_of : Result declared.Stmt Cause → Result Stmt Cause
-result_of (Ok s) = Ok (stmt_of s)
+abbrev pub result_of : Result (Box declared.Stmt Global) Cause → Result Stmt Cause
+result_of (Ok s) = Ok (stmt_of s.value)
 result_of (Err c) = Err c
 
 -- the tree or the cause that is found, unless memory runs out
-abbrev pub IsRead : Result Stmt Cause → Result declared.Stmt Cause → Type 0
-IsRead found (Ok s) = found ≡ Ok (stmt_of s)
+abbrev pub IsRead : Result Stmt Cause → Result (Box declared.Stmt Global) Cause → Type 0
+IsRead found (Ok s) = found ≡ Ok (stmt_of s.value)
 IsRead found (Err c) = c ≢ cause.Memory → found ≡ Err c
 
 -- ---- the rules that a statement may break, by whether they ask for the labels of later statements
@@ -66,5 +68,5 @@ pub record HasRead (ss : List Statement) (r : Reader) : Type 0 where
 -- what is given of a statement: its tree, if it calls no primitive with too many arguments; or nothing, and then it is faulty
 -- behind the others, whatever labels all statements give
 abbrev pub IsGiven : Statement → Reader → Option StmtTree → Type 0
-IsGiven s r (Some t) = (read s.text ≡ Ok (stmt_of t.statement)) × (throughout call_fits (stmt_of t.statement) ≡ true)
+IsGiven s r (Some t) = (read s.text ≡ Ok (stmt_of t.statement.value)) × (throughout call_fits (stmt_of t.statement.value) ≡ true)
 IsGiven s r None = (ss : List Statement) → HasRead ss r → (all : List Bytes) → fault_of s.number (cause_of (labels_given ss) all (read s.text)) ≢ []

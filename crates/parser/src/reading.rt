@@ -13,7 +13,7 @@ use crate::labels::Labels;
 use crate::statements::rule_broken;
 use card_reader::StatementView;
 use lexer::{first_name, lex};
-use model::{Cause, DeckFault, Seq, Stmt, StmtFault};
+use model::{Cause, DeckFault, Seq, Stmt, StmtFault, Token};
 use std::alloc::{AllocError, Global};
 use stmt_parser::parse_statement;
 use tree_drops::StmtTree;
@@ -40,6 +40,8 @@ pub struct Reader<'a> {
     /// The labels that statements with a tree gave.
     labels: Labels<'a>,
     noted: Vec<Noted>,
+    /// Room for the tokens of a statement.
+    tokens: Vec<Token<'a>>,
 }
 
 impl<'a> Drop for Reader<'a> {
@@ -47,23 +49,28 @@ impl<'a> Drop for Reader<'a> {
         let Reader {
             labels: _,
             noted: _,
+            tokens: _,
         } = self;
     }
 }
 
-// The tree of a text, or the cause for which it has none. Keeps no tokens.
-fn tree(alloc: Global, text: &[u8]) -> Result<Stmt, Cause>
+// The tree of a text, or the cause for which it has none. Its tokens are put in place of others.
+fn tree<'a>(alloc: Global, tokens: &mut Vec<Token<'a>>, text: &'a [u8]) -> Result<Box<Stmt>, Cause>
     ensures { IsRead (spec.read text.now) result }
 {
-    let tokens = lex(alloc, text)?;
-    parse_statement(alloc, &tokens)
+    lex(tokens, text)?;
+    parse_statement(alloc, tokens)
 }
 
 // The same where memory runs out apart.
-fn tree_or_cause(alloc: Global, text: &[u8]) -> Result<Result<Stmt, Cause>, AllocError>
+fn tree_or_cause<'a>(
+    alloc: Global,
+    tokens: &mut Vec<Token<'a>>,
+    text: &'a [u8],
+) -> Result<Result<Box<Stmt>, Cause>, AllocError>
     ensures { IfOk result (λ found. result_of found ≡ spec.read text.now) }
 {
-    match tree(alloc, text) {
+    match tree(alloc, tokens, text) {
         Err(Cause::Memory) => Err(AllocError),
         found => Ok(found),
     }
@@ -161,6 +168,7 @@ impl<'a> Reader<'a> {
         Reader {
             labels: Labels::new(alloc),
             noted: Vec::new(alloc),
+            tokens: Vec::new(alloc),
         }
     }
 
@@ -172,7 +180,7 @@ impl<'a> Reader<'a> {
         statement: &StatementView<'a>,
         tree: StmtTree,
     ) -> Result<Option<StmtTree>, AllocError>
-        requires { spec.read statement.now.text ≡ Ok (stmt_of tree.statement) }
+        requires { spec.read statement.now.text ≡ Ok (stmt_of tree.statement.value) }
         ensures read { OnOk result ((ss : List Statement) → HasRead ss self.old
             → HasRead (ss ++ statement.now ∷ []) self.new) }
         ensures given { IfOk result (IsGiven statement.now self.old) }
@@ -202,7 +210,7 @@ impl<'a> Reader<'a> {
             → HasRead (ss ++ statement.now ∷ []) self.new) }
         ensures given { IfOk result (IsGiven statement.now self.old) }
     {
-        let found = tree_or_cause(alloc, statement.text())?;
+        let found = tree_or_cause(alloc, &mut self.tokens, statement.text())?;
         match found {
             Ok(tree) => self.judge(alloc, statement, StmtTree::new(alloc, tree)),
             Err(cause) => {

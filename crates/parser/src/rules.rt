@@ -89,12 +89,14 @@ fn itself(expr: &Expr) -> Kept
 pub(crate) fn keeps(expr: &Expr) -> Kept
     ensures { Keeps result (expr_of expr.now) }
 {
-    let own = itself(expr);
     match expr {
-        Expr::Call(_, arguments) | Expr::Reference(_, arguments) => own.and(all_keep(arguments)),
-        Expr::Unary(_, operand) => own.and(keeps(operand)),
-        Expr::Binary(_, left, right) => own.and(keeps(left).and(keeps(right))),
-        Expr::Name(_) | Expr::Integer(_) | Expr::Literal(_) | Expr::Keyword(_) => own,
+        Expr::Call(_, arguments) | Expr::Reference(_, arguments) => {
+            itself(expr).and(all_keep(arguments))
+        }
+        Expr::Unary(_, operand) => itself(expr).and(keeps(operand)),
+        Expr::Binary(_, left, right) => itself(expr).and(keeps(left).and(keeps(right))),
+        Expr::Keyword(_) => itself(expr),
+        Expr::Name(_) | Expr::Integer(_) | Expr::Literal(_) => Kept::ALL,
     }
 }
 

@@ -14,7 +14,7 @@ use Rattle.model.specs.Deck.TreeViews.{arg_of, args_of}
 use Rattle.model.proofs.Decks.ParseComplete.{on_go}
 use Rattle.model.proofs.Decks.ParseSound.{pow_only}
 use Rattle.stmt_parser.specs.Powers.{marks_before, powers}
-use Rattle.stmt_parser.specs.Views.{Misses, Operated, prefix_of, prefix_of_role}
+use Rattle.stmt_parser.specs.Views.{Misses, Operated, grade_ahead, prefix_of, prefix_of_role}
 use Rattle.stmt_parser.proofs.Powers.{marks_last, powers_last}
 
 pub one_more : {X : Type 0} {x : X} (f : ℕ → X) (n at : ℕ) → at < n → x ≡ f (n - at) → x ≡ f (suc (n - (at + 1)))
@@ -61,6 +61,15 @@ module _ (operand : Parser Expr) (k n : ℕ) (e : Expr) (ts : List Tok) where
   pub lefts_end : lefts operand k zero e ts ≡ Some (e, ts)
   unfolding lefts
   lefts_end = refl
+
+-- where no operator of the grade comes next
+pub lefts_miss : (operand : Parser Expr) (k n : ℕ) (e : Expr) (ts : List Tok) → Misses k (next ts) → lefts operand k n e ts ≡ Some (e, ts)
+lefts_miss operand k zero e ts m = lefts_end operand k zero e ts
+lefts_miss operand k (suc n) e ts m = lefts_stop operand k n e ts m
+
+pub ahead_misses : (k : ℕ) (x : Onward) → (grade_ahead x ≡ k → ⊥) → Misses k x
+ahead_misses k Ends h = tt
+ahead_misses k (Sees op ts) h = h
 
 pub graded_left : (atom : Parser Expr) (k j : ℕ) → k ≡ suc j → (j == 1) ≡ false → (ts : List Tok) (e : Expr) (rest : List Tok) → graded atom j ts ≡ Some (e, rest)
     → graded atom k ts ≡ lefts (graded atom j) k (length rest) e rest

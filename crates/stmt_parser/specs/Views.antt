@@ -40,6 +40,11 @@ abbrev pub Taken : List Tok → Option Token → List Tok → Type 0
 Taken ts None rest = (ts ≡ []) × (rest ≡ [])
 Taken ts (Some t) rest = ts ≡ tok t ∷ rest
 
+-- the grade of the operator that comes next, or 0 where none does
+abbrev pub grade_ahead : Onward → ℕ
+grade_ahead Ends = 0
+grade_ahead (Sees op ts) = grade op
+
 -- an operator that comes next, and how many tokens it takes
 abbrev pub Seen : List Tok → Option Binary → ℕ → Type 0
 Seen ts None n = next ts ≡ Ends
@@ -91,6 +96,9 @@ Reads view found (Err s) rest = Fails s found
 abbrev pub boxed_of : Box Expr Global → tree.Expr
 boxed_of b = expr_of b.value
 
+abbrev pub boxed_stmt_of : Box Stmt Global → tree.Stmt
+boxed_stmt_of b = stmt_of b.value
+
 abbrev pub arguments_of : Vec Argument Global → Args
 arguments_of v = args_of v.items
 
@@ -99,6 +107,6 @@ other_place_of None = None
 other_place_of (Some p) = Some (place_of p)
 
 -- what all tokens come to
-abbrev pub Parses : Option tree.Stmt → Result Stmt Stop → Type 0
-Parses found (Ok s) = found ≡ Some (stmt_of s)
+abbrev pub Parses : Option tree.Stmt → Result (Box Stmt Global) Stop → Type 0
+Parses found (Ok s) = found ≡ Some (stmt_of s.value)
 Parses found (Err s) = Fails s found

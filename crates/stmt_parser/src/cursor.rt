@@ -194,7 +194,19 @@ impl<'a> Cursor<'a> {
         }
     }
 
+    /// The grade of the operator that comes next, or 0 where none does.
+    #[inline(always)]
+    pub(crate) fn grade_ahead(&self) -> u8
+        ensures { result ≡ view.grade_ahead (spec.next self.now) }
+    {
+        match self.next() {
+            (Some(op), _) => grade(op),
+            (None, _) => 0,
+        }
+    }
+
     /// Takes the operator of this grade, where one comes next.
+    #[inline(always)]
     pub(crate) fn operator(&mut self, wanted: u8) -> Option<Binary>
         ensures { view.Operated wanted self.old result self.new }
     {

@@ -52,15 +52,18 @@ fn graded(
 
 /// An expression of grade 1.
 #[cycle(expr)]
-#[inline(never)]
+#[inline(always)]
 fn assigned(alloc: Global, cursor: &mut Cursor<'_>, depth: usize) -> Result<Box<Expr>, Stop>
     ensures { Reads boxed_of (spec.graded (spec.element depth) 1 cursor.old) result cursor.new }
 {
     let first = marked(alloc, cursor, depth)?;
+    if cursor.grade_ahead() != 1 {
+        return Ok(first);
+    }
     lefts(alloc, cursor, depth, 1, first)
 }
 
-/// An expression of a grade above 2: one of grade 2, then the operators of grade 3, and so on.
+/// An expression of a grade above 2: one of grade 2, then the operators of grade 3, and so on, as they come.
 #[cycle(expr)]
 #[inline(never)]
 fn climbed(
@@ -73,8 +76,12 @@ fn climbed(
     ensures { Reads boxed_of (spec.graded (spec.element depth) grade cursor.old) result cursor.new }
 {
     let mut found = rights(alloc, cursor, depth)?;
+    let mut ahead = cursor.grade_ahead();
     for below in 2..grade {
-        found = lefts(alloc, cursor, depth, below + 1, found)?;
+        if ahead == below + 1 {
+            found = lefts(alloc, cursor, depth, below + 1, found)?;
+            ahead = cursor.grade_ahead();
+        }
     }
     Ok(found)
 }
@@ -149,7 +156,7 @@ fn marked(alloc: Global, cursor: &mut Cursor<'_>, depth: usize) -> Result<Box<Ex
 
 /// An element that begins with no unary operator; what stands in its brackets is nested less deep than the number.
 #[cycle(expr)]
-#[inline(never)]
+#[inline(always)]
 #[tactic(auto, unfolding(model::specs::Deck::Parse::element, model::specs::Deck::Parse::element_step, model::specs::Deck::Parse::bind))]
 fn bare(alloc: Global, cursor: &mut Cursor<'_>, depth: usize) -> Result<Box<Expr>, Stop>
     requires { Unprefixed cursor.old }

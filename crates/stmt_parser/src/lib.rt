@@ -2,7 +2,8 @@
 //!
 //! `parse_statement(alloc, &tokens)` gives the tree of one statement.
 //!
-//!     let tokens = lex(alloc, b"N = N + 1")?;
+//!     let mut tokens = Vec::new(alloc);
+//!     lex(&mut tokens, b"N = N + 1")?;
 //!     let tree = parse_statement(alloc, &tokens)?;
 //!
 //! Promised: the one tree that has these tokens by the grammar (`Tree` of `model`'s `Statements`), or P1 exactly where

@@ -7,20 +7,20 @@ ghost use Rattle.model.specs.Deck.Statements.{HasNoTree, Tree};
 ghost use Rattle.model.specs.Deck.Tokens.{toks};
 ghost use Rattle.model.specs.Deck.TreeViews.{label_of, stmt_of};
 ghost use Rattle.model.specs.declared.causes.Cause.TheVariants as cause;
-ghost use Rattle.stmt_parser.specs.Views.{Parses, Reads};
+ghost use Rattle.stmt_parser.specs.Views.{Parses, Reads, boxed_stmt_of};
 
 use crate::bodies::body;
 use crate::cursor::Cursor;
 use crate::gotos::goto;
 use crate::stop::Stop;
 use model::{Cause, Stmt, Token, TokenKind};
-use std::alloc::Global;
+use std::alloc::{AllocError, Global};
 use tree_drops::{drop_body, drop_statement};
 
 /// The one statement that has these tokens.
-pub fn parse_statement(alloc: Global, tokens: &[Token<'_>]) -> Result<Stmt, Cause>
+pub fn parse_statement(alloc: Global, tokens: &[Token<'_>]) -> Result<Box<Stmt>, Cause>
     requires { Lexed tokens.now }
-    ensures tree { IfOk result (λ s. Tree (stmt_of s) (toks tokens.now)) }
+    ensures tree { IfOk result (λ s. Tree (stmt_of s.value) (toks tokens.now)) }
     // No other cause than that there is none, or no memory.
     ensures cause { IfErr result (λ c.
         (c ≡ cause.Memory) ⊎ ((c ≡ cause.NoTree) × HasNoTree (toks tokens.now))) }
@@ -32,8 +32,15 @@ pub fn parse_statement(alloc: Global, tokens: &[Token<'_>]) -> Result<Stmt, Caus
     }
 }
 
+/// A statement behind a pointer.
+fn node(alloc: Global, statement: Stmt) -> Result<Box<Stmt>, AllocError>
+    ensures { IfOk result (λ s. boxed_stmt_of s ≡ stmt_of statement) }
+{
+    Ok(Box::new(alloc, statement)?)
+}
+
 #[tactic(auto, unfolding(model::specs::Deck::ParseStatements::stmt))]
-fn all(alloc: Global, tokens: &[Token<'_>]) -> Result<Stmt, Stop>
+fn all(alloc: Global, tokens: &[Token<'_>]) -> Result<Box<Stmt>, Stop>
     requires { Lexed tokens.now }
     ensures { Parses (spec.stmt (toks tokens.now)) result }
 {
@@ -49,8 +56,8 @@ fn all(alloc: Global, tokens: &[Token<'_>]) -> Result<Stmt, Stop>
 }
 
 #[tactic(auto, unfolding(model::specs::Deck::ParseStatements::statement_parser, model::specs::Deck::Parse::bind))]
-fn statement(alloc: Global, cursor: &mut Cursor<'_>, depth: usize) -> Result<Stmt, Stop>
-    ensures { Reads stmt_of (spec.statement_parser depth cursor.old) result cursor.new }
+fn statement(alloc: Global, cursor: &mut Cursor<'_>, depth: usize) -> Result<Box<Stmt>, Stop>
+    ensures { Reads boxed_stmt_of (spec.statement_parser depth cursor.old) result cursor.new }
 {
     if cursor.eat_word(b"END") {
         return after_end(alloc, cursor);
@@ -65,14 +72,14 @@ fn after_label(
     cursor: &mut Cursor<'_>,
     depth: usize,
     label: Option<Vec<u8>>,
-) -> Result<Stmt, Stop>
-    ensures { Reads stmt_of (spec.after_label depth (label_of label) cursor.old) result cursor.new }
+) -> Result<Box<Stmt>, Stop>
+    ensures { Reads boxed_stmt_of (spec.after_label depth (label_of label) cursor.old) result cursor.new }
 {
     let body = body(alloc, cursor, depth)?;
     match goto(alloc, cursor, depth) {
         Ok(goto) => {
             cursor.skip();
-            Ok(Stmt::Plain { label, body, goto })
+            Ok(node(alloc, Stmt::Plain { label, body, goto })?)
         }
         Err(stop) => {
             drop_body(alloc, body);
@@ -83,8 +90,8 @@ fn after_label(
 
 /// `[B name] [B]`
 #[tactic(auto, unfolding(model::specs::Deck::ParseStatements::after_end, model::specs::Deck::Parse::bind))]
-fn after_end(alloc: Global, cursor: &mut Cursor<'_>) -> Result<Stmt, Stop>
-    ensures { Reads stmt_of (spec.after_end cursor.old) result cursor.new }
+fn after_end(alloc: Global, cursor: &mut Cursor<'_>) -> Result<Box<Stmt>, Stop>
+    ensures { Reads boxed_stmt_of (spec.after_end cursor.old) result cursor.new }
 {
     let entry = if cursor.enter_name() {
         label(alloc, cursor)?
@@ -92,7 +99,7 @@ fn after_end(alloc: Global, cursor: &mut Cursor<'_>) -> Result<Stmt, Stop>
         None
     };
     cursor.skip();
-    Ok(Stmt::End { entry })
+    Ok(node(alloc, Stmt::End { entry })?)
 }
 
 /// A name, where one comes next.

@@ -17,8 +17,19 @@ use model::{Argument, Body, Expr, Goto, Place, Stmt};
 use std::alloc::Global;
 use std::mem;
 
-/// Moves an expression to those that wait. Where memory for it is refused it goes at once.
+/// Whether an expression has no operands and no arguments.
+fn is_leaf(expr: &Expr) -> bool {
+    matches!(
+        expr,
+        Expr::Name(_) | Expr::Integer(_) | Expr::Literal(_) | Expr::Keyword(_)
+    )
+}
+
+/// Moves an expression to those that wait, unless it has no parts. Where memory for it is refused it goes at once.
 fn put(waiting: &mut Vec<Expr>, expr: &mut Expr) {
+    if is_leaf(expr) {
+        return;
+    }
     let taken = mem::replace(expr, Expr::Integer(0));
     let _ = waiting.push(taken);
 }
@@ -130,21 +141,25 @@ pub fn drop_body(alloc: Global, body: Body) {
     drop_all(&mut waiting);
 }
 
-/// Drops a statement.
-pub fn drop_statement(alloc: Global, statement: Stmt) {
+fn put_statement(waiting: &mut Vec<Expr>, statement: &mut Stmt) {
+    if let Stmt::Plain { body, goto, .. } = statement {
+        put_body(waiting, body);
+        put_goto(waiting, goto);
+    }
+}
+
+/// Drops a statement behind a pointer.
+pub fn drop_statement(alloc: Global, statement: Box<Stmt>) {
     let mut statement = statement;
     let mut waiting = Vec::new(alloc);
-    if let Stmt::Plain { body, goto, .. } = &mut statement {
-        put_body(&mut waiting, body);
-        put_goto(&mut waiting, goto);
-    }
+    put_statement(&mut waiting, &mut statement);
     drop_all(&mut waiting);
 }
 
 /// A statement's tree, which is dropped on a small stack.
 pub struct StmtTree {
     /// The statement.
-    pub statement: Stmt,
+    pub statement: Box<Stmt>,
     alloc: Global,
 }
 
@@ -157,7 +172,7 @@ impl Drop for StmtTree {
 
 impl StmtTree {
     /// The tree of a statement.
-    pub fn new(alloc: Global, statement: Stmt) -> StmtTree
+    pub fn new(alloc: Global, statement: Box<Stmt>) -> StmtTree
         ensures { result.statement ≡ statement }
     {
         StmtTree { statement, alloc }

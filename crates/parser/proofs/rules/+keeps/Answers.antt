@@ -58,9 +58,9 @@ of_reference own args kept name xs e i o a b = record {
 pub keeps-returns-in-Call : goal.keeps-returns-in-Call
 keeps-returns-in-Call t c =
     let args : AllKeep c.all_keep.result (args_of c.in-Call.arguments.items) = subst (λ xs. AllKeep c.all_keep.result (args_of xs)) c.deref-in-Call.ensures.value c.all_keep.ensures in
-    let own : Keeps_itself c.itself-own.result (expr_of c.args.expr.now) = record { calls = c.itself-own.ensures.calls; keywords = c.itself-own.ensures.keywords; operands = c.itself-own.ensures.operands } in
-    let both : Both c.itself-own.result c.all_keep.result c.and-in-Call.result = record { calls = c.and-in-Call.ensures.calls; keywords = c.and-in-Call.ensures.keywords; operands = c.and-in-Call.ensures.operands } in
+    let own : Keeps_itself c.itself-in-Call.result (expr_of c.args.expr.now) = record { calls = c.itself-in-Call.ensures.calls; keywords = c.itself-in-Call.ensures.keywords; operands = c.itself-in-Call.ensures.operands } in
+    let both : Both c.itself-in-Call.result c.all_keep.result c.and-in-Call.result = record { calls = c.and-in-Call.ensures.calls; keywords = c.and-in-Call.ensures.keywords; operands = c.and-in-Call.ensures.operands } in
     elim c.in-Call.is [
-      | inl i ↦ of_call c.itself-own.result c.all_keep.result c.and-in-Call.result i.0.items (args_of c.in-Call.arguments.items) (expr_of c.args.expr.now) (ap expr_of i.1 ∙ call_is i.0 c.in-Call.arguments) own args both
-      | inr i ↦ of_reference c.itself-own.result c.all_keep.result c.and-in-Call.result i.0.items (args_of c.in-Call.arguments.items) (expr_of c.args.expr.now) (ap expr_of i.1 ∙ reference_is i.0 c.in-Call.arguments) own args both
+      | inl i ↦ of_call c.itself-in-Call.result c.all_keep.result c.and-in-Call.result i.0.items (args_of c.in-Call.arguments.items) (expr_of c.args.expr.now) (ap expr_of i.1 ∙ call_is i.0 c.in-Call.arguments) own args both
+      | inr i ↦ of_reference c.itself-in-Call.result c.all_keep.result c.and-in-Call.result i.0.items (args_of c.in-Call.arguments.items) (expr_of c.args.expr.now) (ap expr_of i.1 ∙ reference_is i.0 c.in-Call.arguments) own args both
     ]

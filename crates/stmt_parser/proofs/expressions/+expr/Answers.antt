@@ -8,9 +8,10 @@ use Rattle.model.specs.Deck.Tokens as m
 use Rattle.model.specs.Deck.TreeViews.{args_of}
 use Rattle.stmt_parser.specs.Views as view
 use Rattle.stmt_parser.specs.Views.{Reads, boxed_of}
-use Rattle.stmt_parser.proofs.Loops.{before, climb_fails, climb_start, graded_fails, graded_none, marks_end, marks_go, one_more, no_more, lefts_stop, lefts_go, lefts_end, graded_left, onto, rights_none, rights_stop, rights_go, rights_start, rights_end, stopped, went_on, prepend, several_go, several_end, several_start}
+use Rattle.stmt_parser.proofs.Loops.{ahead_misses, before, climb_fails, climb_start, graded_fails, graded_none, marks_end, marks_go, one_more, no_more, lefts_stop, lefts_go, lefts_end, lefts_miss, graded_left, onto, rights_none, rights_stop, rights_go, rights_start, rights_end, stopped, went_on, prepend, several_go, several_end, several_start}
 use Rattle.model.proofs.Decks.ArgumentLists.{call_is, reference_is}
 use Rattle.stmt_parser.proofs.expressions.+expr.Goals as goal
+use Rattle.stmt_parser.proofs.expressions.+expr.Goals.{climbed-then-ahead-below+in_ok-found-2, climbed-else-ahead-below}
 
 pub graded-returns-in-0 : goal.graded-returns-in-0
 graded-returns-in-0 t c =
@@ -37,7 +38,7 @@ climbed-returns-in_err-found t c =
     first_of (search rules, grind (arith, common_steps, two, fails))
 
 pub climbed-loop-below-init : goal.climbed-loop-below-init
-climbed-loop-below-init t c = climb_start (element c.args.depth) c.args.cursor.now ∙ c.in_ok-found.ensures
+climbed-loop-below-init t c = (climb_start (element c.args.depth) c.args.cursor.now ∙ c.in_ok-found.ensures, c.grade_ahead-ahead.ensures)
 
 climbing : (atom : _) (k : _) → 2 ≤ k → (ts : _) (e : _) (rest : _) → graded atom k ts ≡ Some (e, rest) → graded atom (k + 1) ts ≡ lefts (graded atom (k + 1 - 1)) (k + 1) (length rest) e rest
 climbing atom k h ts e rest found =
@@ -47,15 +48,32 @@ climbing atom k h ts e rest found =
 pub climbed-returns-in_err-found-2 : goal.climbed-returns-in_err-found-2
 climbed-returns-in_err-found-2 t c =
     let k = c.loop-below.below in
-    let at = climbing (element c.args.depth) k (omega (arith, c.loop-below.auto.below)) c.args.cursor.now (boxed_of c.loop-below.found) c.loop-below.cursor c.loop-below.invariant in
+    let at = climbing (element c.args.depth) k (omega (arith, c.loop-below.auto.below)) c.args.cursor.now (boxed_of c.loop-below.found) c.loop-below.cursor c.loop-below.invariant.0 in
     let up : (k + 1) + (c.args.grade - (k + 1)) ≡ c.args.grade = (let r = c.loop-below-test.true in omega (arith, r)) in
     let fails = subst (λ n. graded (element c.args.depth) (k + 1) c.args.cursor.now ≡ None → graded (element c.args.depth) n c.args.cursor.now ≡ None) up (climb_fails (element c.args.depth) (c.args.grade - (k + 1)) (k + 1) c.args.cursor.now (omega (arith, c.loop-below.auto.below))) in
     first_of (search rules, grind (arith, common_steps, at, fails))
 
 pub climbed-loop-below-preserved : goal.climbed-loop-below-preserved
 climbed-loop-below-preserved t c =
-    climbing (element c.args.depth) c.loop-below.below (omega (arith, c.loop-below.auto.below)) c.args.cursor.now (boxed_of c.loop-below.found) c.loop-below.cursor c.loop-below.invariant
-    ∙ c.in_ok-found-2.ensures
+    let atom = element c.args.depth in
+    let k = c.loop-below.below in
+    let rest = c.loop-below.cursor in
+    let e = boxed_of c.loop-below.found in
+    let at = climbing atom k (omega (arith, c.loop-below.auto.below)) c.args.cursor.now e rest c.loop-below.invariant.0 in
+    elim c.if-ahead-below.branch [
+      | climbed-then-ahead-below+in_ok-found-2 w ↦ rw (w.cursor-is, w.found-is, w.ahead-is) (at ∙ w.in_ok-found-2.ensures, w.grade_ahead-ahead-then-ahead-below.ensures)
+      | climbed-else-ahead-below w ↦
+          let misses = ahead_misses (k + 1) (spec.next rest) (λ same. w.if-ahead-below.false (c.loop-below.invariant.1 ∙ same)) in
+          rw (w.cursor-is, w.found-is, w.ahead-is) (at ∙ lefts_miss (graded atom (k + 1 - 1)) (k + 1) (length rest) e rest misses, c.loop-below.invariant.1)
+    ]
+
+pub assigned-returns-then-grade_ahead-ne1 : goal.assigned-returns-then-grade_ahead-ne1
+assigned-returns-then-grade_ahead-ne1 t c =
+    let atom = element c.args.depth in
+    let rest = c.marked.new.cursor in
+    let e = boxed_of c.in_ok-first.first in
+    graded_left atom 1 0 refl refl c.args.cursor.now e rest (graded_none atom c.args.cursor.now ∙ c.in_ok-first.ensures)
+    ∙ lefts_miss (graded atom 0) 1 (length rest) e rest (ahead_misses 1 (spec.next rest) (λ same. c.if-grade_ahead-ne1.true (c.grade_ahead.ensures ∙ same)))
 
 -- ---- marks of unary operators
 pub marked-loop-turn-preserved : goal.marked-loop-turn-preserved

@@ -1,8 +1,8 @@
 use Rattle.std.proofs.Common.{◌≡◌, ◌+◌, ◌-◌, ◌*◌, length, map}
 use Rattle.std.specs.Prelude.{Some}
-use Rattle.model.specs.Deck.Parse.{lefts, rights, graded, element, whole, several}
+use Rattle.model.specs.Deck.Parse.{next, lefts, rights, graded, element, whole, several}
 use Rattle.model.specs.Deck.TreeViews.{args_of}
-use Rattle.stmt_parser.specs.Views.{boxed_of}
+use Rattle.stmt_parser.specs.Views.{boxed_of, grade_ahead}
 use Rattle.stmt_parser.proofs.Loops.{before, prepend, onto}
 use Rattle.stmt_parser.proofs.expressions.+expr.Given as goal
 
@@ -40,7 +40,7 @@ abbrev pub decreases-one : goal.decreases-one
 decreases-one l = l.depth * 64 + 36
 
 abbrev pub invariant-climbed-loop-below : goal.invariant-climbed-loop-below
-invariant-climbed-loop-below l = graded (element l.depth) l.below l.fn.cursor ≡ Some (boxed_of l.found, l.cursor)
+invariant-climbed-loop-below l = (graded (element l.depth) l.below l.fn.cursor ≡ Some (boxed_of l.found, l.cursor)) × (l.ahead ≡ grade_ahead (next l.cursor))
 
 abbrev pub invariant-marked-loop-turn : goal.invariant-marked-loop-turn
 invariant-marked-loop-turn l = element l.depth l.fn.cursor ≡ before l.marks.items (element (l.depth - l.turn) l.cursor)

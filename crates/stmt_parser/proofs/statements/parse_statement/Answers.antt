@@ -8,7 +8,7 @@ use Rattle.stmt_parser.specs.Views.{Fails}
 use Rattle.stmt_parser.proofs.statements.parse_statement.Goals as goal
 
 pub returns-in-Ok-clause-tree : goal.returns-in-Ok-clause-tree
-returns-in-Ok-clause-tree c = stmt_sound (toks c.args.tokens.now) (stmt_of c.in-Ok.statement) c.in-Ok.ensures
+returns-in-Ok-clause-tree c = stmt_sound (toks c.args.tokens.now) (stmt_of c.in-Ok.statement.value) c.in-Ok.ensures
 
 pub returns-in-Err-NoTree-clause-cause : goal.returns-in-Err-NoTree-clause-cause
 returns-in-Err-NoTree-clause-cause c = inr (refl, no_tree (toks c.args.tokens.now) (subst (λ s. Fails s (stmt (toks c.args.tokens.now))) c.in-Err-NoTree.field-0-is c.in-Err-NoTree.ensures))
