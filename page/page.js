@@ -59,7 +59,7 @@ function paint() {
     const card = cards[line], count = heat?.get(line + 1), faulty = card?.faults.length > 0;
     const mark = make('div', { className: faulty ? 'bad' : '', style: at(line) });
     if (count !== undefined) mark.append(make('span', { className: 'count', textContent: number(count) }));
-    mark.append(String(line + 1));
+    mark.append(String(line + 1).padStart(String(lines).length));
     numbers.push(mark);
     if (count) rows.push(make('div', { style: `${at(line)};background:rgba(var(--heat),${(.06 + .44 * Math.log1p(count) / Math.log1p(most)).toFixed(2)})` }));
     if (faulty) {

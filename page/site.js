@@ -19,7 +19,20 @@ async function fresh() {
 
 function said(told, status) {
   if (status === 0) return 'ended normally';
+  if (status === 3) return 'refused';
   return told.trim().split('\n').join('; ') || `ended with status ${status}`;
+}
+
+// The messages of a refused deck, which its listing has, and that of an error: card, code, and what is shown of it.
+const faultsOf = (listing) => readListing(listing).cards.flatMap(({ card, faults }) => faults.map(({ cause, column, text }) => ({ card, code: cause.split(' ').pop(), text: `Card ${card}${column === undefined ? '' : `, column ${column + 1}`}, ${cause.replace(/^card \d+ /, '')}. ${text}` })));
+const errorOf = (told) => [...told.matchAll(/^error (E\d+) statement \d+ card (\d+)/gm)].map(([, code, card]) => ({ card, code }));
+
+// What of a run is as the page shows it.
+function sameAs({ prints, told }, text, messages) {
+  const same = [];
+  if (text === prints) same.push('prints');
+  if (told && told.join() === messages.map(({ card, code }) => `${card} ${code}`).join()) same.push('reports');
+  return same.length ? `, and ${same.join(' and ')} what the page says` : '';
 }
 
 async function run(box) {
@@ -30,10 +43,12 @@ async function run(box) {
   button.textContent = 'Stop';
   end.className = 'end'; end.textContent = 'running …';
   printed.textContent = ''; printed.hidden = false;
+  box.querySelector('.told').replaceChildren();
   try { if (!worker) await fresh(); } catch (error) { stop(String(error)); return; }
   if (busy !== box) return;
   const id = ++next, decoder = new TextDecoder(), others = new Map();
   let text = '', count = 0;
+  const whole = given.times ? `${deck.value}\n`.repeat(given.times) + 'END\n' : deck.value;
   const units = [{ unit: 5, typed: typed?.value ?? given.input, only: 1 }, { unit: 6, only: 2 }];
   worker.onmessage = ({ data }) => {
     if (data.id !== id) return;
@@ -45,11 +60,23 @@ async function run(box) {
     if (data.failed) stop(/memory|out of bounds/.test(data.failed) ? 'the browser gave no more memory' : data.failed);
     if (!data.done) return;
     const { status, told } = data.done;
-    const same = given.prints === null ? '' : text === given.prints ? ', and prints what the page says' : '';
-    show(said(told, status) + same + (count > text.length + 1000 ? `; ${count.toLocaleString('en')} bytes in all` : ''), status);
+    if (status === 3) { refused(box, whole, given); return; }
+    show(said(told, status) + sameAs(given, text, errorOf(told)) + (count > text.length + 1000 ? `; ${count.toLocaleString('en')} bytes in all` : ''), status);
   };
-  const whole = given.times ? `${deck.value}\n`.repeat(given.times) + 'END\n' : deck.value;
   worker.postMessage({ id, call: 'run', deck: whole, units, steps: given.steps });
+}
+
+// Lists a deck that was refused, for its messages.
+function refused(box, deck, given) {
+  const id = ++next;
+  worker.onmessage = ({ data }) => {
+    if (data.id !== id) return;
+    if (data.failed) { stop(data.failed); return; }
+    const messages = faultsOf(data.listing);
+    box.querySelector('.told').append(...messages.map(({ text }) => make('li', { textContent: text })));
+    show(said('', data.status) + sameAs(given, '', messages), data.status);
+  };
+  worker.postMessage({ id, call: 'list', deck, code: false, width: 132 });
 }
 
 function show(text, status) {
@@ -57,7 +84,7 @@ function show(text, status) {
   end.textContent = text;
   end.className = `end ${status ? 'bad' : 'good'}`;
   busy.dataset.status = status;
-  busy.querySelector('.printed').hidden = !busy.querySelector('.printed').textContent;
+  for (const name of ['.printed', '.told']) { const box = busy.querySelector(name); box.hidden = !box.textContent; }
   busy.querySelector('button').textContent = 'Run';
   busy = null;
 }
@@ -80,7 +107,7 @@ for (const box of document.querySelectorAll('.deck')) {
   box.onkeydown = (event) => { if (event.key === 'Enter' && (event.ctrlKey || event.metaKey)) { event.preventDefault(); run(box); } };
   // What is changed is no longer what the link holds.
   const link = box.querySelector('a');
-  for (const each of box.querySelectorAll('textarea')) each.oninput = () => { if (link) link.hidden = true; box.dataset.given = JSON.stringify({ ...JSON.parse(box.dataset.given), prints: null }); };
+  for (const each of box.querySelectorAll('textarea')) each.oninput = () => { if (link) link.hidden = true; box.dataset.given = JSON.stringify({ ...JSON.parse(box.dataset.given), prints: null, told: null }); };
 }
 
 // ---- the search: every word must stand in a section, and those in whose heading it stands come first

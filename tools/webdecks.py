@@ -5,7 +5,9 @@ import re
 import typing
 
 ROOT = pathlib.Path(__file__).resolve().parent.parent
-BLOCK = re.compile(r"^```(deck|input|prints)\n(.*?)^```$|^#+ ([^\n]*)$", re.S | re.M)
+BLOCK = re.compile(r"^```(deck|input|prints|told)\n(.*?)^```$|^#+ ([^\n]*)$", re.S | re.M)
+# A message of `snobol` about a deck: its card and its code.
+MESSAGE = re.compile(r"^deck\.sno:(\d+)(?::\d+)?: error ([A-Z]\d+)", re.M)
 INCLUDE = re.compile(r"^-INCLUDE '(.*)'$", re.M)
 SPAN = re.compile(r"(`+)(.+?)\1")
 STEPS = 1_000_000_000
@@ -14,13 +16,17 @@ HEADS = ("deck", "first card (then `END`)", "cards")
 
 
 class Deck(typing.NamedTuple):
-    """A deck with what it reads, and the bound on its steps."""
+    """A deck with what it reads, what is shown of its run, and the bound on its steps.
+
+    Of a faulty deck, and of a run that ends by an error, `told` is the messages, each as its card and its code.
+    """
 
     name: str
     deck: str
     input: str = ""
     prints: str | None = None
     steps: int = STEPS
+    told: tuple[str, ...] | None = None
 
 
 def of_examples():
@@ -36,7 +42,7 @@ def included(deck):
 
 
 def of_blocks(text):
-    """The decks between fences, each with the heading over it, and with the input and the records that follow."""
+    """The decks between fences, each with the heading over it, and with the input, records and messages that follow."""
     found, part = [], ""
     for kind, block, head in BLOCK.findall(text):
         if head:
@@ -45,8 +51,10 @@ def of_blocks(text):
             found.append(Deck(part, included(block)))
         elif kind == "input":
             found[-1] = found[-1]._replace(input=block)
-        else:
+        elif kind == "prints":
             found[-1] = found[-1]._replace(prints=block)
+        else:
+            found[-1] = found[-1]._replace(told=tuple(f"{card} {code}" for card, code in MESSAGE.findall(block)))
     return found
 
 

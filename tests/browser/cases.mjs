@@ -54,3 +54,6 @@ export function afterwards({ out, files }) {
   if (!files.some(({ unit }) => unit === 6)) after.set(6, out);
   return after;
 }
+
+// What the page says of a refused deck's first faults.
+export const linesOf = ({ status, told }) => status === 3 ? String(told).trim().split('\n').slice(0, 50).map((line) => line.replace(/^card (\d+) /, 'Card $1, ')) : [];

@@ -1,7 +1,7 @@
 // Decks on the page itself, as a reader runs them: each is opened by a link, run by the button, and what stands on the page
 // is compared with what must come of it.
 import zlib from 'zlib';
-import { afterwards, ofFile, ofFolder, unitsOf } from './cases.mjs';
+import { afterwards, linesOf, ofFile, ofFolder, unitsOf } from './cases.mjs';
 
 // So much of a unit the page shows whole.
 const SHOWN = 200000;
@@ -48,9 +48,6 @@ function said(told) {
   if (line === 'steps used up') return 'The steps are used up.';
   return line ? line : 'Ended normally.';
 }
-
-// What the page says of a refused deck's first faults.
-const linesOf = ({ status, told }) => status === 3 ? String(told).trim().split('\n').slice(0, 50).map((line) => line.replace(/^card (\d+) /, 'Card $1, ')) : [];
 
 function differs(given, { failed, status, same, end, faults, units }) {
   if (failed) return failed;

@@ -10,7 +10,7 @@ import { useSite } from './site.mjs';
 const [name, program, page, site, folder, cases, shots] = process.argv.slice(2);
 const { open } = await import(`./${name}.mjs`);
 const b = await open(program), t = hands(b, name, shots);
-await usePage(t, page);
+await usePage(t, page, cases);
 await byKeys(t, page);
 await endless(t, page);
 await looks(t, page);

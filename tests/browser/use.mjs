@@ -1,4 +1,5 @@
 // The page, used as a reader uses it.
+import { linesOf, ofFile } from './cases.mjs';
 import { sleep } from './protocol.mjs';
 
 const COUNTS = "* Counts.\nNEXT N = N + 1\n OUTPUT = N\n LT(N,5) :S(NEXT)\nEND\n";
@@ -12,10 +13,10 @@ async function begin({ b, open, settled }, page, [width, height, mobile] = [1300
   await settled();
 }
 
-export async function usePage(t, page) {
+export async function usePage(t, page, cases) {
   await begin(t, page);
   await theFirst(t);
-  await choices(t);
+  await choices(t, cases);
   await faults(t);
   await units(t);
   await profile(t);
@@ -30,15 +31,20 @@ async function theFirst({ check, until, text, shot }) {
   await shot('first');
 }
 
-async function choices({ b, check, click, ended, text, shot }) {
+// Each deck that is offered runs, or is refused as `sno` refuses it.
+async function choices({ b, check, click, ended, text, shot, until }, cases) {
+  const known = new Map([...ofFile(cases)].map((each) => [String(each.deck), each]));
   const all = await b.value("[...document.querySelectorAll('.choice')].map((each) => each.textContent)");
   check('there are the decks of examples, tutorial and porting', all.length >= 30, all.length);
   await click('#decks');
   await shot('decks');
   for (let n = 0; n < all.length; n++) {
     await b.value(`(document.querySelectorAll('.choice button')[${n}].click(), true)`);
-    const is = await ended();
-    check(`${all[n]} runs`, is && /Ended/.test(await text('end')), await text('end'));
+    const is = await ended(), deck = known.get(await b.value("document.getElementById('deck').value"));
+    if (deck?.status === 3) {
+      check(`${all[n]} is refused`, is && (await text('end')).startsWith('The deck is refused.') && await text('printed') === '', await text('end'));
+      for (const line of linesOf(deck)) check(`with its fault ${line}`, await until(`document.getElementById('faults').textContent.includes(${JSON.stringify(line)})`), await text('faults'));
+    } else check(`${all[n]} runs`, is && deck && /^Ended/.test(await text('end')), await text('end'));
     await click('#decks');
   }
   await b.value("(document.getElementById('chooser').close(), true)");

@@ -1,4 +1,4 @@
-//! Units that the page gives a run, and whose records it hears of and nobody keeps.
+//! Units that the page gives a run. It hears of what is written to them, and nothing keeps it.
 
 ghost use Rattle.std.specs.Prelude.{◌≡◌, ◌≤◌, ℕ};
 ghost use Rattle.model.specs.Language.Units.{IsCounted};
@@ -14,7 +14,7 @@ use unit_io::{MemUnits, Units};
 /// A unit, and the part of what was typed that has its records.
 #[repr(C)]
 #[derive(Drop)]
-pub struct Given {
+pub struct GivenUnit {
     pub unit: u64,
     /// Where its bytes begin.
     pub start: u64,
@@ -67,7 +67,7 @@ impl OpenUnit {
     }
 }
 
-/// They don't tell their records: what is written goes to the page and is not kept.
+/// The units of a run. They expose no records: what is written goes to the page and is not kept.
 #[derive(Drop)]
 pub(crate) struct GivenUnits {
     opened: Vec<OpenUnit>,
@@ -88,7 +88,7 @@ impl GivenUnits {
     pub(crate) fn new(
         alloc: Global,
         typed: &[u8],
-        given: &[Given],
+        given: &[GivenUnit],
     ) -> Result<GivenUnits, UnitFault> {
         let mut opened = Vec::new(alloc);
         for each in given {

@@ -1,12 +1,12 @@
 //! What the page in a browser calls: a deck is run on records that are given, or listed.
 //!
-//! The page hands over memory for what is printed and told, and gets as much as fits, with the whole lengths in a
-//! `Shown`. Nothing is kept from one call to the next.
+//! The page hands over memory for what is printed and for messages, and gets as much as fits, with the whole lengths in
+//! a `Shown`. Nothing is kept from one call to the next.
 //!
 //!     page_run(alloc, b" OUTPUT = INPUT\nEND\n", b"HI\n", 1_000, &mut printed, &mut told, &mut shown);
 //!
 //! Promised, of `page_run`: what is printed is what the deck means on the records, or a prefix of that, and a status of
-//! 0 says that the run ended normally. Listings, lines that are told and other statuses are tested, and so is each call
+//! 0 says that the run ended normally. Listings, messages and other statuses are tested, and so is each call
 //! from the page's side.
 #![tactic(auto)]
 
@@ -24,13 +24,13 @@ use crate::pieces::{Pieces, run_in_pieces};
 use crate::putting::put;
 use crate::running::{exit_status, run};
 use driver::{Refusal, Told, report};
-pub use given::Given;
+pub use given::GivenUnit;
 pub use hooks::{page_went, page_wrote};
 use listing::{Style, list};
 use model::Status;
 use std::alloc::Global;
 
-/// The status where nothing can be told.
+/// The status where nothing can be reported.
 const NOTHING_TOLD: u8 = 6;
 
 /// How a call came out.
@@ -41,7 +41,7 @@ pub struct Shown {
     pub status: u64,
     /// How many bytes there are to show, which may be more than fitted.
     pub printed: u64,
-    /// How many bytes there are to tell.
+    /// How many bytes of messages there are.
     pub told: u64,
 }
 
@@ -92,7 +92,7 @@ pub extern "C" fn page_watch(
     alloc: Global,
     deck: &[u8],
     typed: &[u8],
-    given: &[Given],
+    given: &[GivenUnit],
     steps: u64,
     first: u64,
     further: u64,

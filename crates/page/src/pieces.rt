@@ -31,7 +31,7 @@ pub(crate) struct Outcome {
     pub(crate) made: u64,
 }
 
-// The number of a statement that a status tells of.
+// The number of the statement that a status names.
 fn statement_of(status: Status) -> Option<u32> {
     match status {
         Status::Ended(Ending::Error { statement, .. }) => u32::try_from(statement).ok(),

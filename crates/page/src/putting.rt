@@ -2,7 +2,7 @@
 
 ghost use Rattle.std.specs.Prelude.{◌≡◌, length, take};
 
-/// Puts as many of the bytes as fit at the front, and tells how many there are.
+/// Puts as many of the bytes as fit at the front, and returns how many there are.
 pub(crate) fn put(bytes: &[u8], to: &mut [u8]) -> u64
     ensures whole { result ≡ length bytes.now }
     ensures front { take (length bytes.now) to.new ≡ take (length to.old) bytes.now }
