@@ -10,13 +10,13 @@ use world::World;
 
 /// What is reported of a run, of each kind as it is wanted.
 #[derive(Drop)]
-pub struct Reports<'a, W: Write> {
-    pub trace: Option<Trace<'a, W>>,
+pub struct Reports<'a, 's, 'o, W: Write> {
+    pub trace: Option<Trace<'a, 's, 'o, W>>,
     pub profile: Option<Profile>,
     pub dump: Option<Dump>,
 }
 
-impl<W: Write> Watch for Reports<'_, W> {
+impl<W: Write> Watch for Reports<'_, '_, '_, W> {
     #[inline(always)]
     fn begins(&mut self, statement: u32, clock: Clock, world: &World) {
         if let Some(profile) = &mut self.profile {
@@ -28,7 +28,7 @@ impl<W: Write> Watch for Reports<'_, W> {
     }
 }
 
-impl<W: Write> WatchRun for Reports<'_, W> {
+impl<W: Write> WatchRun for Reports<'_, '_, '_, W> {
     fn calls(&mut self, function: &Text, steps: u64, world: &World) {
         if let Some(profile) = &mut self.profile {
             profile.calls(function, steps, world);

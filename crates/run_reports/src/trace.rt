@@ -9,16 +9,20 @@ use world::World;
 
 /// Writes a line for each statement that begins: file, card, number, level and text.
 #[derive(Drop)]
-pub struct Trace<'a, W: Write> {
-    statements: &'a Statements<'a>,
-    out: &'a mut W,
+pub struct Trace<'a, 's, 'o, W: Write> {
+    statements: &'a Statements<'s>,
+    out: &'o mut W,
     line: String,
     fault: Option<io::Error>,
 }
 
-impl<'a, W: Write> Trace<'a, W> {
+impl<'a, 's, 'o, W: Write> Trace<'a, 's, 'o, W> {
     /// A trace that is written there.
-    pub fn new(alloc: Global, statements: &'a Statements<'a>, out: &'a mut W) -> Trace<'a, W> {
+    pub fn new(
+        alloc: Global,
+        statements: &'a Statements<'s>,
+        out: &'o mut W,
+    ) -> Trace<'a, 's, 'o, W> {
         Trace {
             statements,
             out,
@@ -45,7 +49,7 @@ impl<'a, W: Write> Trace<'a, W> {
     }
 }
 
-impl<W: Write> Watch for Trace<'_, W> {
+impl<W: Write> Watch for Trace<'_, '_, '_, W> {
     fn begins(&mut self, statement: u32, _clock: Clock, world: &World) {
         if self.fault.is_some() {
             return;
@@ -56,7 +60,7 @@ impl<W: Write> Watch for Trace<'_, W> {
     }
 }
 
-impl<W: Write> WatchRun for Trace<'_, W> {
+impl<W: Write> WatchRun for Trace<'_, '_, '_, W> {
     fn calls(&mut self, _function: &Text, _steps: u64, _world: &World) {}
 
     fn may_return(&mut self, _steps: u64, _world: &World) {}

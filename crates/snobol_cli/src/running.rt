@@ -51,12 +51,12 @@ fn reason_of<R: Files>(rt: &R, ran: Ran, files: &[UnitFile<'_>]) -> Option<io::E
 }
 
 // Compiles a deck and runs its module, and nothing is seen of it.
-fn run_unwatched<R: AllocGlobal, U: Units>(
+fn run_unwatched<'a, R: AllocGlobal, U: Units>(
     rt: &R,
     sources: &Sources<'_>,
     units: &mut U,
     steps: u64,
-) -> Result<Watched<'static>, Outcome<'static>> {
+) -> Result<Watched<'a>, Outcome<'a>> {
     match run_deck(rt.alloc(), sources.bytes(), units, steps) {
         Ok(ran) => Ok(Watched::unseen(ran)),
         Err(refusal) => Err(Outcome::from(Told::Refused(refusal))),

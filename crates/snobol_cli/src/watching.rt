@@ -1,7 +1,7 @@
 //! Runs with a trace, a profile or a dump.
 
 use crate::files::{Outcome, not_written, write_file};
-use driver::{Ran, Told, watch_deck};
+use driver::{Ran, Refusal, Told, watch_deck};
 use messages::Sources;
 use run_reports::{Dump, Profile, Reports, Statements, Trace, put_profile};
 use snobol_words::ReportFiles;
@@ -111,7 +111,7 @@ fn lines_of(
 // What was seen, or why it can't be told.
 fn seen_of<'a, W: Write>(
     alloc: Global,
-    reports: Reports<'_, W>,
+    reports: Reports<'_, '_, '_, W>,
     statements: &Statements<'_>,
     trace_file: &'a str,
 ) -> Result<Seen, Outcome<'a>> {
@@ -131,6 +131,66 @@ fn seen_of<'a, W: Write>(
     }
 }
 
+// A trace that is written there, if it is wanted.
+fn trace_of<'a, 's, 'o, W: Write>(
+    alloc: Global,
+    is_wanted: bool,
+    statements: &'a Statements<'s>,
+    out: &'o mut W,
+) -> Option<Trace<'a, 's, 'o, W>> {
+    if !is_wanted {
+        return None;
+    }
+    Some(Trace::new(alloc, statements, out))
+}
+
+// What is reported of a run, as it is wanted; the trace is written there.
+fn reports_of<'a, 's, 'o, W: Write>(
+    alloc: Global,
+    files: ReportFiles<'_>,
+    statements: &'a Statements<'s>,
+    out: &'o mut W,
+) -> Reports<'a, 's, 'o, W> {
+    Reports {
+        trace: trace_of(alloc, files.trace.is_some(), statements, out),
+        profile: files.profile.is_some().then_some(Profile::new(alloc)),
+        dump: files.dump.is_some().then_some(Dump::new(alloc)),
+    }
+}
+
+// Compiles a deck and runs its module, of which the reports hear, which are given back.
+fn run_reported<'a, 's, 'o, U: Units, W: Write>(
+    alloc: Global,
+    deck: &[u8],
+    units: &mut U,
+    steps: u64,
+    reports: Reports<'a, 's, 'o, W>,
+) -> (Result<Ran, Refusal>, Reports<'a, 's, 'o, W>) {
+    let mut reports = reports;
+    let ran = watch_deck(alloc, deck, units, steps, &mut reports);
+    (ran, reports)
+}
+
+// Compiles a deck and runs its module, with what is wanted of it; the trace is written there.
+fn run_traced<'a, U: Units, W: Write>(
+    alloc: Global,
+    sources: &Sources<'_>,
+    statements: &Statements<'_>,
+    files: ReportFiles<'a>,
+    units: &mut U,
+    steps: u64,
+    out: &mut W,
+) -> Result<Watched<'a>, Outcome<'a>> {
+    let file = files.trace.unwrap_or(STANDARD_ERROR);
+    let reports = reports_of(alloc, files, statements, out);
+    let (ran, reports) = run_reported(alloc, sources.bytes(), units, steps, reports);
+    let seen = seen_of(alloc, reports, statements, file);
+    match ran {
+        Ok(ran) => Ok(Watched { ran, seen }),
+        Err(refusal) => Err(Outcome::from(Told::Refused(refusal))),
+    }
+}
+
 /// Compiles a deck and runs its module as `run_deck` does, with a trace, a profile or a dump, as they are wanted.
 pub(crate) fn run_watched<'a, R: Files + AllocGlobal, U: Units, W: Write>(
     rt: &R,
@@ -141,26 +201,21 @@ pub(crate) fn run_watched<'a, R: Files + AllocGlobal, U: Units, W: Write>(
     errors: &mut W,
 ) -> Result<Watched<'a>, Outcome<'a>> {
     let alloc = rt.alloc();
-    let statements = Statements::of(alloc, sources);
+    let statements = Statements::of(alloc, &*sources);
     let file = files.trace.unwrap_or(STANDARD_ERROR);
     let mut out = match trace_out(rt, file, errors) {
         Ok(out) => out,
         Err(error) => return Err(not_written(error, file)),
     };
-    let trace = match files.trace {
-        Some(_) => Some(Trace::new(alloc, &statements, &mut out)),
-        None => None,
-    };
-    let mut reports = Reports {
-        trace,
-        profile: files.profile.is_some().then_some(Profile::new(alloc)),
-        dump: files.dump.is_some().then_some(Dump::new(alloc)),
-    };
-    let ran = match watch_deck(alloc, sources.bytes(), units, steps, &mut reports) {
-        Ok(ran) => ran,
-        Err(refusal) => return Err(Outcome::from(Told::Refused(refusal))),
-    };
-    let seen = seen_of(alloc, reports, &statements, file);
+    let Watched { ran, seen } = run_traced(
+        alloc,
+        sources,
+        &statements,
+        files,
+        units,
+        steps,
+        &mut out,
+    )?;
     let seen = match out.flush() {
         Ok(()) => seen,
         Err(error) => Err(not_written(error, file)),
