@@ -130,7 +130,7 @@ def figure_checks():
     for told, measured in (
         (r"takes ([\d.]+) of the time of Icon", r"geometric mean of the ratio to Icon, .*: ([\d.]+)$"),
         (r"and ([\d.]+) of that of the fastest", r"geometric mean of the ratio to the fastest, .*: ([\d.]+)$"),
-        (r"it takes ([\d.]+) times as long as Lua", r"^\| 60 drawn loops .*?\|.*?\| ([\d.]+);"),
+        (r"it\s+takes ([\d.]+) times as long as Lua", r"^\| 200 drawn loops .*?\|.*?\| ([\d.]+)[,;]"),
     ):
         one, two = re.search(told, readme), re.search(measured, text, re.MULTILINE)
         yield "README.md", f"a figure of docs/performance.md: {one and one[0]}", one and two and one[1] == two[1]
