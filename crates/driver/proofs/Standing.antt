@@ -12,7 +12,7 @@ use Rattle.model.specs.Module.Images.{module_of}
 use Rattle.model.proofs.Machine.LongerRuns.{run_prints_on}
 use Rattle.statement_machine.specs.Runs.{IsStoppedRun}
 use Rattle.statement_machine.specs.Stopped.{IfStop}
-use Rattle.statement_machine.proofs.Telling.{told_on}
+use Rattle.unit_io.proofs.Serving.{told_on}
 use Rattle.driver.specs.Whole.{StandsWithin}
 
 -- of two beginnings of one list one is a beginning of the other

@@ -22,7 +22,7 @@ use Rattle.statement_machine.specs.Stopped.{IfRan, IfStop, ending_of, stop_of_ru
 use Rattle.driver.specs.Cards.{card_told}
 use Rattle.driver.specs.Compiled.{IsModuleOf}
 use Rattle.statement_machine.proofs.Seeing.{if_ran}
-use Rattle.statement_machine.proofs.Telling.{told_on}
+use Rattle.unit_io.proofs.Serving.{told_on}
 use Rattle.driver.specs.Whole.{HasPrinted, HasReached, IsMeant, IsModuleRun, IsRunOf, IsSeenOf, OfRun, RefinesMeaning, StandsWithin}
 
 read : (deck bytes : List ℕ) (m : IsModuleOf deck bytes) → reading.read_image bytes ≡ Ok m.image

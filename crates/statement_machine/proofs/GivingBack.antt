@@ -13,15 +13,15 @@ use Rattle.model.proofs.Machine.Collecting.{operands_on, steps_collected, value_
 use Rattle.model.proofs.Machine.StepsLiving.{seen_alike}
 use Rattle.segments.proofs.Leading.{steps_rest}
 use Rattle.statement_machine.proofs.Running.{some_made}
-use Rattle.statement_machine.proofs.Telling.{told_then}
-use Rattle.statement_machine.specs.Held.{handlers_in, state_of, waiting}
+use Rattle.unit_io.proofs.Serving.{told_then}
+use Rattle.instruction_steps.specs.Held.{handlers_in, state_of, waiting}
 use Rattle.statement_machine.specs.Runs.{LacksNothing, TaskStands, left_at, run_of, state_at}
 use Rattle.statement_machine.specs.Collecting.{IsInCalls, IsSameRun, StateLives}
 use Rattle.statement_machine.specs.declared.collecting.Pace.{Pace}
 use Rattle.statement_machine.specs.declared.run.Run.{Run}
 use Rattle.statement_machine.specs.declared.run.Task.{Task}
 use Rattle.statement_machine.specs.declared.run.Task.TheVariants as task
-use Rattle.statement_machine.specs.declared.state.State.{State}
+use Rattle.instruction_steps.specs.declared.state.State.{State}
 use Rattle.aggregates.specs.Marked.{HasMarked, MarksView, marks_in}
 use Rattle.frames.proofs.Reaching.{all_front, frames_live, top_lives, under_lives}
 use Rattle.frames.specs.Frames.{IsCall}

@@ -11,7 +11,7 @@ use Rattle.world.specs.Values.{value_of}
 use Rattle.statement_machine.specs.Runs.{run_of}
 use Rattle.statement_machine.specs.declared.run.Run.{Run}
 use Rattle.statement_machine.specs.declared.run.Task.TheVariants as task
-use Rattle.statement_machine.specs.declared.state.State.{State}
+use Rattle.instruction_steps.specs.declared.state.State.{State}
 
 -- what a state outside of matches holds is marked
 pub record StateLives (s : State) (m : MarksView) : Type 0 where

@@ -1,13 +1,6 @@
-pub mod Evaluating
 pub mod Asking
-pub mod Runnable
-pub mod Held
 pub mod Runs
 pub mod Collecting
 pub mod Stopped
-pub mod Calling
-pub mod Resuming
 pub use Rattle.world.specs.Answers
-pub mod Elements
-pub mod Joined
 pub mod Views

@@ -6,9 +6,9 @@ ghost use Rattle.statement_machine.specs.Collecting.{IsInCalls, IsSameRun, State
 ghost use Rattle.world.specs.Marking.{without_unmarked};
 
 use crate::run::{Run, Task};
-use crate::state::State;
 use aggregates::Marks;
 use frames::{are_calls, mark_operands};
+use instruction_steps::State;
 use std::alloc::AllocError;
 use world::{World, mark_values};
 
@@ -71,20 +71,18 @@ fn marked_size(world: &World, marks: &Marks) -> usize {
     size
 }
 
-impl State {
-    // The marks of the objects that it reaches, if there is room for marks.
-    fn reached(&self) -> Result<Option<Marks>, AllocError>
-        ensures { IfOk result (λ found. IfSome found (λ marks. StateLives self.now marks)) }
-    {
-        let mut marks = self.world.no_marks(self.alloc)?;
-        self.world.mark_variables(&mut marks)?;
-        mark_operands(&self.operands, &mut marks)?;
-        mark_values(self.saved.as_slice(), &mut marks)?;
-        if self.world.mark_reached(&mut marks)? {
-            Ok(Some(marks))
-        } else {
-            Ok(None)
-        }
+// The marks of the objects that a state reaches, if there is room for marks.
+fn reached(state: &State) -> Result<Option<Marks>, AllocError>
+    ensures { IfOk result (λ found. IfSome found (λ marks. StateLives state.now marks)) }
+{
+    let mut marks = state.world.no_marks(state.alloc)?;
+    state.world.mark_variables(&mut marks)?;
+    mark_operands(&state.operands, &mut marks)?;
+    mark_values(state.saved.as_slice(), &mut marks)?;
+    if state.world.mark_reached(&mut marks)? {
+        Ok(Some(marks))
+    } else {
+        Ok(None)
     }
 }
 
@@ -110,7 +108,7 @@ impl Run {
         if !self.is_in_calls() {
             return;
         }
-        let Ok(Some(marks)) = self.state.reached() else {
+        let Ok(Some(marks)) = reached(&self.state) else {
             return;
         };
         self.state.world.drop_unmarked(self.state.alloc, &marks);

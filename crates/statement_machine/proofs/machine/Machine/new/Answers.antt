@@ -2,11 +2,12 @@ use Rattle.std.proofs.Common.{ap, ◌∙◌}
 use Rattle.model.specs.Laws.Agreement.{first_m}
 use Rattle.model.specs.Laws.PrintedBefore.{after_w}
 use Rattle.loader.specs.Places.{offset_at}
-use Rattle.statement_machine.proofs.Flowing.{statement_begins, statement_stands}
+use Rattle.instruction_steps.proofs.Flowing.{statement_begins}
+use Rattle.statement_machine.proofs.Flowing.{statement_stands}
 use Rattle.statement_machine.proofs.GivingBack.{collected_same}
 use Rattle.statement_machine.proofs.Running.{begun_is}
-use Rattle.statement_machine.proofs.WellFormed.{runnable}
-use Rattle.statement_machine.specs.declared.state.State.{State}
+use Rattle.joined_steps.proofs.WellFormed.{runnable}
+use Rattle.instruction_steps.specs.declared.state.State.{State}
 use Rattle.statement_machine.proofs.machine.Machine.new.Goals as goal
 
 pub invariant_of-result : goal.invariant_of-result

@@ -5,13 +5,13 @@ use Rattle.world.specs.declared.functions.Function.TheVariants as function
 use Rattle.world.specs.declared.fault.Fault.TheVariants.{Error}
 use Rattle.model.specs.declared.run.ErrorCode.TheVariants.{UndefinedFunction}
 use Rattle.statement_machine.specs.Runs.{Leaves}
-use Rattle.statement_machine.specs.declared.status.Exit.TheVariants as exit
+use Rattle.instruction_steps.specs.declared.status.Exit.TheVariants as exit
 use Rattle.statement_machine.proofs.Calling.{defined_as, found_as}
 use Rattle.statement_machine.proofs.Matching.{left_leaves}
-use Rattle.statement_machine.proofs.Stopping.{served_alone}
+use Rattle.instruction_steps.proofs.Stopping.{served_alone}
 use Rattle.world.proofs.Asked.{takes_on}
-use Rattle.statement_machine.specs.Stopped.{halted_by}
-use Rattle.statement_machine.specs.Asking.{io_at}
+use Rattle.instruction_steps.specs.Stopped.{halted_by}
+use Rattle.instruction_steps.specs.Asking.{io_at}
 use Rattle.statement_machine.proofs.run.Run.call_function.Goals as goal
 
 pub returns-in-Some-Defined-clause-served : goal.returns-in-Some-Defined-clause-served

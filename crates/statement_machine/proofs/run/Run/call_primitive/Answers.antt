@@ -1,7 +1,7 @@
 use Rattle.std.proofs.Common.{ap, sym, subst, Err}
 use Rattle.unit_io.proofs.Serving.{served_on}
-use Rattle.statement_machine.specs.declared.status.Exit.TheVariants as exit
-use Rattle.statement_machine.proofs.Stopping.{served_alone}
+use Rattle.instruction_steps.specs.declared.status.Exit.TheVariants as exit
+use Rattle.instruction_steps.proofs.Stopping.{served_alone}
 use Rattle.statement_machine.proofs.Matching.{code_stands, left_leaves}
 use Rattle.statement_machine.specs.Runs.{Leaves}
 use Rattle.model.specs.Language.Primitives.{prim_op}
@@ -10,16 +10,16 @@ use Rattle.model.proofs.Machine.Standing.{fail_stands}
 use Rattle.frames.specs.View.{operands_of}
 use Rattle.primitives.specs.declared.outcome.Outcome.TheVariants as outcome
 use Rattle.world.specs.Held.{world_of}
-use Rattle.statement_machine.specs.Calling.{arguments_in}
-use Rattle.statement_machine.specs.Held.{handlers_in, waiting}
+use Rattle.instruction_steps.specs.Calling.{arguments_in}
+use Rattle.instruction_steps.specs.Held.{handlers_in, waiting}
 use Rattle.statement_machine.proofs.Calling.{came_bad, came_by}
-use Rattle.statement_machine.proofs.Flowing.{seen}
-use Rattle.statement_machine.proofs.Keys.{halts}
-use Rattle.statement_machine.proofs.Telling.{no_records}
+use Rattle.instruction_steps.proofs.Flowing.{seen}
+use Rattle.instruction_steps.proofs.Keys.{halts}
+use Rattle.instruction_steps.proofs.Telling.{no_records}
 use Rattle.world.proofs.Asked.{takes_on}
-use Rattle.statement_machine.proofs.Asked.{no_unit}
-use Rattle.statement_machine.specs.Stopped.{halted_by}
-use Rattle.statement_machine.specs.Asking.{io_at}
+use Rattle.instruction_steps.proofs.Asked.{no_unit}
+use Rattle.instruction_steps.specs.Stopped.{halted_by}
+use Rattle.instruction_steps.specs.Asking.{io_at}
 use Rattle.statement_machine.proofs.run.Run.call_primitive.Goals as goal
 
 pub returns-in-Ok-Value-clause-served : goal.returns-in-Ok-Value-clause-served

@@ -6,13 +6,13 @@ use Rattle.model.specs.declared.instr.Instr.TheVariants as op
 use Rattle.model.proofs.Machine.Standing as laws
 use Rattle.frames.specs.View.{operands_of}
 use Rattle.loader.specs.Places.{offset_at}
-use Rattle.statement_machine.specs.Held.{after, handlers_in, waiting}
-use Rattle.statement_machine.proofs.Flowing.{above, asks, label_needs}
+use Rattle.instruction_steps.specs.Held.{after, handlers_in, waiting}
+use Rattle.instruction_steps.proofs.Flowing.{above, asks, label_needs}
 use Rattle.statement_machine.proofs.Matching.{code_now, fits, goto_now}
 use Rattle.unit_io.proofs.Serving.{served_on}
 use Rattle.world.proofs.Asked.{takes_on}
-use Rattle.statement_machine.specs.Stopped.{halted_by}
-use Rattle.statement_machine.specs.Asking.{io_at}
+use Rattle.instruction_steps.specs.Stopped.{halted_by}
+use Rattle.instruction_steps.specs.Asking.{io_at}
 use Rattle.statement_machine.proofs.run.Run.execute_call.Goals as goal
 
 pub go_to_value-requires-clause-operands : goal.go_to_value-requires-clause-operands

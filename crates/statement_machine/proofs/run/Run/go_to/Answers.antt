@@ -1,17 +1,17 @@
 use Rattle.std.proofs.Common.{ap, sym, subst, Ok}
 use Rattle.unit_io.proofs.Serving.{served_on}
-use Rattle.statement_machine.proofs.Stopping.{served_alone}
+use Rattle.instruction_steps.proofs.Stopping.{served_alone}
 use Rattle.statement_machine.proofs.Matching.{left_leaves, run_seen}
 use Rattle.statement_machine.specs.Runs.{Leaves}
 use Rattle.model.specs.Language.Conversions.{Got}
 use Rattle.model.proofs.Machine.Standing as laws
 use Rattle.world.specs.Held.{world_of}
-use Rattle.statement_machine.specs.Held.{waiting}
+use Rattle.instruction_steps.specs.Held.{waiting}
 use Rattle.statement_machine.proofs.Calling.{returned, went}
-use Rattle.statement_machine.proofs.Telling.{no_records}
+use Rattle.instruction_steps.proofs.Telling.{no_records}
 use Rattle.world.proofs.Asked.{takes_on}
-use Rattle.statement_machine.specs.Stopped.{halted_by}
-use Rattle.statement_machine.specs.Asking.{io_at}
+use Rattle.instruction_steps.specs.Stopped.{halted_by}
+use Rattle.instruction_steps.specs.Asking.{io_at}
 use Rattle.statement_machine.proofs.run.Run.go_to.Goals as goal
 
 pub returns-in-None-clause-served : goal.returns-in-None-clause-served

@@ -1,14 +1,15 @@
 use Rattle.std.proofs.Common.{ap, sym, subst}
 use Rattle.unit_io.proofs.Serving.{served_on}
 use Rattle.statement_machine.specs.Runs.{Leaves}
-use Rattle.statement_machine.proofs.Calling.{caller_stands, primitive_is}
+use Rattle.instruction_steps.proofs.Calling.{caller_stands}
+use Rattle.statement_machine.proofs.Calling.{primitive_is}
 use Rattle.statement_machine.proofs.Matching.{code_stands, left_leaves}
-use Rattle.statement_machine.proofs.Stopping.{served_alone}
+use Rattle.instruction_steps.proofs.Stopping.{served_alone}
 use Rattle.statement_machine.proofs.Tests.{as_call, as_primitive}
 use Rattle.world.proofs.Asked.{takes_on}
-use Rattle.statement_machine.proofs.Asked.{no_unit}
-use Rattle.statement_machine.specs.Stopped.{halted_by}
-use Rattle.statement_machine.specs.Asking.{io_at}
+use Rattle.instruction_steps.proofs.Asked.{no_unit}
+use Rattle.instruction_steps.specs.Stopped.{halted_by}
+use Rattle.instruction_steps.specs.Asking.{io_at}
 use Rattle.statement_machine.proofs.run.Run.primitive.Goals as goal
 
 pub returns-clause-served : goal.returns-clause-served

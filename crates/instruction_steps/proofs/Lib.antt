@@ -1,0 +1,16 @@
+pub mod Asked
+pub mod Beginning
+pub mod Called
+pub mod Calling
+pub mod Fetching
+pub mod Flowing
+pub mod Going
+pub mod Keys
+pub mod Named
+pub mod Operations
+pub mod Parts
+pub mod Printing
+pub mod Stopping
+pub mod Telling
+pub mod Tests
+pub mod Matching

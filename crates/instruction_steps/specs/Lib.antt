@@ -1,0 +1,9 @@
+pub mod Asking
+pub mod Runnable
+pub mod Held
+pub mod Stopped
+pub mod Calling
+pub mod Resuming
+pub mod Elements
+pub mod Matches
+pub mod Printing
