@@ -2,6 +2,7 @@
 
 ghost use Rattle.std.specs.Prelude.{◌≡◌, ◌<◌, ◌^◌, ℕ, length, None, Some, IfOk, OnOk};
 ghost use Rattle.model.specs.Module.Spelling.{IsImage};
+ghost use Rattle.module_format.specs.Views.{listed_left};
 ghost use Rattle.model.specs.Module.Flow.{BreaksFlow, IsLeast};
 ghost use Rattle.flow_check.specs.Marks.{marked, met, seeded, Followed, Stepped};
 ghost use Rattle.flow_check.specs.declared.marks.Mark.TheVariants.{One};
@@ -18,7 +19,7 @@ use crate::pool::Pool;
 use crate::rules::{Leaves, Rule, Takes, rule_for};
 use crate::shapes::{Mode, Shape};
 use model::Instr;
-use module_format::ImageView;
+use module_format::{ImageView, Listed};
 use std::alloc::{AllocError, Global};
 
 /// Marks where statements or expressions begin.
@@ -191,9 +192,14 @@ fn step_met(walk: &mut Walk, at: u32, instr: Instr) -> Result<bool, AllocError>
 }
 
 /// The least offset of an instruction that breaks the flow: one that lacks what it asks, or is reached in two ways that
-/// differ. One walk over the code in order, in time linear in its bytes.
-pub fn check_flow(alloc: Global, image: &ImageView<'_>) -> Result<Option<u32>, AllocError>
-    requires { IsImage image.now }
+/// differ. One walk over the code in order, which was read before, in time linear in its bytes.
+pub fn check_flow(
+    alloc: Global,
+    image: &ImageView<'_>,
+    code: Listed<'_>,
+) -> Result<Option<u32>, AllocError>
+    requires spelt { IsImage image.now }
+    requires code { listed_left code ≡ image.now.code }
     ensures least { IfOk result (λ flow. IsLeast (BreaksFlow image.now) flow) }
 {
     let marks = roots(alloc, image)?;
@@ -204,7 +210,7 @@ pub fn check_flow(alloc: Global, image: &ImageView<'_>) -> Result<Option<u32>, A
         carried: None,
     };
     let mut at = 0;
-    for instr in image.code() {
+    for instr in code {
         let fine = step(&mut walk, at, instr)?;
         if !fine {
             return Ok(Some(at));

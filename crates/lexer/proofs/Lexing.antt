@@ -1,6 +1,7 @@
 -- The loop of the scan, piece by piece.
 use Rattle.std.proofs.Common.{◌≡◌, refl, sym, ap, ◌∙◌, subst, ℕ, ◌+◌, ◌-◌, ◌<◌, ◌≤◌, ◌||◌, Bool, true, false, List, [], ◌∷◌, ◌++◌, length, take, drop, arith, append_assoc}
-use Rattle.std.specs.Prelude.{Option, Some, None, slice_range, nat_lt, if◌then◌else◌}
+use Rattle.std.specs.Prelude.{Option, Some, None, slice_range, nat_lt, ◌&&◌, if◌then◌else◌}
+use Rattle.std.proofs.lemmas.Bool.Decides.{nat_tests}
 use Rattle.std.proofs.lemmas.List.{take_all, length-drop, drop-drop, map-append}
 use Rattle.model.specs.declared.causes.Cause.{Cause}
 use Rattle.model.specs.declared.causes.Cause.TheVariants as cause
@@ -16,7 +17,7 @@ use Rattle.model.proofs.Decks.Cutting.{pieces_step}
 use Rattle.lexer.specs.declared.limits.Limits.{Limits}
 use Rattle.lexer.specs.declared.scan.Scanned.TheVariants as s
 use Rattle.lexer.specs.Lexed.{piece_of, pieces_of, Spans}
-use Rattle.lexer.specs.Limits.{none, after, told}
+use Rattle.lexer.specs.Limits.{none, after, closes, closes_by, told}
 use Rattle.lexer.specs.Scans.{IsScanned}
 
 -- ---- one piece
@@ -61,16 +62,46 @@ pub unclosed_found : (ts : List Token) (text : List ℕ) → least_lexical (piec
 unfolding least_lexical
 unclosed_found ts text = rw (has_tokens is_stray ts (cut.Unclosed text ∷ []) (λ t. refl), has_tokens is_unclosed ts (cut.Unclosed text ∷ []) (λ t. refl)) refl
 
-or_or : (a b c : Bool) → (a || (b || c)) ≡ ((a || b) || c)
-or_or true b c = refl
-or_or false b c = refl
+or_or : (a b c : Bool) → (a || (b || c)) ≡ ((b || a) || c)
+or_or true true c = refl
+or_or true false c = refl
+or_or false true c = refl
+or_or false false c = refl
+
+-- what is over a bound is told once it is over a lesser number
+or_less : (a b c : Bool) → (a ≡ true → b ≡ true) → (a || (b || c)) ≡ (b || c)
+or_less true true c h = refl
+or_less true false c h = let no : false ≡ true = h refl in cc
+or_less false b c h = refl
+
+less_over : (n m : ℕ) → n ≤ m → nat_lt 64 n ≡ true → nat_lt 64 m ≡ true
+less_over n m le h = grind (arith, nat_tests)
+
+no_fewer : (n : ℕ) (m : Mark) → closes_by m ≡ false → n ≤ cut.open_after_mark n m
+no_fewer n mark.Open h = omega arith
+no_fewer n mark.Less h = omega arith
+no_fewer n mark.Close h = absurd (cc)
+no_fewer n mark.Greater h = absurd (cc)
+no_fewer n _ h = omega arith
+
+keeps_open : (n : ℕ) (p : Piece) → closes p ≡ false → n ≤ cut.open_after n p
+keeps_open n (cut.Token (kind.Mark m) text) h = no_fewer n m h
+keeps_open n _ h = omega arith
+
+-- brackets that are open, with those of one more piece
+opened : (l : Limits) (p : Piece) (more : Bool) (b : Bool) → closes p ≡ b
+    → (l.deep || (nat_lt 64 l.open_brackets || (nat_lt 64 (cut.open_after l.open_brackets p) || more)))
+    ≡ (((b && nat_lt 64 l.open_brackets) || l.deep) || (nat_lt 64 (cut.open_after l.open_brackets p) || more))
+opened l p more true h = or_or l.deep (nat_lt 64 l.open_brackets) (nat_lt 64 (cut.open_after l.open_brackets p) || more)
+opened l p more false h =
+    ap (λ x. l.deep || x) (or_less (nat_lt 64 l.open_brackets) (nat_lt 64 (cut.open_after l.open_brackets p)) more (less_over l.open_brackets (cut.open_after l.open_brackets p) (keeps_open l.open_brackets p h)))
 
 -- a piece counts before those that follow
 pub told_step : (l : Limits) (p : Piece) (ps : List Piece) → told l (p ∷ ps) ≡ told (after l p) ps
 unfolding told after
 told_step l p ps = rw (
   or_or l.large (is_too_large p) (has is_too_large ps),
-  or_or l.deep (nat_lt 64 (cut.open_after l.open_brackets p)) (opens_too_many (cut.open_after l.open_brackets p) ps),
+  opened l p (opens_too_many (cut.open_after l.open_brackets p) ps) (closes p) refl,
   or_or l.long (nat_lt 16 (cut.row_after l.row p)) (rows_too_many (cut.row_after l.row p) ps),
 ) refl
 

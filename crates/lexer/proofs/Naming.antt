@@ -1,9 +1,7 @@
 -- The name that a text begins with.
-use Rattle.std.proofs.Common.{◌≡◌, ◌∙◌, refl, sym, ap, ℕ, List, [], ◌∷◌, take, drop}
+use Rattle.std.proofs.Common.{◌≡◌, ◌∙◌, sym, ap, ℕ, List, [], ◌∷◌}
 use Rattle.std.specs.Prelude.{Some, None}
-use Rattle.model.specs.declared.tokens.Mark.{Mark}
 use Rattle.model.specs.declared.tokens.TokenKind.TheVariants as kind
-use Rattle.model.specs.Deck.Cut as cut
 use Rattle.model.specs.Deck.Pieces.{FirstPiece, first_piece, pieces}
 use Rattle.model.proofs.Decks.Cutting.{pieces_step}
 use Rattle.lexer.specs.declared.scan.Scanned.{Scanned}

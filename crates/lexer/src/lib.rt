@@ -30,6 +30,7 @@ use crate::scan::{Scanned, scan};
 use model::{Cause, Token, TokenKind};
 
 // Puts the tokens of the text in place of others. What they break of L3 to L5.
+#[inline(never)]
 fn cut_text<'a>(tokens: &mut Vec<Token<'a>>, text: &'a [u8]) -> Result<Limits, Cause>
     ensures tokens { IfOk result (λ limits. AreTokens text.now tokens.new.items limits) }
     ensures cause { IfErr result (λ c.

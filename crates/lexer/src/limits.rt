@@ -3,6 +3,7 @@
 ghost use Rattle.std.specs.Prelude.{◌≡◌, ◌+◌, ◌<◌, [], nat_lt};
 ghost use Rattle.model.specs.Deck.Cut as cut;
 ghost use Rattle.model.specs.Deck.Digits.{decimal_value};
+ghost use Rattle.model.specs.declared.tokens.TokenKind.TheVariants as kinds;
 ghost use Rattle.lexer.specs.Limits.{none, after, told};
 
 use model::{Cause, Mark, TokenKind};
@@ -39,51 +40,6 @@ fn is_large(digits: &[u8]) -> bool
     false
 }
 
-fn open_after(brackets: usize, kind: TokenKind) -> usize
-    requires { brackets + 1 < 18446744073709551616 }
-    ensures { (text : _) → result ≡ cut.open_after brackets (cut.Token kind text) }
-{
-    match kind {
-        TokenKind::Mark(Mark::Open | Mark::Less) => brackets + 1,
-        TokenKind::Mark(Mark::Close | Mark::Greater) => brackets.saturating_sub(1),
-        _ => brackets,
-    }
-}
-
-// Whether a mark is that of a unary operator.
-fn may_be_unary(mark: Mark) -> bool
-    ensures { result ≡ cut.may_be_unary mark }
-{
-    matches!(
-        mark,
-        Mark::Star
-            | Mark::Plus
-            | Mark::Minus
-            | Mark::Dot
-            | Mark::Dollar
-            | Mark::At
-            | Mark::Question
-            | Mark::Ampersand
-            | Mark::Tilde
-    )
-}
-
-fn row_after(row: usize, kind: TokenKind) -> usize
-    requires { row + 1 < 18446744073709551616 }
-    ensures { (text : _) → result ≡ cut.row_after row (cut.Token kind text) }
-{
-    match kind {
-        TokenKind::Mark(mark) if may_be_unary(mark) => row + 1,
-        _ => 0,
-    }
-}
-
-fn is_large_integer(kind: TokenKind, text: &[u8]) -> bool
-    ensures { result ≡ cut.is_too_large (cut.Token kind text.now) }
-{
-    matches!(kind, TokenKind::Integer) && is_large(text)
-}
-
 impl Limits {
     pub(crate) fn new() -> Limits
         ensures { result ≡ none }
@@ -98,17 +54,55 @@ impl Limits {
     }
 
     /// Counts the next token.
+    #[inline(always)]
     #[tactic(auto, unfolding(crate::specs::Limits::after))]
     pub(crate) fn see(&mut self, kind: TokenKind, text: &[u8])
         requires open { self.old.open_brackets + 1 < 18446744073709551616 }
         requires row { self.old.row + 1 < 18446744073709551616 }
         ensures { self.new ≡ after self.old (cut.Token kind text.now) }
     {
-        self.large = self.large || is_large_integer(kind, text);
-        self.open_brackets = open_after(self.open_brackets, kind);
-        self.deep = self.deep || self.open_brackets > MOST_OPEN;
-        self.row = row_after(self.row, kind);
-        self.long = self.long || self.row > MOST_IN_ROW;
+        match kind {
+            TokenKind::Mark(mark) => self.see_mark(mark),
+            TokenKind::Integer => {
+                self.large = is_large(text) || self.large;
+                self.row = 0;
+            }
+            _ => self.row = 0,
+        }
+    }
+
+    // Counts a mark.
+    #[inline(always)]
+    #[tactic(auto, unfolding(crate::specs::Limits::after))]
+    fn see_mark(&mut self, mark: Mark)
+        requires open { self.old.open_brackets + 1 < 18446744073709551616 }
+        requires row { self.old.row + 1 < 18446744073709551616 }
+        ensures { (text : _) → self.new ≡ after self.old (cut.Token (kinds.Mark mark) text) }
+    {
+        match mark {
+            Mark::Open | Mark::Less => {
+                self.open_brackets += 1;
+                self.row = 0;
+            }
+            Mark::Close | Mark::Greater => {
+                self.deep = self.open_brackets > MOST_OPEN || self.deep;
+                self.open_brackets = self.open_brackets.saturating_sub(1);
+                self.row = 0;
+            }
+            Mark::Star
+            | Mark::Plus
+            | Mark::Minus
+            | Mark::Dot
+            | Mark::Dollar
+            | Mark::At
+            | Mark::Question
+            | Mark::Ampersand
+            | Mark::Tilde => {
+                self.row += 1;
+                self.long = self.row > MOST_IN_ROW || self.long;
+            }
+            _ => self.row = 0,
+        }
     }
 
     /// The least of the causes that the tokens so far give.
@@ -118,7 +112,7 @@ impl Limits {
     {
         if self.large {
             Some(Cause::IntegerTooLarge)
-        } else if self.deep {
+        } else if self.deep || self.open_brackets > MOST_OPEN {
             Some(Cause::TooManyBrackets)
         } else if self.long {
             Some(Cause::TooManyMarks)

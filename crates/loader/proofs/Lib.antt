@@ -3,11 +3,9 @@ pub mod Leading
 pub mod Labelling
 pub mod Numbers
 pub mod Coding
-pub mod Forming
 pub mod Fetching
 pub mod Scanning
 pub mod Searching
 pub mod Sizes
 pub mod Spelt
-pub mod Standing
 pub mod Placing

@@ -5,4 +5,3 @@ pub mod Labels
 pub mod Leads
 pub mod Loaded
 pub mod Answers
-pub mod Forms

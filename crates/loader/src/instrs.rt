@@ -58,14 +58,14 @@ struct Here {
 }
 
 // Whether an offset is one that an instruction may lead to.
-fn is_target(placed: &PlacedCode<'_>, here: Here, target: u32) -> bool
+fn is_target(placed: &PlacedCode, here: Here, target: u32) -> bool
     ensures { result ≡ (nat_lt here.at target && is_fetched (fetch_from 0 placed.now target)) }
 {
     here.at < target && placed.begins_next(here.begun.saturating_add(1), here.place, target)
 }
 
 // Whether an instruction's targets and its own place are as they must be.
-fn place_fits(image: &ImageView<'_>, placed: &PlacedCode<'_>, here: Here, instr: Instr) -> bool
+fn place_fits(image: &ImageView<'_>, placed: &PlacedCode, here: Here, instr: Instr) -> bool
     requires spelt { IsImage image.now }
     requires placed { placed.now ≡ image.now.code }
     ensures { result ≡ place_fits image.now here.at instr }
@@ -109,7 +109,7 @@ fn begins_last(image: &ImageView<'_>, at: u32) -> bool
 // The rule that the instruction at an offset breaks, in code of so many bytes.
 fn instr_rule(
     image: &ImageView<'_>,
-    placed: &PlacedCode<'_>,
+    placed: &PlacedCode,
     here: Here,
     size: u32,
     instr: Instr,
@@ -143,7 +143,7 @@ fn begins(instr: Instr) -> usize {
 /// The first fault of the instructions of the code, which begins at a place.
 pub(crate) fn code_fault(
     image: &ImageView<'_>,
-    placed: &PlacedCode<'_>,
+    placed: &PlacedCode,
     place: usize,
 ) -> Option<ModuleFault>
     requires spelt { IsImage image.now }
@@ -155,7 +155,7 @@ pub(crate) fn code_fault(
     let mut at = 0;
     let mut before = 0;
     let mut begun = 0;
-    for instr in image.code() {
+    for instr in placed.instrs() {
         let next = at + instr.size();
         let here = Here {
             at,

@@ -21,7 +21,7 @@ fn part_fault(
     alloc: Global,
     version: Version,
     image: &ImageView<'_>,
-    placed: &PlacedCode<'_>,
+    placed: &PlacedCode,
     statements: &[usize],
 ) -> Result<Option<ModuleFault>, AllocError>
     requires spelt { IsImage image.now }
@@ -81,7 +81,7 @@ pub(crate) fn fault_of(
     alloc: Global,
     version: Version,
     image: &ImageView<'_>,
-    placed: &PlacedCode<'_>,
+    placed: &PlacedCode,
     statements: &[usize],
 ) -> Result<Option<ModuleFault>, AllocError>
     requires spelt { IsImage image.now }
@@ -89,6 +89,6 @@ pub(crate) fn fault_of(
     ensures { IfOk result (λ fault. IsTold version image.now fault) }
 {
     let parts = part_fault(alloc, version, image, placed, statements)?;
-    let flow = check_flow(alloc, image)?;
+    let flow = check_flow(alloc, image, placed.instrs())?;
     Ok(lesser(parts, flow_fault(version, image, flow)))
 }

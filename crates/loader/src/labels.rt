@@ -1,17 +1,16 @@
 //! The table of labels.
 
 ghost use Rattle.std.specs.Prelude.{◌≡◌, ◌<◌, ◌+◌, ◌*◌, ◌^◌, ◌&&◌, List, ℕ, None, IfOk, length};
-ghost use Rattle.std.specs.Prelude.{IfSome, Some, slice_get};
+ghost use Rattle.std.specs.Prelude.{IfSome, Some, false, get_or, not, replicate, slice_get, true};
 ghost use Rattle.std.specs.Str.{bytes_eq};
 ghost use Rattle.std.specs.HashMap.{get_by};
 ghost use Rattle.model.specs.Module.Images.{statement_labelled};
-ghost use Rattle.model.specs.Module.Spelling.{IsImage};
 ghost use Rattle.model.specs.Module.WellFormed.{is_label_name, is_statement};
-ghost use Rattle.loader.specs.Labels.{AreNumbers};
+ghost use Rattle.loader.specs.Labels.{AreNumbers, IsMarked};
 ghost use Rattle.loader.specs.Parts.{label_fault};
 
 use crate::names::{is_label_name, is_statement};
-use indexmap::{IndexMap, IndexSet};
+use indexmap::IndexMap;
 use model::{Label, ModuleFault, ModuleRule};
 use module_format::ImageView;
 use std::alloc::{AllocError, Global};
@@ -25,30 +24,54 @@ fn is_label(image: &ImageView<'_>, label: Label, is_new: bool) -> bool
     is_label_name(image.string(label.string)) && is_statement(image, label.statement) && is_new
 }
 
+// Marks a number; whether it is one of those that can be marked, and wasn't marked.
+fn mark(marks: &mut [bool], number: u32) -> bool
+    ensures new { result ≡ not (get_or marks.old number true) }
+    ensures marked { IsMarked number marks.old marks.new }
+{
+    let place = number as usize;
+    if place >= marks.len() || marks[place] {
+        return false;
+    }
+    marks[place] = true;
+    true
+}
+
+// The first fault of the labels, which begin at a place, where no string is marked yet.
+fn first_fault(image: &ImageView<'_>, seen: &mut [bool], place: usize) -> Option<ModuleFault>
+    requires unmarked { seen.old ≡ replicate (length image.now.strings) false }
+    requires there { place + 8 * length image.now.labels < 2 ^ 60 }
+    ensures { result ≡ label_fault place image.now }
+{
+    let mut offset = place;
+    let labels = image.labels();
+    for label in labels {
+        let is_new = mark(seen, label.string);
+        if !is_label(image, *label, is_new) {
+            return Some(ModuleFault {
+                offset,
+                rule: ModuleRule::BadIndex,
+            });
+        }
+        offset += 8;
+    }
+    None
+}
+
 /// The first fault of the labels, which begin at a place.
 pub(crate) fn label_fault(
     alloc: Global,
     image: &ImageView<'_>,
     place: usize,
 ) -> Result<Option<ModuleFault>, AllocError>
-    requires spelt { IsImage image.now }
-    requires there { place + 8 * length image.now.labels < 2 ^ 60 }
+    requires { place + 8 * length image.now.labels < 2 ^ 60 }
     ensures { IfOk result (λ fault. fault ≡ label_fault place image.now) }
 {
-    let mut seen = IndexSet::new(alloc);
-    let mut offset = place;
-    let labels = image.labels();
-    for label in labels {
-        let is_new = seen.insert(label.string)?;
-        if !is_label(image, *label, is_new) {
-            return Ok(Some(ModuleFault {
-                offset,
-                rule: ModuleRule::BadIndex,
-            }));
-        }
-        offset += 8;
+    if image.labels().is_empty() {
+        return Ok(None);
     }
-    Ok(None)
+    let mut seen = vec![in alloc; false; image.strings().len()]?;
+    Ok(first_fault(image, &mut seen, place))
 }
 
 /// The statement of each label by its name, which is a slice of the module's bytes.

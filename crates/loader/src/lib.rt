@@ -13,7 +13,6 @@
 
 mod code;
 mod decoding;
-mod forms;
 mod instrs;
 mod joining;
 mod labels;
@@ -26,6 +25,5 @@ mod places;
 mod tables;
 
 pub use decoding::Decoded;
-pub use forms::{Comparison, Form, Known, Search, Term, Way, Whole, compares};
 pub use loading::{load, load_v1};
 pub use module::Module;

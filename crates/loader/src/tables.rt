@@ -30,7 +30,7 @@ pub(crate) fn entry_fault(version: Version, image: &ImageView<'_>) -> Option<Mod
 // The rule that the statement of a number, from 0, breaks at an offset, where the last is another. Its place is looked
 // for first from another on.
 fn statement_rule(
-    placed: &PlacedCode<'_>,
+    placed: &PlacedCode,
     number: usize,
     near: usize,
     is_last: bool,
@@ -61,7 +61,7 @@ fn near_of(places: &[usize], k: usize) -> usize
 /// the other places.
 pub(crate) fn statement_fault(
     image: &ImageView<'_>,
-    placed: &PlacedCode<'_>,
+    placed: &PlacedCode,
     places: &[usize],
     place: usize,
 ) -> Option<ModuleFault>
@@ -86,7 +86,7 @@ pub(crate) fn statement_fault(
 /// The first fault of the expressions, which begin at a place.
 pub(crate) fn expression_fault(
     image: &ImageView<'_>,
-    placed: &PlacedCode<'_>,
+    placed: &PlacedCode,
     place: usize,
 ) -> Option<ModuleFault>
     requires spelt { IsImage image.now }

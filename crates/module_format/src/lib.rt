@@ -22,7 +22,7 @@ mod tables;
 mod view;
 mod writing;
 
-pub use instrs::Instrs;
+pub use instrs::{Instrs, Listed, instrs_of};
 pub use reading::{read_image, read_image_v1, view_image, view_image_v1};
 pub use view::ImageView;
 pub use writing::{ImageParts, write_image, write_parts};

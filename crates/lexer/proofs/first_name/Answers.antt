@@ -1,5 +1,4 @@
-use Rattle.std.proofs.Common.{◌∙◌, subst, sym}
-use Rattle.std.specs.Prelude.{Some, None}
+use Rattle.std.proofs.Common.{◌∙◌, subst}
 use Rattle.lexer.specs.Scans.{IsScanned}
 use Rattle.lexer.proofs.Naming.{fits_is, name_is, none_named}
 use Rattle.lexer.proofs.first_name.Goals as goal

@@ -2,8 +2,8 @@ use Rattle.std.proofs.Common.{arith}
 use Rattle.loader.proofs.Sizes.{places_short}
 use Rattle.loader.proofs.joining.part_fault.Goals as goal
 
-pub label_fault-requires-clause-there : goal.label_fault-requires-clause-there
-label_fault-requires-clause-there c = omega (arith, (places_short c.args.version c.args.image.now c.requires.spelt).labels, c.places_of-places.ensures.labels)
+pub label_fault-requires : goal.label_fault-requires
+label_fault-requires c = omega (arith, (places_short c.args.version c.args.image.now c.requires.spelt).labels, c.places_of-places.ensures.labels)
 
 pub statement_fault-requires-clause-there : goal.statement_fault-requires-clause-there
 statement_fault-requires-clause-there c = omega (arith, (places_short c.args.version c.args.image.now c.requires.spelt).statements, c.places_of-places.ensures.statements)
