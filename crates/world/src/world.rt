@@ -885,7 +885,7 @@ impl World {
             return self.set_new(name, value);
         };
         match self.variables.get_index_mut(at) {
-            Some(variable) => saved.push_reserved(mem::replace(&mut variable.value, value)),
+            Some(variable) => saved.push_reserved(variable.replace(value)),
             None => unreachable!(),
         }
         Ok(())

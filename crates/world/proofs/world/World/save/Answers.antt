@@ -7,7 +7,7 @@ pub returns-clause-set : goal.returns-clause-set
 returns-clause-set c io =
     let stands = subst (StandsIn c.args.name.now c.in-Some.at) (sym (ap {A = WorldView} (λ h. h.variables) c.self.view_is)) c.in-Some.ensures.entry in
     let found = c.in-Some-get_index_mut in
-    put_in_slot c.self.inside.variables c.self.inside.heap c.self.inside.functions c.self.inside.keywords c.self.inside.level c.self.inside.names.items c.args.self.now c.args.name.now c.in-Some.at found.variable.now (record found.variable.now { value = c.replace.new.dest }) c.args.value c.self.view_is c.get_index_mut.ensures.unique stands found.ensures.value (ap (λ v. record found.variable.now { value = v }) c.replace.ensures.after) io
+    put_in_slot c.self.inside.variables c.self.inside.heap c.self.inside.functions c.self.inside.keywords c.self.inside.level c.self.inside.names.items c.args.self.now c.args.name.now c.in-Some.at found.variable.now c.replace.new.self c.args.value c.self.view_is c.get_index_mut.ensures.unique stands found.ensures.value c.replace.ensures.set io
 
 pub invariant_of-self : goal.invariant_of-self
-invariant_of-self c = named_still c.self.inside.variables c.self.inside.names.items c.in-Some.at (record c.in-Some-get_index_mut.variable.now { value = c.replace.new.dest }) c.self.invariant
+invariant_of-self c = named_still c.self.inside.variables c.self.inside.names.items c.in-Some.at c.replace.new.self c.self.invariant
