@@ -4,5 +4,6 @@ pub mod WholeRuns
 pub mod Upgrades
 pub mod CardsTold
 pub mod FileRuns
+pub mod InMemory
 pub mod LinesTold
 pub mod Standing

@@ -1,5 +1,5 @@
 -- From the module of a deck to its run.
-use Rattle.std.proofs.Common.{◌≡◌, ◌∙◌, refl, sym, ap, subst, ℕ, List, ◌++◌, Option, Some, None, Ok, Err, append_assoc, inl, inr}
+use Rattle.std.proofs.Common.{◌≡◌, ◌∙◌, refl, sym, ap, subst, ℕ, Bool, List, ◌++◌, Option, Some, None, Ok, Err, append_assoc, inl, inr}
 use Rattle.model.specs.declared.format.LoadFault.{LoadFault}
 use Rattle.model.specs.declared.format.Version.TheVariants as versions
 use Rattle.model.specs.declared.image.Image.{Image}
@@ -19,6 +19,7 @@ use Rattle.loader.proofs.Judging.{sound_is_taken}
 use Rattle.statement_machine.specs.Asking.{StopsWhereAsked}
 use Rattle.statement_machine.specs.Runs.{IsRun, IsStoppedRun}
 use Rattle.statement_machine.specs.Stopped.{IfRan, IfStop, ending_of, stop_of_run}
+use Rattle.unit_io.specs.Ways.{Way}
 use Rattle.driver.specs.Cards.{card_told}
 use Rattle.driver.specs.Compiled.{IsModuleOf}
 use Rattle.statement_machine.proofs.Seeing.{if_ran}
@@ -31,8 +32,8 @@ read deck bytes m = ap reading.read_image m.spelt ∙ spelt_is_read versions.Two
 read_same : (deck given bytes : List ℕ) → given ≡ bytes → (m : IsModuleOf deck bytes) → reading.read_image given ≡ Ok m.image
 read_same deck given bytes same m = ap reading.read_image same ∙ read deck bytes m
 
-pub is_run : (deck given bytes : List ℕ) (bound : ℕ) (status : Status) (before after : Option Io) → given ≡ bytes → IsModuleOf deck bytes → IsModuleRun given bound status before after → IsRunOf deck bound status before after
-is_run deck given bytes bound status before after same m r =
+pub is_run : {may : Way → ℕ → Bool} (deck given bytes : List ℕ) (bound : ℕ) (status : Status) (before after : Option Io) → given ≡ bytes → IsModuleOf deck bytes → IsModuleRun given bound may status before after → IsRunOf deck bound may status before after
+is_run {may} deck given bytes bound status before after same m r =
     let one : r.image ≡ m.image = ok_is r.image m.image (sym r.read ∙ read_same deck given bytes same m) in
     record {
       statements = m.statements;
@@ -45,7 +46,7 @@ is_run deck given bytes bound status before after same m r =
       run = subst (λ (im : Image). IfRan status (IfTold before after (IsRun im bound (ending_of status)))) one r.run;
       stopped = subst (λ (im : Image). IfStop status (IfTold before after (IsStoppedRun im bound))) one r.stopped;
       stands = subst (λ (im : Image). IfStop status (IfTold before after (StandsWithin im bound))) one r.stands;
-      asked = subst (λ (im : Image). StopsWhereAsked im bound (stop_of_run status) before after) one r.asked;
+      asked = subst (λ (im : Image). StopsWhereAsked im bound may (stop_of_run status) before after) one r.asked;
     }
 
 -- the cards of a deck's module are those of the deck
@@ -67,7 +68,7 @@ of_run bound status before after image P run h = if_ran status _ _ run (λ t. to
     let there : Seen = machine_at image io.left bound in
     (there.printed, ap (λ (x : Seen). x.printed) r.seen, h io.left (record { ending = ending_of status; printed = there.printed }) (ap (λ (x : Seen). record { ending = x.ending; printed = there.printed }) r.seen))) t)
 
-sound_if_ran : (deck : List ℕ) (bound : ℕ) (status : Status) (before after : Option Io) (r : IsRunOf deck bound status before after) → IfRan status (OfRun status before after (IsMeant r.statements))
+sound_if_ran : {may : Way → ℕ → Bool} (deck : List ℕ) (bound : ℕ) (status : Status) (before after : Option Io) (r : IsRunOf deck bound may status before after) → IfRan status (OfRun status before after (IsMeant r.statements))
 sound_if_ran deck bound status before after r = of_run bound status before after r.image (IsMeant r.statements) r.run (λ inputs seen s. seen_of r.statements r.image inputs bound seen.ending seen r.agrees s refl)
 
 -- what a run printed that stopped is a prefix of what is meant
@@ -78,12 +79,12 @@ stopped_so ss image bound io io' agrees h =
     let more : Records = h.2.0 in
     (h.0, h.1, (p.0, (more ++ p.1.0, p.1.1 ∙ ap (λ x. x ++ p.1.0) h.2.1 ∙ append_assoc h.0 more p.1.0)))
 
-is_sound : (deck : List ℕ) (bound : ℕ) (status : Status) (before after : Option Io) (r : IsRunOf deck bound status before after) → OfRun status before after (IsMeant r.statements)
+is_sound : {may : Way → ℕ → Bool} (deck : List ℕ) (bound : ℕ) (status : Status) (before after : Option Io) (r : IsRunOf deck bound may status before after) → OfRun status before after (IsMeant r.statements)
 is_sound deck bound (status.Stopped why) before after r = told_on before after _ _ (λ io io' h. stopped_so r.statements r.image bound io io' r.agrees h) r.stopped
 is_sound deck bound status.Running before after r = sound_if_ran deck bound status.Running before after r
 is_sound deck bound (status.Ended e) before after r = sound_if_ran deck bound (status.Ended e) before after r
 
-pub refines : (deck : List ℕ) (bound : ℕ) (status : Status) (before after : Option Io) → IsRunOf deck bound status before after → RefinesMeaning deck bound status before after
+pub refines : {may : Way → ℕ → Bool} (deck : List ℕ) (bound : ℕ) (status : Status) (before after : Option Io) → IsRunOf deck bound may status before after → RefinesMeaning deck bound status before after
 refines deck bound status before after r = record {
   statements = r.statements;
   accepted = r.trees;

@@ -3,6 +3,7 @@ pub mod Whole
 pub mod Cards
 pub mod Exits
 pub mod Finished
+pub mod InMemory
 pub mod OnFiles
 pub mod Upgraded
 pub mod Reading

@@ -1,22 +1,24 @@
--- The lines that tell an outcome. None where the library doesn't say what it writes for one of their parts: the code of an
--- error, a cause or a fault.
+-- The lines that report an outcome. None where the library doesn't say what it writes for one of their parts: a fault of a deck
+-- or of a module.
 use Rattle.std.specs.Prelude.{ℕ, List, [], ◌∷◌, ◌++◌, Option, Some, None, codes, decimal, nat_eq, if◌then◌else◌}
+use Rattle.std.specs.Fmt.{signed_decimal}
 use Rattle.model.specs.declared.format.FormatRule.{FormatRule}
 use Rattle.model.specs.declared.format.FormatRule.TheVariants as rule
 use Rattle.model.specs.declared.format.LoadFault.{LoadFault}
 use Rattle.model.specs.declared.format.LoadFault.TheVariants as load
 use Rattle.model.specs.declared.run.Ending.{Ending}
 use Rattle.model.specs.declared.run.Ending.TheVariants as ending
+use Rattle.model.specs.declared.run.ErrorCode.{ErrorCode}
+use Rattle.model.specs.declared.run.ErrorCode.TheVariants as error
 use Rattle.model.specs.declared.run.Status.{Status}
 use Rattle.model.specs.declared.run.Status.TheVariants as status
 use Rattle.model.specs.declared.run.Stop.{Stop}
 use Rattle.model.specs.declared.run.Stop.TheVariants as stop
-use Rattle.model.specs.declared.run.UnitFault.{UnitFault}
 use Rattle.model.specs.declared.run.UnitFault.TheVariants as cause
 use Rattle.driver.specs.declared.refusal.Refusal.{Refusal}
 use Rattle.driver.specs.declared.refusal.Refusal.TheVariants as refusal
-use Rattle.driver.specs.declared.telling.Told.{Told}
-use Rattle.driver.specs.declared.telling.Told.TheVariants as told
+use Rattle.driver.specs.declared.telling.FinalReport.{FinalReport}
+use Rattle.driver.specs.declared.telling.FinalReport.TheVariants as told
 
 abbrev pub line : List ℕ → List ℕ
 line text = text ++ 10 ∷ []
@@ -28,21 +30,39 @@ no_memory_line = line (codes "no memory")
 abbrev pub card_text : ℕ → List ℕ
 card_text card = if nat_eq card 0 then [] else codes " card " ++ decimal card
 
-abbrev pub ending_lines : Ending → (card : ℕ) → Option (List ℕ)
-ending_lines ending.Normal card = Some []
-ending_lines (ending.StLimit n) card = Some (codes "stlimit statement " ++ decimal n ++ line (card_text card))
-ending_lines (ending.Error code n) card = None
+-- the number in an error's code
+abbrev pub error_number : ErrorCode → ℕ
+error_number error.WrongType = 1
+error_number error.Arithmetic = 2
+error_number error.NotAnInteger = 3
+error_number error.UndefinedFunction = 4
+error_number error.NotAName = 5
+error_number error.UndefinedLabel = 6
+error_number error.ReturnAtLevelZero = 7
+error_number error.FailureInGoto = 8
+error_number error.StringTooLong = 9
+error_number error.BadPatternArgument = 10
+error_number error.BadKeywordValue = 11
+error_number error.BadPrototype = 12
+error_number error.BadArray = 13
+error_number error.NotPrintable = 14
+error_number error.BadUnit = 15
+error_number error.TooManyArguments = 16
 
-abbrev pub unit_lines : UnitFault → Option (List ℕ)
-unit_lines cause.Memory = Some no_memory_line
-unit_lines other = None
+abbrev pub ending_lines : Ending → (card : ℕ) → List ℕ
+ending_lines ending.Normal card = []
+ending_lines (ending.StLimit n) card = (codes "stlimit statement " ++ decimal n) ++ line (card_text card)
+ending_lines (ending.Error code n) card = (codes "error E" ++ decimal (error_number code) ++ codes " statement " ++ signed_decimal n) ++ line (card_text card)
 
-abbrev pub stop_lines : Stop → Option (List ℕ)
-stop_lines stop.NoMemory = Some no_memory_line
-stop_lines (stop.Unit unit fault) = unit_lines fault
+abbrev pub stop_lines : Stop → List ℕ
+stop_lines stop.NoMemory = no_memory_line
+stop_lines (stop.Unit unit cause.Memory) = no_memory_line
+stop_lines (stop.Unit unit cause.NotOpen) = codes "unit " ++ decimal unit ++ line (codes " U1")
+stop_lines (stop.Unit unit cause.ReadFailed) = codes "unit " ++ decimal unit ++ line (codes " U2")
+stop_lines (stop.Unit unit cause.WriteFailed) = codes "unit " ++ decimal unit ++ line (codes " U3")
 
-abbrev pub run_lines : Status → (card : ℕ) → Option (List ℕ)
-run_lines status.Running card = Some (line (codes "steps used up"))
+abbrev pub run_lines : Status → (card : ℕ) → List ℕ
+run_lines status.Running card = line (codes "steps used up")
 run_lines (status.Ended e) card = ending_lines e card
 run_lines (status.Stopped why) card = stop_lines why
 
@@ -59,11 +79,11 @@ abbrev pub fault_lines : LoadFault → Option (List ℕ)
 fault_lines (load.Format fault) = rule_lines fault.rule
 fault_lines (load.Module fault) = None
 
-abbrev pub lines_of : Told → Option (List ℕ)
+abbrev pub lines_of : FinalReport → Option (List ℕ)
 lines_of told.BadCommandLine = Some (line (codes "bad command line"))
 lines_of (told.Refused r) = refusal_lines r
 lines_of (told.BadModule fault) = fault_lines fault
-lines_of (told.Ran ran) = run_lines ran.status ran.card
+lines_of (told.Ran ran) = Some (run_lines ran.status ran.card)
 lines_of (told.CannotRead file) = Some (line (codes "cannot read " ++ file.now))
 lines_of (told.CannotWrite file) = Some (line (codes "cannot write " ++ file.now))
 lines_of told.NoMemory = Some no_memory_line

@@ -1,5 +1,5 @@
 -- What a run of a deck, and of a module, shows.
-use Rattle.std.specs.Prelude.{◌≡◌, ℕ, ◌+◌, ◌*◌, ◌≤◌, List, ◌++◌, Option, Some, None, Ok}
+use Rattle.std.specs.Prelude.{◌≡◌, ℕ, ◌+◌, ◌*◌, ◌≤◌, List, ◌++◌, Bool, Option, Some, None, Ok}
 use Rattle.model.specs.declared.run.Ending.{Ending}
 use Rattle.model.specs.declared.image.Image.{Image}
 use Rattle.model.specs.declared.run.Status.{Status}
@@ -14,6 +14,7 @@ use Rattle.model.specs.Deck.Trees.{Stmt}
 use Rattle.model.specs.Module.Reading.{read_image}
 use Rattle.loader.specs.Loaded.{IsLoaded}
 use Rattle.codegen.specs.Layout.{generated_image}
+use Rattle.unit_io.specs.Ways.{Way}
 use Rattle.statement_machine.specs.declared.TheConstants.{STEPS_PER_RULE}
 use Rattle.statement_machine.specs.Asking.{StopsWhereAsked}
 use Rattle.statement_machine.specs.Runs.{IsRun, IsStoppedRun}
@@ -71,18 +72,19 @@ pub record StandsWithin (im : Image) (bound : ℕ) (io io' : Io) : Type 0 where
 -- a run of a module, of at most so many steps: the bytes spell this image, and it is one that the loader accepts. Unless the
 -- run stopped, its status, what it printed, after what was printed before, and what is left to be read are those of the
 -- machine on that image at most so many steps later; if it stopped, what it printed is a prefix of what the machine prints,
--- it stands within the bound, and a unit that stopped it is the one that the machine asks next there
-pub record IsModuleRun (bytes : List ℕ) (bound : ℕ) (status : Status) (before after : Option Io) : Type 0 where
+-- it stands within the bound, and a unit that stopped it is the one that the machine asks next there, in a way in which it
+-- may fail
+pub record IsModuleRun (bytes : List ℕ) (bound : ℕ) (may_fail : Way → ℕ → Bool) (status : Status) (before after : Option Io) : Type 0 where
   pub image : Image
   pub read : read_image bytes ≡ Ok image
   pub loaded : IsLoaded image
   pub run : IfRan status (IfTold before after (IsRun image bound (ending_of status)))
   pub stopped : IfStop status (IfTold before after (IsStoppedRun image bound))
   pub stands : IfStop status (IfTold before after (StandsWithin image bound))
-  pub asked : StopsWhereAsked image bound (stop_of_run status) before after
+  pub asked : StopsWhereAsked image bound may_fail (stop_of_run status) before after
 
 -- the same of the image of a deck without fault, which does what the deck's statements mean
-pub record IsRunOf (deck : List ℕ) (bound : ℕ) (status : Status) (before after : Option Io) : Type 0 where
+pub record IsRunOf (deck : List ℕ) (bound : ℕ) (may_fail : Way → ℕ → Bool) (status : Status) (before after : Option Io) : Type 0 where
   pub statements : List Stmt
   pub trees : verdict deck ≡ Accepted statements
   pub image : Image
@@ -93,4 +95,4 @@ pub record IsRunOf (deck : List ℕ) (bound : ℕ) (status : Status) (before aft
   pub run : IfRan status (IfTold before after (IsRun image bound (ending_of status)))
   pub stopped : IfStop status (IfTold before after (IsStoppedRun image bound))
   pub stands : IfStop status (IfTold before after (StandsWithin image bound))
-  pub asked : StopsWhereAsked image bound (stop_of_run status) before after
+  pub asked : StopsWhereAsked image bound may_fail (stop_of_run status) before after

@@ -15,6 +15,7 @@
 
 mod compiling;
 mod exits;
+mod laws;
 mod on_files;
 mod refusal;
 mod running;
@@ -27,6 +28,7 @@ mod words;
 
 pub use compiling::compile_deck;
 pub use exits::exit_status;
+pub use laws::ends_or_goes_on;
 pub use on_files::{finished, run_deck_on_files, run_module_on_files};
 pub use refusal::Refusal;
 pub use running::{Ran, run_module, run_with_card};

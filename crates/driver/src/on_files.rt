@@ -11,6 +11,7 @@ ghost use Rattle.unit_io.specs.Files.{back_on};
 ghost use Rattle.driver.specs.Cards.{card_told};
 ghost use Rattle.driver.specs.Compiled.{IsModuleOf, IsRefusalOf};
 ghost use Rattle.driver.specs.Finished.{IsFinished};
+ghost use Rattle.unit_io.specs.Ways.{any_may_fail};
 ghost use Rattle.driver.specs.OnFiles.{IsRunOnFiles, WritesMeaning};
 ghost use Rattle.driver.specs.Whole.{IsModuleRun, IsRunOf};
 
@@ -56,7 +57,7 @@ pub fn run_deck_on_files<S: UnitSystem>(
     // The run itself is that of run_deck, and a unit that could not be written at its end is the only other stop: a run
     // that a unit stopped stands where the machine may ask one, or has come as far as the bound allows.
     ensures run { IfOk result (λ ran.
-        IsRunOnFiles S.exposes (IsRunOf deck.now bound) ran.status units.old units.new) }
+        IsRunOnFiles S.exposes (IsRunOf deck.now bound any_may_fail) ran.status units.old units.new) }
     // Unless a unit or want of memory stopped the run, nothing is kept back, and no unit has failed.
     ensures handed_on { IfOk result (λ ran.
         IfRan ran.status ((unit : ℕ) → back_on unit units.new.given units.new.back ≡ [])) }
@@ -85,7 +86,7 @@ pub fn run_module_on_files<S: UnitSystem>(
         → WritesMeaning S.exposes deck bound ran.status units.old units.new) }
     // The run itself is that of run_with_card, and a unit that could not be written at its end is the only other stop.
     ensures run { IfOk result (λ ran.
-        IsRunOnFiles S.exposes (IsModuleRun bytes.now bound) ran.status units.old units.new) }
+        IsRunOnFiles S.exposes (IsModuleRun bytes.now bound any_may_fail) ran.status units.old units.new) }
     // Unless a unit or want of memory stopped the run, nothing is kept back, and no unit has failed.
     ensures handed_on { IfOk result (λ ran.
         IfRan ran.status ((unit : ℕ) → back_on unit units.new.given units.new.back ≡ [])) }

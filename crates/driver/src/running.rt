@@ -67,7 +67,8 @@ pub fn run_with_card<U: Units>(
     ensures untouched { OnErr result (units.new ≡ units.old) }
     // The run is the machine's on the image that the bytes spell.
     ensures run { IfOk result (λ ran.
-        IsModuleRun bytes.now bound ran.status (U.told units.old) (U.told units.new)) }
+        IsModuleRun bytes.now bound (U.may_fail units.old) ran.status
+        (U.told units.old) (U.told units.new)) }
     // A run that nothing stopped met no failure of a unit. One stopped by a failed unit names it, and no other unit
     // failed; for want of memory, none failed.
     ensures counts { IfOk result (λ ran.
@@ -94,7 +95,8 @@ pub fn run_module<U: Units>(
     ensures untouched { OnErr result (units.new ≡ units.old) }
     // The run is the machine's on the image that the bytes spell.
     ensures run { IfOk result (λ status.
-        IsModuleRun bytes.now bound status (U.told units.old) (U.told units.new)) }
+        IsModuleRun bytes.now bound (U.may_fail units.old) status
+        (U.told units.old) (U.told units.new)) }
     // A run that nothing stopped met no failure of a unit. One stopped by a failed unit names it, and no other unit
     // failed; for want of memory, none failed.
     ensures counts { IfOk result (λ status.

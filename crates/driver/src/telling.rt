@@ -3,12 +3,13 @@
 ghost use Rattle.std.specs.Prelude.{◌≡◌, IfOk, IfSome, OnOk};
 ghost use Rattle.std.specs.Io.KnownBytes.{Appends};
 ghost use Rattle.driver.specs.Exits.{exit_of};
-ghost use Rattle.driver.specs.Lines.{card_text, ending_lines, fault_lines, line, lines_of, no_memory_line, refusal_lines, run_lines, stop_lines};
+ghost use Rattle.driver.specs.Lines.{card_text, ending_lines, error_number, fault_lines, line, lines_of};
+ghost use Rattle.driver.specs.Lines.{no_memory_line, refusal_lines, run_lines, stop_lines};
 
 use crate::exits::exit_status;
 use crate::refusal::Refusal;
 use crate::running::Ran;
-use model::{Ending, FormatFault, FormatRule, LoadFault, Status, Stop, UnitFault};
+use model::{Ending, ErrorCode, FormatFault, FormatRule, LoadFault, Status, Stop, UnitFault};
 use std::io::{self, Write};
 
 /// What the program has to tell at its end.
@@ -46,14 +47,38 @@ fn end_with_card<W: Write>(card: u32, out: &mut W) -> io::Result<()>
     }
 }
 
+// The number in an error's code.
+fn error_number(code: ErrorCode) -> u8
+    ensures { result ≡ error_number code }
+{
+    match code {
+        ErrorCode::WrongType => 1,
+        ErrorCode::Arithmetic => 2,
+        ErrorCode::NotAnInteger => 3,
+        ErrorCode::UndefinedFunction => 4,
+        ErrorCode::NotAName => 5,
+        ErrorCode::UndefinedLabel => 6,
+        ErrorCode::ReturnAtLevelZero => 7,
+        ErrorCode::FailureInGoto => 8,
+        ErrorCode::StringTooLong => 9,
+        ErrorCode::BadPatternArgument => 10,
+        ErrorCode::BadKeywordValue => 11,
+        ErrorCode::BadPrototype => 12,
+        ErrorCode::BadArray => 13,
+        ErrorCode::NotPrintable => 14,
+        ErrorCode::BadUnit => 15,
+        ErrorCode::TooManyArguments => 16,
+    }
+}
+
 fn tell_ending<W: Write>(ending: Ending, card: u32, out: &mut W) -> io::Result<()>
-    ensures { OnOk result (IfSome (ending_lines ending card)
-        (Appends (W.contents out.old) (W.contents out.new))) }
+    ensures { OnOk result (Appends (W.contents out.old) (W.contents out.new) (ending_lines ending card)) }
 {
     match ending {
         Ending::Normal => Ok(()),
         Ending::Error { code, statement } => {
-            write!(out, "error {code} statement {statement}")?;
+            let number = error_number(code);
+            write!(out, "error E{number} statement {statement}")?;
             end_with_card(card, out)
         }
         Ending::StLimit { statement } => {
@@ -70,7 +95,7 @@ fn tell_no_memory<W: Write>(out: &mut W) -> io::Result<()>
 }
 
 fn tell_stop<W: Write>(stop: Stop, out: &mut W) -> io::Result<()>
-    ensures { OnOk result (IfSome (stop_lines stop) (Appends (W.contents out.old) (W.contents out.new))) }
+    ensures { OnOk result (Appends (W.contents out.old) (W.contents out.new) (stop_lines stop)) }
 {
     match stop {
         Stop::Unit {
@@ -78,7 +103,18 @@ fn tell_stop<W: Write>(stop: Stop, out: &mut W) -> io::Result<()>
             ..
         }
         | Stop::NoMemory => tell_no_memory(out),
-        Stop::Unit { unit, cause } => writeln!(out, "unit {unit} {cause}"),
+        Stop::Unit {
+            unit,
+            cause: UnitFault::NotOpen,
+        } => writeln!(out, "unit {unit} U1"),
+        Stop::Unit {
+            unit,
+            cause: UnitFault::ReadFailed,
+        } => writeln!(out, "unit {unit} U2"),
+        Stop::Unit {
+            unit,
+            cause: UnitFault::WriteFailed,
+        } => writeln!(out, "unit {unit} U3"),
     }
 }
 
@@ -98,8 +134,8 @@ fn tell_bad_module<W: Write>(fault: LoadFault, out: &mut W) -> io::Result<()>
 }
 
 fn tell_run<W: Write>(ran: Ran, out: &mut W) -> io::Result<()>
-    ensures { OnOk result (IfSome (run_lines ran.status ran.card)
-        (Appends (W.contents out.old) (W.contents out.new))) }
+    ensures { OnOk result (Appends (W.contents out.old) (W.contents out.new)
+        (run_lines ran.status ran.card)) }
 {
     match ran.status {
         Status::Running => writeln!(out, "steps used up"),

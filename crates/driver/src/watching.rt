@@ -32,7 +32,8 @@ pub(crate) fn watch_with_card<U: Units, W: WatchRun>(
     ensures refused { IfErr result (λ fault. IsAnswer bytes.now (Err fault)) }
     ensures untouched { OnErr result (units.new ≡ units.old) }
     ensures run { IfOk result (λ ran.
-        IsModuleRun bytes.now bound ran.status (U.told units.old) (U.told units.new)) }
+        IsModuleRun bytes.now bound (U.may_fail units.old) ran.status
+        (U.told units.old) (U.told units.new)) }
     ensures counts { IfOk result (λ ran.
         KeepsCounts (stop_of_run ran.status) (U.failures units.old) (U.failures units.new)) }
     ensures meaning { IfOk result (λ ran.
@@ -73,7 +74,8 @@ pub fn watch_deck<U: Units, W: WatchRun>(
         RefinesMeaning deck.now bound ran.status (U.told units.old) (U.told units.new)) }
     // The run is the machine's, on an image that does what the deck's statements mean.
     ensures run { IfOk result (λ ran.
-        IsRunOf deck.now bound ran.status (U.told units.old) (U.told units.new)) }
+        IsRunOf deck.now bound (U.may_fail units.old) ran.status
+        (U.told units.old) (U.told units.new)) }
     // A run that nothing stopped met no failure of a unit. One stopped by a failed unit names it, and no other unit
     // failed; for want of memory, none failed.
     ensures counts { IfOk result (λ ran.

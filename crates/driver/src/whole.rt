@@ -30,7 +30,8 @@ pub fn run_deck<U: Units>(
         RefinesMeaning deck.now bound ran.status (U.told units.old) (U.told units.new)) }
     // The run is the machine's, on an image that does what the deck's statements mean.
     ensures run { IfOk result (λ ran.
-        IsRunOf deck.now bound ran.status (U.told units.old) (U.told units.new)) }
+        IsRunOf deck.now bound (U.may_fail units.old) ran.status
+        (U.told units.old) (U.told units.new)) }
     // A run that nothing stopped met no failure of a unit. One stopped by a failed unit names it, and no other unit
     // failed; for want of memory, none failed.
     ensures counts { IfOk result (λ ran.

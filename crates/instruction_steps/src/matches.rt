@@ -10,11 +10,11 @@ ghost use Rattle.model.specs.Language.Operators.{assign_all, assign_op, told_val
 ghost use Rattle.model.specs.Pattern.Steps.{event_of};
 ghost use Rattle.model.specs.declared.image.Image.{Image};
 ghost use Rattle.pattern_compiler.specs.View.{name_of};
-ghost use Rattle.world.specs.Asking.{Prints, io_after};
+ghost use Rattle.world.specs.Asking.{Prints, io_after, world_after};
 ghost use Rattle.instruction_steps.specs.Asking.{PrintsNext, io_at};
 ghost use Rattle.instruction_steps.specs.Held.{Left, waiting};
 ghost use Rattle.instruction_steps.specs.Matches.{IsMatched, found_kinds, matching_in};
-ghost use Rattle.instruction_steps.specs.Printing.{PrintsTo, PrintsWithin, world_in};
+ghost use Rattle.instruction_steps.specs.Printing.{PrintsTo, PrintsWithin};
 ghost use Rattle.instruction_steps.specs.Stopped.{GoesOrHalts, halted_by};
 ghost use Rattle.unit_io.specs.Service.{IsQuiet, Served};
 ghost use Rattle.world.specs.Answers.{AnswersAs, done, stopped_by};
@@ -57,7 +57,7 @@ fn assign_noting<U: Units>(
         AnswersAs (done result) (world_of world.new io')
         (assign_op (name_of name.now) (value_of value) (world_of world.old io))) }
     ensures quiet { IsQuiet (stopped_by result) (U.told units.old) (U.told units.new) }
-    ensures asked { Prints (stopped_by result) (λ io. io_after
+    ensures asked { Prints (U.may_fail units.old) (stopped_by result) (λ io. io_after
         (assign_op (name_of name.now) (value_of value) (world_of world.old io))) }
     ensures names { world.new.names ≡ world.old.names }
 {
@@ -83,7 +83,7 @@ fn assign<U: Units>(
         AnswersAs (done result) (world_of world.new io')
         (assign_op (name_of name.now) (value_of value) (world_of world.old io))) }
     ensures quiet { IsQuiet (stopped_by result) (U.told units.old) (U.told units.new) }
-    ensures asked { Prints (stopped_by result) (λ io. io_after
+    ensures asked { Prints (U.may_fail units.old) (stopped_by result) (λ io. io_after
         (assign_op (name_of name.now) (value_of value) (world_of world.old io))) }
     ensures names { world.new.names ≡ world.old.names }
 {
@@ -109,8 +109,9 @@ fn assign_all<U: Units>(
         AnswersAs (done result) (world_of world.new io')
         (assign_all (pending_of pending.now) (world_of world.old io))) }
     ensures printed { PrintsTo (stopped_by result) (U.told units.old) (U.told units.new) (λ io.
-        world_in (assign_all (pending_of pending.now) (world_of world.old io))) }
-    ensures next { PrintsNext (stopped_by result) (U.told units.old) (U.told units.new) (λ io. io_after
+        world_after (assign_all (pending_of pending.now) (world_of world.old io))) }
+    ensures next { PrintsNext (U.may_fail units.old) (stopped_by result)
+        (U.told units.old) (U.told units.new) (λ io. io_after
         (assign_all (pending_of pending.now) (world_of world.old io))) }
     ensures names { world.new.names ≡ world.old.names }
 {
@@ -149,7 +150,7 @@ impl State {
             (matching_in im matching.old self.old) matching.old.search.state (waiting im fs self.old)
             (world_of self.old.world io)) }
         ensures next { (im : Image) (fs : List Frame)
-            → PrintsNext (halted_by result) (U.told units.old) (U.told units.new) (λ io. io_at
+            → PrintsNext (U.may_fail units.old) (halted_by result) (U.told units.old) (U.told units.new) (λ io. io_at
             (on_event (module_of im) (event_of matching.old.search.state)
             (matching_in im matching.old self.old) matching.old.search.state (waiting im fs self.old)
             (world_of self.old.world io))) }

@@ -31,7 +31,8 @@ impl State {
             → Left im fs result self.new io' (resumed_with im fs false next given self.old io)) }
         ensures quiet { IsQuiet (halted_by result) (U.told units.old) (U.told units.new) }
         ensures asked { (im : Image) (fs : List Frame)
-            → Takes (halted_by result) (λ io. io_at (resumed_with im fs false next given self.old io)) }
+            → Takes (U.may_fail units.old) (halted_by result) (λ io.
+            io_at (resumed_with im fs false next given self.old io)) }
         ensures sound { (im : Image) (fs : List Frame) → CallerStands im fs false next self.old
             → StaysSound im fs result self.new }
         ensures names { self.new.world.names ≡ self.old.world.names }
@@ -68,7 +69,8 @@ impl State {
             → Left im fs result self.new io' (resumed_with im fs want_name next given self.old io)) }
         ensures quiet { IsQuiet (halted_by result) (U.told units.old) (U.told units.new) }
         ensures asked { (im : Image) (fs : List Frame)
-            → Takes (halted_by result) (λ io. io_at (resumed_with im fs want_name next given self.old io)) }
+            → Takes (U.may_fail units.old) (halted_by result) (λ io.
+            io_at (resumed_with im fs want_name next given self.old io)) }
         ensures sound { (im : Image) (fs : List Frame) → CallerStands im fs want_name next self.old
             → StaysSound im fs result self.new }
         ensures names { self.new.world.names ≡ self.old.world.names }

@@ -225,7 +225,8 @@ impl State {
             (fs : List Frame) → Left program.now fs result self.new io' (after program.now instr next fs self.old io)) }
         ensures quiet { IsQuiet (halted_by result) (U.told units.old) (U.told units.new) }
         ensures asked { (fs : List Frame)
-            → TakesOrPrints (halted_by result) (λ io. io_at (after program.now instr next fs self.old io)) }
+            → TakesOrPrints (U.may_fail units.old) (halted_by result) (λ io.
+            io_at (after program.now instr next fs self.old io)) }
         ensures sound { (fs : List Frame) → IsSound program.now fs self.old
             → StaysSound program.now fs result self.new }
         ensures names { self.new.world.names ≡ self.old.world.names }
@@ -258,7 +259,8 @@ impl State {
             (after program.now it.instr next fs self.old io)) }
         ensures quiet { IsQuiet (halted_by result) (U.told units.old) (U.told units.new) }
         ensures asked { (fs : List Frame)
-            → TakesOrPrints (halted_by result) (λ io. io_at (after program.now it.instr next fs self.old io)) }
+            → TakesOrPrints (U.may_fail units.old) (halted_by result) (λ io.
+            io_at (after program.now it.instr next fs self.old io)) }
         ensures sound { (fs : List Frame) → IsSound program.now fs self.old
             → StaysSound program.now fs result self.new }
         ensures names { self.new.world.names ≡ self.old.world.names }

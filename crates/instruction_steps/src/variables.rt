@@ -1,6 +1,6 @@
 //! Instructions that may read from a unit or write to one, by a variable that has it.
 
-ghost use Rattle.std.specs.Prelude.{ℕ, ◌∷◌, List, [], option_map, ◌≡◌, Some, IfSome};
+ghost use Rattle.std.specs.Prelude.{ℕ, Bool, ◌∷◌, List, [], option_map, ◌≡◌, Some, IfSome};
 ghost use Rattle.model.specs.Language.Conversions.{Op};
 ghost use Rattle.model.specs.Module.Flow.{V, N, R};
 ghost use Rattle.model.specs.Language.Io.{Io};
@@ -18,6 +18,7 @@ ghost use Rattle.instruction_steps.specs.Asking.{io_at};
 ghost use Rattle.instruction_steps.specs.Held.{Left, Meets, StaysSound, after, handlers_in, waiting};
 ghost use Rattle.instruction_steps.specs.Stopped.{halted_by};
 ghost use Rattle.unit_io.specs.Service.{IsQuiet, KeepsCounts, Served};
+ghost use Rattle.unit_io.specs.Ways.{Way};
 
 use crate::state::State;
 use crate::status::Exit;
@@ -68,7 +69,8 @@ impl State {
             (handlers_in im self.old) (waiting im fs self.old) w)) }
         ensures counts { (old new : ℕ → ℕ) → KeepsCounts (stopped_by answer) old new
             → KeepsCounts (halted_by result) old new }
-        ensures asked { (f : Io → Io) → Takes (stopped_by answer) f → Takes (halted_by result) f }
+        ensures asked { (may : Way → ℕ → Bool) (f : Io → Io)
+            → Takes may (stopped_by answer) f → Takes may (halted_by result) f }
         ensures names { self.new.world.names ≡ self.old.world.names }
     {
         match answer {
@@ -86,7 +88,8 @@ impl State {
             → Left im fs result self.new io' (after im Instr.Assign next fs self.old io)) }
         ensures quiet { IsQuiet (halted_by result) (U.told units.old) (U.told units.new) }
         ensures asked { (im : Image) (fs : List Frame)
-            → Prints (halted_by result) (λ io. io_at (after im Instr.Assign next fs self.old io)) }
+            → Prints (U.may_fail units.old) (halted_by result) (λ io.
+            io_at (after im Instr.Assign next fs self.old io)) }
         ensures sound { (im : Image) (fs : List Frame) → Meets im Instr.Assign next fs self.old
             → StaysSound im fs result self.new }
         ensures names { self.new.world.names ≡ self.old.world.names }
@@ -107,7 +110,7 @@ impl State {
             → Left im fs result self.new io' (after im Instr.Fetch next fs self.old io)) }
         ensures quiet { IsQuiet (halted_by result) (U.told units.old) (U.told units.new) }
         ensures asked { (im : Image) (fs : List Frame)
-            → Takes (halted_by result) (λ io. io_at (after im Instr.Fetch next fs self.old io)) }
+            → Takes (U.may_fail units.old) (halted_by result) (λ io. io_at (after im Instr.Fetch next fs self.old io)) }
         ensures sound { (im : Image) (fs : List Frame) → Meets im Instr.Fetch next fs self.old
             → StaysSound im fs result self.new }
         ensures names { self.new.world.names ≡ self.old.world.names }
@@ -125,7 +128,8 @@ impl State {
             → Left im fs result self.new io' (after im Instr.FetchK next fs self.old io)) }
         ensures quiet { IsQuiet (halted_by result) (U.told units.old) (U.told units.new) }
         ensures asked { (im : Image) (fs : List Frame)
-            → Takes (halted_by result) (λ io. io_at (after im Instr.FetchK next fs self.old io)) }
+            → Takes (U.may_fail units.old) (halted_by result) (λ io.
+            io_at (after im Instr.FetchK next fs self.old io)) }
         ensures sound { (im : Image) (fs : List Frame) → Meets im Instr.FetchK next fs self.old
             → StaysSound im fs result self.new }
         ensures names { self.new.world.names ≡ self.old.world.names }
@@ -143,7 +147,8 @@ impl State {
             → Left im fs result self.new io' (after im Instr.Splice next fs self.old io)) }
         ensures quiet { IsQuiet (halted_by result) (U.told units.old) (U.told units.new) }
         ensures asked { (im : Image) (fs : List Frame)
-            → Prints (halted_by result) (λ io. io_at (after im Instr.Splice next fs self.old io)) }
+            → Prints (U.may_fail units.old) (halted_by result) (λ io.
+            io_at (after im Instr.Splice next fs self.old io)) }
         ensures sound { (im : Image) (fs : List Frame) → Meets im Instr.Splice next fs self.old
             → StaysSound im fs result self.new }
         ensures names { self.new.world.names ≡ self.old.world.names }

@@ -143,10 +143,13 @@ impl GivenUnits {
 impl Units for GivenUnits {
     ghost use Rattle.std.specs.Prelude.{None};
     ghost use Rattle.unit_io.specs.Held.{failures_of};
+    ghost use Rattle.unit_io.specs.Ways.{any_may_fail};
 
     ghost told = { λ g. None };
 
     ghost failures = { λ g. failures_of g.shut };
+
+    ghost may_fail = { λ g. any_may_fail };
 
     fn read_record(&mut self, unit: u8) -> Result<Option<Text>, UnitFault> {
         match self.read_from(unit) {

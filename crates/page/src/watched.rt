@@ -16,6 +16,8 @@ impl<U: Units> Units for Watched<U> {
 
     ghost failures = { λ w. U.failures w.units };
 
+    ghost may_fail = { λ w. U.may_fail w.units };
+
     fn read_record(&mut self, unit: u8) -> Result<Option<Text>, UnitFault> {
         self.units.read_record(unit)
     }

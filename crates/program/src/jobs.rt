@@ -4,6 +4,7 @@ ghost use Rattle.std.specs.Prelude.{◌≡◌, ℕ, List, codes, Err, IfErr, IfO
 ghost use Rattle.loader.specs.Answers.{IsAnswer};
 ghost use Rattle.driver.specs.Compiled.{IsModuleOf, IsRefusalOf};
 ghost use Rattle.driver.specs.Exits.{IsOneOf, exit_of_outcome, exits_of};
+ghost use Rattle.unit_io.specs.Ways.{any_may_fail};
 ghost use Rattle.driver.specs.OnFiles.{IsRunOnFiles, WritesMeaning};
 ghost use Rattle.driver.specs.Upgraded.{IsUpgradeOf};
 ghost use Rattle.driver.specs.Whole.{IsModuleRun, IsRunOf};
@@ -78,7 +79,7 @@ fn run_on<'a, 'f: 'a, S: UnitSystem>(
         × WritesMeaning S.exposes deck steps done.ran.status fresh done.units) }
     ensures run { IfOk result (λ done.
         (fresh : FilesView S) × AreFresh S.exposes S.input_bytes S.source_bytes system.now files.now fresh
-        × IsRunOnFiles S.exposes (IsModuleRun bytes.now steps) done.ran.status fresh done.units) }
+        × IsRunOnFiles S.exposes (IsModuleRun bytes.now steps any_may_fail) done.ran.status fresh done.units) }
     ensures refused { IfErr result
         (IsFailure (λ _. ⊥) (λ fault. IsAnswer bytes.now (Err fault)) None None) }
 {
@@ -104,7 +105,7 @@ fn run_deck_on<'a, 'f: 'a, S: UnitSystem>(
         × WritesMeaning S.exposes deck.now steps done.ran.status fresh done.units) }
     ensures run { IfOk result (λ done.
         (fresh : FilesView S) × AreFresh S.exposes S.input_bytes S.source_bytes system.now files.now fresh
-        × IsRunOnFiles S.exposes (IsRunOf deck.now steps) done.ran.status fresh done.units) }
+        × IsRunOnFiles S.exposes (IsRunOf deck.now steps any_may_fail) done.ran.status fresh done.units) }
     ensures refused { IfErr result
         (IsFailure (IsRefusalOf deck.now) (λ _. ⊥) None None) }
 {

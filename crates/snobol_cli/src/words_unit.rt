@@ -75,10 +75,13 @@ impl<'a, U: Units> WordsUnit<'a, U> {
 
 impl<U: Units> Units for WordsUnit<'_, U> {
     ghost use Rattle.std.specs.Prelude.{None};
+    ghost use Rattle.unit_io.specs.Ways.{any_may_fail};
 
     ghost told = { λ units. None };
 
     ghost failures = { λ w. U.failures w.units };
+
+    ghost may_fail = { λ w. any_may_fail };
 
     fn read_record(&mut self, unit: u8) -> Result<Option<Text>, UnitFault> {
         match self.next_record(unit) {

@@ -91,7 +91,8 @@ impl<'m, 'a> Machine<'m, 'a> {
             steps (module_of self.old.image) bound (st io)) }
         // A run that a unit stopped did so where the machine asks that unit.
         ensures stops { (st : Io → m.State) → ((io : Io) → Holds self.old io (st io)) →
-            StopsWithin self.old.image bound (stopped_now self.old.halt result) (U.told units.old) (U.told units.new) st }
+            StopsWithin self.old.image bound (U.may_fail units.old) (stopped_now self.old.halt result)
+            (U.told units.old) (U.told units.new) st }
         ensures again { (halt : RustHalt) → self.old.halt ≡ Some halt → (self.new ≡ self.old)
             × (units.new ≡ units.old) }
     {
@@ -115,7 +116,8 @@ impl<'m, 'a> Machine<'m, 'a> {
             PrintsWithin (stopped_now self.old.halt result) (U.told units.old) (U.told units.new) (λ io.
             steps (module_of self.old.image) bound (st io)) }
         ensures stops { (st : Io → m.State) → ((io : Io) → Holds self.old io (st io)) →
-            StopsWithin self.old.image bound (stopped_now self.old.halt result) (U.told units.old) (U.told units.new) st }
+            StopsWithin self.old.image bound (U.may_fail units.old) (stopped_now self.old.halt result)
+            (U.told units.old) (U.told units.new) st }
         ensures again { (halt : RustHalt) → self.old.halt ≡ Some halt → (self.new ≡ self.old)
             × (units.new ≡ units.old) }
     {
@@ -159,7 +161,8 @@ pub fn run_from_entry<U: Units>(
     ensures printed { IfStop result
         (IfTold (U.told units.old) (U.told units.new) (IsStoppedRun program.now bound)) }
     // A run that a unit stopped did so where the machine asks that unit.
-    ensures asked { StopsWhereAsked program.now bound (stop_of_run result) (U.told units.old) (U.told units.new) }
+    ensures asked { StopsWhereAsked program.now bound (U.may_fail units.old) (stop_of_run result)
+        (U.told units.old) (U.told units.new) }
 {
     watch_from_entry(alloc, program, units, bound, &mut Unwatched)
 }

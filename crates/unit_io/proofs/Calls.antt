@@ -1,15 +1,16 @@
 -- Reading and writing a unit in memory.
 use Rattle.std.proofs.Common.{◌≡◌, ℕ, List, [], ◌∷◌, ◌++◌, get_or, set, Bool, true, false, Option, Some, nat_eq, refl, cond, sym, ap, subst, ◌∙◌, ◌≢◌, inl, inr, arith, append_assoc}
-use Rattle.std.specs.Prelude.{if◌then◌else◌}
+use Rattle.std.specs.Prelude.{IsTrue, if◌then◌else◌}
 use Rattle.std.proofs.lemmas.Bool.{cases_eq}
 use Rattle.std.proofs.lemmas.Bool.Decides.{nat_tests}
 use Rattle.std.proofs.lemmas.List.{append-nil, map-append}
 use Rattle.model.specs.Language.Units.{first_of, rest_of, bytes_on, after_read, after_write, Reads, Writes}
-use Rattle.unit_io.specs.Held.{UnitsView, IsKept, IsRead, IsWritten, side_at, place_of, with_side, left_by, output_of, printed_of, io_of}
+use Rattle.unit_io.specs.Held.{UnitsView, IsKept, IsRead, IsWritten, is_shut, may_fail_of, side_at, place_of, with_side, left_by, output_of, printed_of, io_of}
 use Rattle.unit_io.specs.declared.mem.OpenUnit.{OpenUnit}
 use Rattle.unit_io.specs.declared.mem.Side.{Side}
 use Rattle.unit_io.specs.declared.mem.Side.TheVariants.{Input, Output}
 use Rattle.unit_io.specs.declared.mem.Written.{Written}
+use Rattle.unit_io.specs.Ways.{Way, Reading, Writing, FailsNoMore}
 use Rattle.unit_io.proofs.OpenSides.{side_there, changed_there, side_with, side_of_same, side_of_other, same_for}
 
 -- ---- a call that finds its unit at a place
@@ -119,3 +120,29 @@ module _ (unit : ℕ) (bytes : List ℕ) (h h' : UnitsView) (wrote : IsWritten u
   pub written_kept : IsKept h → IsKept h'
   unfolding after one
   written_kept k = subst IsKept (sym wrote.2) (record { long = k.long; kept = λ u. kept_at u (k.kept unit) (k.kept u) })
+
+-- ---- what may fail after a call
+
+pub as_open : (h h' : UnitsView) → h'.opened ≡ h.opened → FailsNoMore (may_fail_of h) (may_fail_of h')
+as_open h h' e way u s = subst (λ os. IsTrue (is_shut way (side_at u os))) e s
+
+-- with another side of a unit, open in the same way
+side_open : (unit : ℕ) (s t : Side) (h h' : UnitsView) → ((way : Way) → is_shut way (Some s) ≡ is_shut way (Some t)) → side_at unit h.opened ≡ Some t → h'.opened ≡ with_side unit s h.opened → FailsNoMore (may_fail_of h) (may_fail_of h')
+side_open unit s t h h' alike is new way u shut =
+    subst (λ b. IsTrue b) (same_for (is_shut way) unit u s t h.opened is (alike way)) (subst (λ os. IsTrue (is_shut way (side_at u os))) new shut)
+
+input_open : (rs rs' : List (List ℕ)) (way : Way) → is_shut way (Some (Input rs')) ≡ is_shut way (Some (Input rs))
+input_open rs rs' Reading = refl
+input_open rs rs' Writing = refl
+
+output_open : (bs bs' : List ℕ) (way : Way) → is_shut way (Some (Output bs')) ≡ is_shut way (Some (Output bs))
+output_open bs bs' Reading = refl
+output_open bs bs' Writing = refl
+
+pub read_open : (unit : ℕ) (got : Option (List ℕ)) (h h' : UnitsView) → IsRead unit got h h' → FailsNoMore (may_fail_of h) (may_fail_of h')
+read_open unit got h h' read =
+    side_open unit (Input (rest_of read.0)) (Input read.0) h h' (input_open read.0 (rest_of read.0)) read.1 (ap (λ (x : UnitsView). x.opened) read.3)
+
+pub written_open : (unit : ℕ) (bytes : List ℕ) (h h' : UnitsView) → IsWritten unit bytes h h' → FailsNoMore (may_fail_of h) (may_fail_of h')
+written_open unit bytes h h' written =
+    side_open unit (Output (written.0 ++ bytes ++ 10 ∷ [])) (Output written.0) h h' (output_open written.0 (written.0 ++ bytes ++ 10 ∷ [])) written.1 (ap (λ (x : UnitsView). x.opened) written.2)

@@ -3,10 +3,12 @@ use Rattle.std.proofs.Common.{◌≡◌, ℕ, suc, ◌+◌, ◌<◌, length, get
 use Rattle.std.proofs.lemmas.Option.{none-some}
 use Rattle.std.proofs.lemmas.Bool.{cases_eq}
 use Rattle.std.proofs.lemmas.Bool.Decides.{nat_tests}
-use Rattle.std.specs.Prelude.{if◌then◌else◌}
-use Rattle.unit_io.specs.Held.{UnitsView, IsKept, side_at, output_of, place_of, with_side}
+use Rattle.std.specs.Prelude.{◌⊎◌, IsTrue, if◌then◌else◌}
+use Rattle.unit_io.specs.Held.{UnitsView, IsKept, IsReadable, IsWritable, is_shut, side_at, output_of, place_of, with_side}
+use Rattle.unit_io.specs.Ways.{Reading, Writing}
 use Rattle.unit_io.specs.declared.mem.OpenUnit.{OpenUnit}
 use Rattle.unit_io.specs.declared.mem.Side.{Side}
+use Rattle.unit_io.specs.declared.mem.Side.TheVariants.{Input, Output}
 
 output_if : (b : Bool) (s t : Option Side) → output_of s ≡ output_of t → output_of (cond b s t) ≡ output_of t
 output_if true s t h = h
@@ -106,3 +108,13 @@ same_for f unit u s t os is h = elim (cases_eq unit u) [
   | inl e ↦ subst (λ v. f (side_at v (with_side unit s os)) ≡ f (side_at v os)) e (ap f (side_of_same unit s t os is) ∙ h ∙ ap f (sym is))
   | inr n ↦ ap f (side_of_other unit u s t os is n)
 ]
+
+-- ---- a unit that is open in a way doesn't fail in that way
+
+pub never_shut : (s : Option Side) → (IsTrue (is_shut Reading s) × IsReadable s) ⊎ (IsTrue (is_shut Writing s) × IsWritable s) → ⊥
+never_shut None (inl (shut, fit)) = fit
+never_shut None (inr (shut, fit)) = fit
+never_shut (Some (Input records)) (inl (shut, fit)) = cc
+never_shut (Some (Input records)) (inr (shut, fit)) = fit
+never_shut (Some (Output bytes)) (inl (shut, fit)) = fit
+never_shut (Some (Output bytes)) (inr (shut, fit)) = cc

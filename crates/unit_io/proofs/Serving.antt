@@ -1,5 +1,5 @@
 -- What units did for one call carries over to the call around it.
-use Rattle.std.proofs.Common.{ℕ, ◌∙◌, refl, subst, Option, Some, None}
+use Rattle.std.proofs.Common.{ℕ, ◌∙◌, Bool, refl, subst, Option, Some, None}
 use Rattle.model.specs.Language.Io.{Io}
 use Rattle.model.specs.Language.Told.{IfTold}
 use Rattle.model.specs.Language.Units.{IsCounted}
@@ -7,7 +7,20 @@ use Rattle.model.specs.declared.run.Stop.{Stop}
 use Rattle.model.specs.declared.run.Stop.TheVariants as stop
 use Rattle.unit_io.specs.Counts.{Same}
 use Rattle.unit_io.specs.Service.{IsStop, KeepsCounts, Served}
+use Rattle.unit_io.specs.Ways.{Way, MayFail, FailsNoMore}
 use Rattle.unit_io.specs.declared.units.Units.{Ghosts as Units}
+
+-- what may fail
+
+pub no_more : (may : Way → ℕ → Bool) → FailsNoMore may may
+no_more may way unit h = h
+
+pub no_more_since : (a b c : Way → ℕ → Bool) → FailsNoMore a b → FailsNoMore b c → FailsNoMore a c
+no_more_since a b c s t way unit h = s way unit (t way unit h)
+
+-- what may fail now could fail before
+pub failing_before : {may now_may : Way → ℕ → Bool} (way : Way) (unit : ℕ) → FailsNoMore may now_may → MayFail now_may way unit → MayFail may way unit
+failing_before way unit sound f = record { so = sound way unit f.so }
 
 pub told_same : (o : Option Io) (P : Io → Io → Type 0) → ((io : Io) → P io io) → IfTold o o P
 told_same None P h = tt
@@ -26,16 +39,16 @@ told_then (Some a) (Some b) (Some c) P Q R f g h = f a b c g h
 
 -- what follows from what was said of the units, where the call around stopped as this one did
 pub served_on : {U : Type 0} {units : Units U} {why : Option Stop} {old new : U} {P Q : Io → Io → Type 0} → Served units why old new P → ((a b : Io) → P a b → Q a b) → Served units why old new Q
-served_on {P = P} {Q = Q} s f = record { told = told_on _ _ P Q f s.told; counts = s.counts }
+served_on {P = P} {Q = Q} s f = record { told = told_on _ _ P Q f s.told; counts = s.counts; sound = s.sound }
 
 -- the same where the call around has its own reason
 pub served_for : {U : Type 0} {units : Units U} {why why' : Option Stop} {old new : U} {P Q : Io → Io → Type 0} → Served units why old new P
     → (KeepsCounts why (units.failures old) (units.failures new) → KeepsCounts why' (units.failures old) (units.failures new)) → ((a b : Io) → P a b → Q a b) → Served units why' old new Q
-served_for {P = P} {Q = Q} s counts f = record { told = told_on _ _ P Q f s.told; counts = counts s.counts }
+served_for {P = P} {Q = Q} s counts f = record { told = told_on _ _ P Q f s.told; counts = counts s.counts; sound = s.sound }
 
 -- no unit was used
 pub served_none : {U : Type 0} (units : Units U) (u : U) {P : Io → Io → Type 0} → ((io : Io) → P io io) → Served units None u u P
-served_none units u {P} h = record { told = told_same (units.told u) P h; counts = λ unit. refl }
+served_none units u {P} h = record { told = told_same (units.told u) P h; counts = λ unit. refl; sound = no_more _ }
 
 -- ---- one call after another
 
@@ -49,4 +62,4 @@ counts_since None a b c s h = λ u. h u ∙ s u
 counts_since (Some e) a b c s h = stop_since e a b c s h
 
 pub served_then : {U : Type 0} {units : Units U} {why : Option Stop} {a b c : U} {P Q : Io → Io → Type 0} (R : Io → Io → Type 0) → Served units None a b P → Served units why b c Q → ((x y z : Io) → P x y → Q y z → R x z) → Served units why a c R
-served_then {why = why} {P = P} {Q = Q} R s t f = record { told = told_then _ _ _ P Q R f s.told t.told; counts = counts_since why _ _ _ s.counts t.counts }
+served_then {why = why} {P = P} {Q = Q} R s t f = record { told = told_then _ _ _ P Q R f s.told t.told; counts = counts_since why _ _ _ s.counts t.counts; sound = no_more_since _ _ _ s.sound t.sound }

@@ -1,5 +1,5 @@
 -- What units in memory hold.
-use Rattle.std.specs.Prelude.{◌≡◌, ℕ, ◌+◌, List, [], ◌∷◌, ◌++◌, Option, Some, None, length, map, nat_eq, ◌⊎◌, set, if◌then◌else◌}
+use Rattle.std.specs.Prelude.{◌≡◌, ℕ, ◌+◌, List, [], ◌∷◌, ◌++◌, Option, Some, None, length, map, nat_eq, ◌⊎◌, set, if◌then◌else◌, Bool, true, false}
 use Rattle.model.specs.Language.Io.{Io}
 use Rattle.unit_io.specs.Counts.{failures_at, one_more}
 use Rattle.model.specs.Language.Units.{bytes_on, first_of, rest_of}
@@ -9,6 +9,7 @@ use Rattle.unit_io.specs.declared.mem.OpenUnit.{OpenUnit}
 use Rattle.unit_io.specs.declared.mem.Side.{Side}
 use Rattle.unit_io.specs.declared.mem.Side.TheVariants.{Input, Output}
 use Rattle.unit_io.specs.declared.mem.Written.{Written}
+use Rattle.unit_io.specs.Ways.{Way, Reading, Writing}
 
 pub record UnitsView : Type 0 where
   -- in the order of opening
@@ -42,6 +43,16 @@ IsReadable _ = ⊥
 abbrev pub IsWritable : Option Side → Type 0
 IsWritable (Some (Output bytes)) = Unit {0}
 IsWritable _ = ⊥
+
+-- a unit fails only where it isn't open in the way in which it is used
+abbrev pub is_shut : Way → Option Side → Bool
+is_shut Reading (Some (Input records)) = false
+is_shut Reading _ = true
+is_shut Writing (Some (Output bytes)) = false
+is_shut Writing _ = true
+
+abbrev pub may_fail_of : UnitsView → Way → ℕ → Bool
+may_fail_of h way unit = is_shut way (side_at unit h.opened)
 
 -- the bytes that a unit for output keeps
 abbrev pub output_of : Option Side → List ℕ

@@ -6,4 +6,5 @@ pub mod Service
 pub mod Sides
 pub mod Streams
 pub mod Views
+pub mod Ways
 pub mod Written

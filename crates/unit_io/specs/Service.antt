@@ -7,6 +7,7 @@ use Rattle.model.specs.declared.run.Stop.{Stop}
 use Rattle.model.specs.declared.run.Stop.TheVariants as stop
 use Rattle.model.specs.declared.run.UnitFault.TheVariants as unit
 use Rattle.unit_io.specs.Counts.{Same, SameBut}
+use Rattle.unit_io.specs.Ways.{FailsNoMore}
 use Rattle.unit_io.specs.declared.units.Units.{Ghosts as Units}
 
 -- a unit's failure was counted there and nowhere else, and it isn't one of memory; for want of memory none was counted
@@ -23,6 +24,7 @@ KeepsCounts (Some why) old new = IsStop why old new
 pub record Served {U : Type 0} (units : Units U) (why : Option Stop) (old new : U) (P : Io → Io → Type 0) : Type 0 where
   pub told : IfTold (units.told old) (units.told new) P
   pub counts : KeepsCounts why (units.failures old) (units.failures new)
+  pub sound : FailsNoMore (units.may_fail old) (units.may_fail new)
 
 -- what was printed before is what was printed after
 abbrev pub PrintsNothing : Option Io → Option Io → Type 0

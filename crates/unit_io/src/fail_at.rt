@@ -4,6 +4,7 @@ ghost use Rattle.std.specs.Prelude.{◌≡◌, ◌≢◌, ◌↔◌, ◌≤◌, 
 ghost use Rattle.model.specs.Language.Units.{Reads, Writes, IsCounted, HasGrown};
 ghost use Rattle.unit_io.specs.Counts.{failures_at, one_more, Same, SameBut, IfNoneFailed};
 ghost use Rattle.unit_io.specs.Failing.{failures_in};
+ghost use Rattle.unit_io.specs.Ways.{any_may_fail, FailsNoMore, Reading, Writing};
 
 use crate::counts::Counts;
 use crate::units::Units;
@@ -65,10 +66,13 @@ impl<U: Units> FailAt<U> {
 impl<U: Units> Units for FailAt<U> {
     ghost use Rattle.unit_io.specs.Counts.{failures_at};
     ghost use Rattle.unit_io.specs.Failing.{failures_with};
+    ghost use Rattle.unit_io.specs.Ways.{any_may_fail};
 
     ghost told = { λ f. U.told f.units };
 
     ghost failures = { λ f unit. failures_with (U.failures f.units unit) (failures_at f.counts unit) };
+
+    ghost may_fail = { λ f. any_may_fail };
 
     fn read_record(&mut self, unit: u8) -> Result<Option<Text>, UnitFault>
         ensures ok { IfOk result (λ got.
@@ -86,6 +90,9 @@ impl<U: Units> Units for FailAt<U> {
         ensures others { SameBut unit
             (failures_in (U.failures self.old.units) self.old.counts)
             (failures_in (U.failures self.new.units) self.new.counts) }
+        ensures may { IfErr result (λ fault.
+            fault ≢ UnitFault.Memory → IsTrue (any_may_fail Reading unit)) }
+        ensures no_more { FailsNoMore any_may_fail any_may_fail }
         ensures left { self.new.left ≡ self.old.left - 1 }
         ensures fails { self.old.left ≡ 1 → (result ≡ Err UnitFault.ReadFailed)
             × (self.new.units ≡ self.old.units) }
@@ -115,6 +122,9 @@ impl<U: Units> Units for FailAt<U> {
         ensures others { SameBut unit
             (failures_in (U.failures self.old.units) self.old.counts)
             (failures_in (U.failures self.new.units) self.new.counts) }
+        ensures may { IfErr result (λ fault.
+            fault ≢ UnitFault.Memory → IsTrue (any_may_fail Writing unit)) }
+        ensures no_more { FailsNoMore any_may_fail any_may_fail }
         ensures left { self.new.left ≡ self.old.left - 1 }
         ensures fails { self.old.left ≡ 1 → (result ≡ Err UnitFault.WriteFailed)
             × (self.new.units ≡ self.old.units) }

@@ -1,13 +1,14 @@
 //! Units on standard input, standard output and files.
 
 ghost use Rattle.std.specs.Prelude.{◌≡◌, ◌≢◌, ◌≤◌, ◌<◌, ◌∷◌, ◌++◌, [], ℕ, List, Option, Some, None, length};
-ghost use Rattle.std.specs.Prelude.{IfOk, IfErr, OnErr, OnOk, false, replicate};
+ghost use Rattle.std.specs.Prelude.{IfOk, IfErr, OnErr, OnOk, IsTrue, false, replicate};
 ghost use Rattle.std.specs.Io.KnownBytes.{Appends, Keeps};
 ghost use Rattle.model.specs.Language.Units.{IsCounted, Reads, Writes};
 ghost use Rattle.unit_io.specs.Counts.{failures_at, Same, SameBut, IfMemory, IfNoneFailed};
 ghost use Rattle.unit_io.specs.Files.{back_of, back_on, file_on, left_on, written_on};
 ghost use Rattle.unit_io.specs.Sides.{exposed, IsHandedOn, kept_by, left_by, TakesFirst, written_by};
 ghost use Rattle.unit_io.specs.Streams.{AppendsBeginning, HasNoFeed};
+ghost use Rattle.unit_io.specs.Ways.{any_may_fail, FailsNoMore, Reading, Writing};
 
 use crate::counts::Counts;
 use crate::given::GivenFile;
@@ -161,10 +162,13 @@ impl<'a, S: UnitSystem> FileUnits<'a, S> {
 impl<S: UnitSystem> Units for FileUnits<'_, S> {
     ghost use Rattle.unit_io.specs.Counts.{failures_at};
     ghost use Rattle.unit_io.specs.Files.{told_of};
+    ghost use Rattle.unit_io.specs.Ways.{any_may_fail};
 
     ghost told = { told_of S.exposes };
 
     ghost failures = { λ units. failures_at units.counts };
+
+    ghost may_fail = { λ units. any_may_fail };
 
     fn read_record(&mut self, unit: u8) -> Result<Option<Text>, UnitFault>
         ensures ok { IfOk result (λ got.
@@ -176,6 +180,9 @@ impl<S: UnitSystem> Units for FileUnits<'_, S> {
         ensures kept { IfNoneFailed result
             (Same (failures_at self.old.counts) (failures_at self.new.counts)) }
         ensures others { SameBut unit (failures_at self.old.counts) (failures_at self.new.counts) }
+        ensures may { IfErr result (λ fault.
+            fault ≢ UnitFault.Memory → IsTrue (any_may_fail Reading unit)) }
+        ensures no_more { FailsNoMore any_may_fail any_may_fail }
         // Where more of standard input has to be read from the system's stream, all that was printed was written to the
         // system's, or the system refused it.
         ensures handed_on { unit ≡ 5 → file_on unit self.old.given ≡ None → HasNoFeed self.old.held
@@ -200,6 +207,9 @@ impl<S: UnitSystem> Units for FileUnits<'_, S> {
         ensures kept { IfNoneFailed result
             (Same (failures_at self.old.counts) (failures_at self.new.counts)) }
         ensures others { SameBut unit (failures_at self.old.counts) (failures_at self.new.counts) }
+        ensures may { IfErr result (λ fault.
+            fault ≢ UnitFault.Memory → IsTrue (any_may_fail Writing unit)) }
+        ensures no_more { FailsNoMore any_may_fail any_may_fail }
         // Once the system refused something of standard output, that takes no more.
         ensures sound { OnOk result (unit ≡ 6 → file_on unit self.old.given ≡ None
             → self.old.refused ≡ false) }

@@ -1,11 +1,12 @@
 //! Units in memory.
 
 ghost use Rattle.std.specs.Prelude.{◌≡◌, ◌↔◌, ◌≤◌, ◌⊎◌, ℕ, [], ◌∷◌, ◌++◌, Some, None, Err, replicate};
-ghost use Rattle.std.specs.Prelude.{option_copied, set, IfOk, OnOk, IfErr, OnErr};
+ghost use Rattle.std.specs.Prelude.{◌≢◌, option_copied, set, IfOk, OnOk, IfErr, OnErr, IsTrue};
 ghost use Rattle.model.specs.Language.Units.{records_of, Reads, Writes, IsCounted};
 ghost use Rattle.unit_io.specs.Counts.{Same, SameBut, IfNoneFailed};
-ghost use Rattle.unit_io.specs.Held.{side_at, output_of, place_of, written_to, io_of, failures_of, refused};
+ghost use Rattle.unit_io.specs.Held.{side_at, output_of, place_of, written_to, io_of, failures_of, may_fail_of, refused};
 ghost use Rattle.unit_io.specs.Held.{IsRead, IsWritten, IsReadable, IsWritable, IsOfMemUnits, with_unit};
+ghost use Rattle.unit_io.specs.Ways.{FailsNoMore, Reading, Writing};
 ghost use Rattle.unit_io.specs.declared.mem.Side.TheVariants.{Input, Output};
 
 use crate::counts::Counts;
@@ -147,11 +148,13 @@ impl MemUnits {
 
 impl Units for MemUnits {
     ghost use Rattle.std.specs.Prelude.{Some};
-    ghost use Rattle.unit_io.specs.Held.{io_of, failures_of};
+    ghost use Rattle.unit_io.specs.Held.{io_of, failures_of, may_fail_of};
 
     ghost told = { λ m. Some (io_of m) };
 
     ghost failures = { failures_of };
+
+    ghost may_fail = { may_fail_of };
 
     fn read_record(&mut self, unit: u8) -> Result<Option<Text>, UnitFault>
         ensures ok { IfOk result (λ got.
@@ -162,6 +165,9 @@ impl Units for MemUnits {
         ensures grows { (u : ℕ) → failures_of self.old u ≤ failures_of self.new u }
         ensures kept { IfNoneFailed result (Same (failures_of self.old) (failures_of self.new)) }
         ensures others { SameBut unit (failures_of self.old) (failures_of self.new) }
+        ensures may { IfErr result (λ fault.
+            fault ≢ UnitFault.Memory → IsTrue (may_fail_of self.old Reading unit)) }
+        ensures no_more { FailsNoMore (may_fail_of self.old) (may_fail_of self.new) }
         ensures read { IfOk result (λ got. IsRead unit got self.old self.new) }
         ensures refused { IfErr result (λ fault. self.new ≡ refused fault unit self.old) }
         ensures unopened { (result ≡ Err UnitFault.NotOpen)
@@ -190,6 +196,9 @@ impl Units for MemUnits {
         ensures grows { (u : ℕ) → failures_of self.old u ≤ failures_of self.new u }
         ensures kept { IfNoneFailed result (Same (failures_of self.old) (failures_of self.new)) }
         ensures others { SameBut unit (failures_of self.old) (failures_of self.new) }
+        ensures may { IfErr result (λ fault.
+            fault ≢ UnitFault.Memory → IsTrue (may_fail_of self.old Writing unit)) }
+        ensures no_more { FailsNoMore (may_fail_of self.old) (may_fail_of self.new) }
         ensures written { OnOk result (IsWritten unit bytes.now self.old self.new) }
         ensures refused { IfErr result (λ fault. self.new ≡ refused fault unit self.old) }
         ensures unopened { (result ≡ Err UnitFault.NotOpen)

@@ -1,6 +1,6 @@
 -- Which unit a call asks that a unit stopped.
-use Rattle.std.proofs.Common.{◌≡◌, ℕ, List, [], ◌∷◌, ◌++◌, append_assoc, length, pos, Bool, true, false, Option, Some, None, Result, Ok, Err, nat_eq, int_le, refl, sym, ap, ◌∙◌, subst, inl, inr}
-use Rattle.std.specs.Prelude.{◌⊎◌, if◌then◌else◌}
+use Rattle.std.proofs.Common.{◌≡◌, ◌≢◌, ℕ, List, [], ◌∷◌, ◌++◌, append_assoc, length, pos, Bool, true, false, Option, Some, None, Result, Ok, Err, nat_eq, int_le, refl, sym, ap, ◌∙◌, subst, inl, inr}
+use Rattle.std.specs.Prelude.{◌⊎◌, IsTrue, if◌then◌else◌}
 use Rattle.std.specs.Result.{IsErrAnd}
 use Rattle.std.proofs.lemmas.Bool.Decides.{Decides-eqb}
 use Rattle.model.specs.declared.run.ErrorCode.TheVariants as error
@@ -15,6 +15,7 @@ use Rattle.model.specs.Language.Operators.{as_read, print_text, take_record}
 use Rattle.model.specs.Language.Values.{Str, keys_of, set_io, set_var}
 use Rattle.model.specs.Laws.Agreement.{Records}
 use Rattle.model.specs.Machine.Steps.{MVal, MW}
+use Rattle.unit_io.specs.Ways.{Way, MayFail, Reading, Writing}
 use Rattle.world.specs.Answers.{IfStopped, stop_of, stopped_by}
 use Rattle.world.specs.Asking.{IfUnit, IsNextOn, Prints, PrintsOn, Takes, TakesFrom, TakesOrPrints, io_after}
 use Rattle.world.specs.Held.{WorldView, world_of}
@@ -29,14 +30,14 @@ if_unit (Some stop.NoMemory) P Q f h = tt
 if_unit (Some (stop.Unit u cause)) P Q f h = f u h
 
 -- one that refused a call
-pub refused_by : (u : ℕ) (cause : UnitFault) (s : Stop) (P : ℕ → Type 0) → s ≡ stop_of u cause → P u → IfUnit (Some s) P
-refused_by u cause s P e h = subst (λ x. IfUnit (Some x) P) (sym e) (by_cause cause)
+pub refused_by : (u : ℕ) (cause : UnitFault) (s : Stop) (P : ℕ → Type 0) → s ≡ stop_of u cause → (cause ≢ unit.Memory → P u) → IfUnit (Some s) P
+refused_by u cause s P e h = subst (λ x. IfUnit (Some x) P) (sym e) (by_cause cause h)
   where
-    by_cause : (x : UnitFault) → IfUnit (Some (stop_of u x)) P
-    by_cause unit.NotOpen = h
-    by_cause unit.ReadFailed = h
-    by_cause unit.WriteFailed = h
-    by_cause unit.Memory = tt
+    by_cause : (x : UnitFault) → (x ≢ unit.Memory → P u) → IfUnit (Some (stop_of u x)) P
+    by_cause unit.NotOpen h = h (λ e. cc)
+    by_cause unit.ReadFailed h = h (λ e. cc)
+    by_cause unit.WriteFailed h = h (λ e. cc)
+    by_cause unit.Memory h = tt
 
 -- a call that stops for want of memory alone
 pub no_unit : {A : Type 0} (result : Result A Fault) (P : ℕ → Type 0) → IfStopped result (λ s. s ≡ stop.NoMemory) → IfUnit (stopped_by result) P
@@ -57,18 +58,22 @@ takes_as u f g e h = (h.0, λ same. h.1 (ap (λ (x : Io). x.left u) (sym (e h.0)
 pub prints_as : (u : ℕ) (f g : Io → Io) → ((io : Io) → f io ≡ g io) → PrintsOn u g → PrintsOn u f
 prints_as u f g e h = λ io. let next = h io in (next.0, next.1, ap (λ (x : Io). x.printed) (e io) ∙ next.2)
 
-module _ (why : Option Stop) (f g : Io → Io) (e : (io : Io) → f io ≡ g io) where
-  pub takes_on : Takes why g → Takes why f
-  takes_on h = if_unit why (λ u. TakesFrom u g) (λ u. TakesFrom u f) (λ u. takes_as u f g e) h
+module _ (may : Way → ℕ → Bool) (why : Option Stop) (f g : Io → Io) (e : (io : Io) → f io ≡ g io) where
+  pub takes_on : Takes may why g → Takes may why f
+  takes_on h = if_unit why (λ u. MayFail may Reading u × TakesFrom u g) (λ u. MayFail may Reading u × TakesFrom u f) (λ u x. (x.0, takes_as u f g e x.1)) h
 
-  pub prints_on : Prints why g → Prints why f
-  prints_on h = if_unit why (λ u. PrintsOn u g) (λ u. PrintsOn u f) (λ u. prints_as u f g e) h
+  pub prints_on : Prints may why g → Prints may why f
+  prints_on h = if_unit why (λ u. MayFail may Writing u × PrintsOn u g) (λ u. MayFail may Writing u × PrintsOn u f) (λ u x. (x.0, prints_as u f g e x.1)) h
 
-  pub asks_taking : Takes why g → TakesOrPrints why f
-  asks_taking h = if_unit why (λ u. TakesFrom u g) (λ u. TakesFrom u f ⊎ PrintsOn u f) (λ u x. inl (takes_as u f g e x)) h
+  pub asks_taking : Takes may why g → TakesOrPrints may why f
+  asks_taking h =
+      if_unit why (λ u. MayFail may Reading u × TakesFrom u g) (λ u. (MayFail may Reading u × TakesFrom u f) ⊎ (MayFail may Writing u × PrintsOn u f))
+      (λ u x. inl (x.0, takes_as u f g e x.1)) h
 
-  pub asks_printing : Prints why g → TakesOrPrints why f
-  asks_printing h = if_unit why (λ u. PrintsOn u g) (λ u. TakesFrom u f ⊎ PrintsOn u f) (λ u x. inr (prints_as u f g e x)) h
+  pub asks_printing : Prints may why g → TakesOrPrints may why f
+  asks_printing h =
+      if_unit why (λ u. MayFail may Writing u × PrintsOn u g) (λ u. (MayFail may Reading u × TakesFrom u f) ⊎ (MayFail may Writing u × PrintsOn u f))
+      (λ u x. inr (x.0, prints_as u f g e x.1)) h
 
 -- ---- the next record
 
@@ -111,3 +116,13 @@ takes_record x u h =
 
 pub prints_text : (u : ℕ) (v : MVal) (s : Bytes) (h : WorldView) → to_text v ≡ Got s → PrintsOn u (λ io. io_after (print_text u (to_text v) (world_of h io)))
 prints_text u v s h e = λ io. (s, [], ap (λ (t : Conv Bytes). (io_after (print_text u t (world_of h io))).printed) e)
+
+-- ---- calls that a unit refused
+
+pub refused_read : (may : Way → ℕ → Bool) (u : ℕ) (cause : UnitFault) (s : Stop) (x : Bytes) (h : WorldView) → s ≡ stop_of u cause → (cause ≢ unit.Memory → IsTrue (may Reading u)) → Takes may (Some s) (λ io. io_after (take_record x u (io.left u) (world_of h io)))
+refused_read may u cause s x h is failed =
+    refused_by u cause s (λ v. MayFail may Reading v × TakesFrom v (λ io. io_after (take_record x u (io.left u) (world_of h io)))) is (λ e. (record { so = failed e }, takes_record x u h))
+
+pub refused_print : (may : Way → ℕ → Bool) (u : ℕ) (cause : UnitFault) (s : Stop) (v : MVal) (text : Bytes) (h : WorldView) → s ≡ stop_of u cause → (cause ≢ unit.Memory → IsTrue (may Writing u)) → to_text v ≡ Got text → Prints may (Some s) (λ io. io_after (print_text u (to_text v) (world_of h io)))
+refused_print may u cause s v text h is failed got =
+    refused_by u cause s (λ w. MayFail may Writing w × PrintsOn w (λ io. io_after (print_text u (to_text v) (world_of h io)))) is (λ e. (record { so = failed e }, prints_text u v text h got))

@@ -19,6 +19,7 @@ use Rattle.model.specs.Deck.Target as target
 use Rattle.pattern_compiler.specs.View.{name_of}
 use Rattle.pattern_compiler.specs.declared.instr.Name.{Name}
 use Rattle.pattern_compiler.specs.declared.instr.Name.TheVariants as name
+use Rattle.unit_io.specs.Ways.{Way}
 use Rattle.world.specs.Values.{value_of}
 use Rattle.world.specs.Answers.{AnswersAs, AnswersOrFails, LeadsTo, done}
 use Rattle.world.specs.Held.{WorldView, IsSet, IsSetOrKept, world_of, variable_at, value_in, input_in, output_in, taken}
@@ -139,9 +140,9 @@ fetched_unit x u h new variable i r o m at reads unit records =
     (λ io io' a. subst (λ p. AnswersOrFails r (world_of new io') p) (sym (reads_unit x u h variable i at reads unit io)) a)
     records
 
-pub fetch_asks : (x : Bytes) (u : ℕ) (h : WorldView) (variable : var.Variable) (i : Option ℕ) (why : Option Stop) → variable_at x h.variables ≡ Some variable → i ≡ (if is_zero h.keys.input then None else variable.input) → i ≡ Some u
-    → Takes why (λ io. io_after (take_record x u (io.left u) (world_of h io))) → Takes why (λ io. io_after (fetch_op (Variable x) (world_of h io)))
-fetch_asks x u h variable i why at reads unit t = takes_on why _ _ (λ io. ap io_after (reads_unit x u h variable i at reads unit io)) t
+pub fetch_asks : (may : Way → ℕ → Bool) (x : Bytes) (u : ℕ) (h : WorldView) (variable : var.Variable) (i : Option ℕ) (why : Option Stop) → variable_at x h.variables ≡ Some variable → i ≡ (if is_zero h.keys.input then None else variable.input) → i ≡ Some u
+    → Takes may why (λ io. io_after (take_record x u (io.left u) (world_of h io))) → Takes may why (λ io. io_after (fetch_op (Variable x) (world_of h io)))
+fetch_asks may x u h variable i why at reads unit t = takes_on may why _ _ (λ io. ap io_after (reads_unit x u h variable i at reads unit io)) t
 
 -- ---- assigning
 
@@ -159,9 +160,9 @@ written u v v' h r o n same on prints =
     (λ io io' f. subst (λ p. AnswersAs r (world_of h io') p) (sym (written_text u v v' h same on io)) (f h))
     prints
 
-pub write_asks : (u : ℕ) (v v' : MVal) (h : WorldView) (why : Option Stop) → v ≡ v' → is_zero h.keys.output ≡ false
-    → ((k : WorldView) → Prints why (λ io. io_after (print_text u (to_text v) (world_of k io)))) → Prints why (λ io. io_after (write_var (Some u) v' (world_of h io)))
-write_asks u v v' h why same on prints = prints_on why _ _ (λ io. ap io_after (written_text u v v' h same on io)) (prints h)
+pub write_asks : (may : Way → ℕ → Bool) (u : ℕ) (v v' : MVal) (h : WorldView) (why : Option Stop) → v ≡ v' → is_zero h.keys.output ≡ false
+    → ((k : WorldView) → Prints may why (λ io. io_after (print_text u (to_text v) (world_of k io)))) → Prints may why (λ io. io_after (write_var (Some u) v' (world_of h io)))
+write_asks may u v v' h why same on prints = prints_on may why _ _ (λ io. ap io_after (written_text u v v' h same on io)) (prints h)
 
 if_same : (x : Bytes) (v w : MVal) → (if bytes_eq x x then v else w) ≡ v
 if_same x v w = ap (λ b. if b then v else w) ((bytes_eq-Decides x x).1 refl)
@@ -182,9 +183,9 @@ assigned_to_unit x u v h new r o m out set writes =
     (λ io io' a. subst (λ p. AnswersAs r (world_of new io') p) (sym (writes_to x u v h new out set io)) a)
     writes
 
-pub assign_asks : (x : Bytes) (u : ℕ) (v : MVal) (h new : WorldView) (why : Option Stop) → Some u ≡ output_in (variable_at x h.variables) → ((io : Io) → world_of new io ≡ set_var x v (world_of h io))
-    → Prints why (λ io. io_after (write_var (Some u) (value_in (variable_at x new.variables)) (world_of new io))) → Prints why (λ io. io_after (assign_op (Variable x) v (world_of h io)))
-assign_asks x u v h new why out set writes = prints_on why _ _ (λ io. ap io_after (writes_to x u v h new out set io)) writes
+pub assign_asks : (may : Way → ℕ → Bool) (x : Bytes) (u : ℕ) (v : MVal) (h new : WorldView) (why : Option Stop) → Some u ≡ output_in (variable_at x h.variables) → ((io : Io) → world_of new io ≡ set_var x v (world_of h io))
+    → Prints may why (λ io. io_after (write_var (Some u) (value_in (variable_at x new.variables)) (world_of new io))) → Prints may why (λ io. io_after (assign_op (Variable x) v (world_of h io)))
+assign_asks may x u v h new why out set writes = prints_on may why _ _ (λ io. ap io_after (writes_to x u v h new out set io)) writes
 
 pub assigned_alone : (x : Bytes) (v : MVal) (h new : WorldView) (o : Option Io) → None ≡ output_in (variable_at x h.variables)
     → ((io : Io) → world_of new io ≡ set_var x v (world_of h io))

@@ -401,7 +401,8 @@ impl World {
             AnswersOrFails (answer_map (option_map value_of) result) (world_of self.new io')
             (as_value (given_of given) (world_of self.old io))) }
         ensures quiet { PrintsNothing (U.told units.old) (U.told units.new) }
-        ensures asked { Takes (stopped_by result) (λ io. io_after (as_value (given_of given) (world_of self.old io))) }
+        ensures asked { Takes (U.may_fail units.old) (stopped_by result) (λ io. io_after
+            (as_value (given_of given) (world_of self.old io))) }
         ensures err { OnErr result (self.new ≡ self.old) }
         ensures names { self.new.names ≡ self.old.names }
     {

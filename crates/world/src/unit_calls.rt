@@ -34,7 +34,7 @@ impl World {
             AnswersOrFails (answer_map (option_map value_of) result) (world_of self.new io')
             (fetch_op (name_of name.now) (world_of self.old io))) }
         ensures quiet { PrintsNothing (U.told units.old) (U.told units.new) }
-        ensures asked { Takes (stopped_by result) (λ io. io_after
+        ensures asked { Takes (U.may_fail units.old) (stopped_by result) (λ io. io_after
             (fetch_op (name_of name.now) (world_of self.old io))) }
         ensures err { OnErr result (self.new ≡ self.old) }
         ensures end { result ≡ Ok None → self.new ≡ self.old }
@@ -55,7 +55,7 @@ impl World {
             AnswersOrFails (answer_map (option_map value_of) result) (world_of self.new io')
             (fetch_op (name_of name.now) (world_of self.old io))) }
         ensures quiet { PrintsNothing (U.told units.old) (U.told units.new) }
-        ensures asked { Takes (stopped_by result) (λ io. io_after
+        ensures asked { Takes (U.may_fail units.old) (stopped_by result) (λ io. io_after
             (fetch_op (name_of name.now) (world_of self.old io))) }
         ensures err { OnErr result (self.new ≡ self.old) }
         ensures end { result ≡ Ok None → self.new ≡ self.old }
@@ -71,32 +71,6 @@ impl World {
         }
     }
 
-    /// `fetch` of the variable of this name in a slot that it keeps. Names aren't compared.
-    #[inline(always)]
-    pub fn fetch_in<U: Units>(
-        &mut self,
-        units: &mut U,
-        name: &Text,
-        slot: u32,
-    ) -> Result<Option<Value>, Fault>
-        requires { slice_get self.old.names slot ≡ Some name.now }
-        ensures served { Served U.Units (stopped_by result) units.old units.new (λ io io'.
-            AnswersOrFails (answer_map (option_map value_of) result) (world_of self.new io')
-            (fetch_op (Variable name.now) (world_of self.old io))) }
-        ensures quiet { PrintsNothing (U.told units.old) (U.told units.new) }
-        ensures asked { Takes (stopped_by result) (λ io. io_after
-            (fetch_op (Variable name.now) (world_of self.old io))) }
-        ensures err { OnErr result (self.new ≡ self.old) }
-        ensures end { result ≡ Ok None → self.new ≡ self.old }
-        ensures names { self.new.names ≡ self.old.names }
-    {
-        let variable = self.variable_named(name, slot);
-        let Some(unit) = self.reads(variable) else {
-            return Ok(Some(variable.value.clone()?));
-        };
-        self.read(units, name, slot, unit)
-    }
-
     // The value of a variable, or the next record of the unit that it reads from.
     fn fetch_variable<U: Units>(
         &mut self,
@@ -108,7 +82,7 @@ impl World {
             AnswersOrFails (answer_map (option_map value_of) result) (world_of self.new io')
             (fetch_op (Variable name.now) (world_of self.old io))) }
         ensures quiet { PrintsNothing (U.told units.old) (U.told units.new) }
-        ensures asked { Takes (stopped_by result) (λ io. io_after
+        ensures asked { Takes (U.may_fail units.old) (stopped_by result) (λ io. io_after
             (fetch_op (Variable name.now) (world_of self.old io))) }
         ensures err { OnErr result (self.new ≡ self.old) }
         ensures end { result ≡ Ok None → self.new ≡ self.old }
@@ -137,7 +111,7 @@ impl World {
             AnswersOrFails (answer_map (option_map value_of) result) (world_of self.new io')
             (take_record name.now unit (io.left unit) (world_of self.old io))) }
         ensures quiet { PrintsNothing (U.told units.old) (U.told units.new) }
-        ensures asked { Takes (stopped_by result) (λ io. io_after
+        ensures asked { Takes (U.may_fail units.old) (stopped_by result) (λ io. io_after
             (take_record name.now unit (io.left unit) (world_of self.old io))) }
         ensures err { OnErr result (self.new ≡ self.old) }
         ensures end { result ≡ Ok None → self.new ≡ self.old }
@@ -194,7 +168,7 @@ impl World {
             AnswersAs (done result) (world_of self.new io')
             (assign_op (name_of name.now) (value_of value) (world_of self.old io))) }
         ensures quiet { IsQuiet (stopped_by result) (U.told units.old) (U.told units.new) }
-        ensures asked { Prints (stopped_by result) (λ io. io_after
+        ensures asked { Prints (U.may_fail units.old) (stopped_by result) (λ io. io_after
             (assign_op (name_of name.now) (value_of value) (world_of self.old io))) }
         ensures ok { OnOk result (IsSet (name_of name.now) (value_of value) self.old self.new) }
         ensures err { OnErr result
@@ -218,7 +192,7 @@ impl World {
             AnswersAs (done result) (world_of self.new io')
             (assign_op (name_of name.now) (value_of value) (world_of self.old io))) }
         ensures quiet { IsQuiet (stopped_by result) (U.told units.old) (U.told units.new) }
-        ensures asked { Prints (stopped_by result) (λ io. io_after
+        ensures asked { Prints (U.may_fail units.old) (stopped_by result) (λ io. io_after
             (assign_op (name_of name.now) (value_of value) (world_of self.old io))) }
         ensures ok { OnOk result (IsSet (name_of name.now) (value_of value) self.old self.new) }
         ensures err { OnErr result
@@ -251,7 +225,7 @@ impl World {
             AnswersAs (done result) (world_of self.new io')
             (assign_op (Variable name.now) (value_of value) (world_of self.old io))) }
         ensures quiet { IsQuiet (stopped_by result) (U.told units.old) (U.told units.new) }
-        ensures asked { Prints (stopped_by result) (λ io. io_after
+        ensures asked { Prints (U.may_fail units.old) (stopped_by result) (λ io. io_after
             (assign_op (Variable name.now) (value_of value) (world_of self.old io))) }
         ensures ok { OnOk result (IsSet (Variable name.now) (value_of value) self.old self.new) }
         ensures err { OnErr result
@@ -259,34 +233,6 @@ impl World {
         ensures names { self.new.names ≡ self.old.names }
     {
         match self.set(name, slot, value)? {
-            Some(unit) => self.write(alloc, units, name, slot, unit),
-            None => Ok(()),
-        }
-    }
-
-    /// `assign` to the variable of this name in a slot that it keeps. Names aren't compared.
-    #[inline(always)]
-    pub fn assign_in<U: Units>(
-        &mut self,
-        alloc: Global,
-        units: &mut U,
-        name: &Text,
-        slot: u32,
-        value: Value,
-    ) -> Result<(), Fault>
-        requires { slice_get self.old.names slot ≡ Some name.now }
-        ensures served { Served U.Units (stopped_by result) units.old units.new (λ io io'.
-            AnswersAs (done result) (world_of self.new io')
-            (assign_op (Variable name.now) (value_of value) (world_of self.old io))) }
-        ensures quiet { IsQuiet (stopped_by result) (U.told units.old) (U.told units.new) }
-        ensures asked { Prints (stopped_by result) (λ io. io_after
-            (assign_op (Variable name.now) (value_of value) (world_of self.old io))) }
-        ensures ok { OnOk result (IsSet (Variable name.now) (value_of value) self.old self.new) }
-        ensures err { OnErr result
-            (IsSetOrKept (Variable name.now) (value_of value) self.old self.new) }
-        ensures names { self.new.names ≡ self.old.names }
-    {
-        match self.set_in(name, slot, value) {
             Some(unit) => self.write(alloc, units, name, slot, unit),
             None => Ok(()),
         }
@@ -306,7 +252,7 @@ impl World {
             (splice_op (name_of name.now) span.now.subject span.now.start span.now.end
             (value_of value.now) (world_of self.old io))) }
         ensures quiet { IsQuiet (stopped_by result) (U.told units.old) (U.told units.new) }
-        ensures asked { Prints (stopped_by result) (λ io. io_after
+        ensures asked { Prints (U.may_fail units.old) (stopped_by result) (λ io. io_after
             (splice_op (name_of name.now) span.now.subject span.now.start span.now.end
             (value_of value.now) (world_of self.old io))) }
         ensures only { (self.new ≡ self.old) ⊎
@@ -331,7 +277,7 @@ impl World {
             (splice_op (name_of name.now) span.now.subject span.now.start span.now.end
             (value_of value.now) (world_of self.old io))) }
         ensures quiet { IsQuiet (stopped_by result) (U.told units.old) (U.told units.new) }
-        ensures asked { Prints (stopped_by result) (λ io. io_after
+        ensures asked { Prints (U.may_fail units.old) (stopped_by result) (λ io. io_after
             (splice_op (name_of name.now) span.now.subject span.now.start span.now.end
             (value_of value.now) (world_of self.old io))) }
         ensures only { (self.new ≡ self.old) ⊎
@@ -340,33 +286,6 @@ impl World {
     {
         let whole = self.replaced(alloc, span, value)?;
         self.assign_at(alloc, units, name, slot, whole)
-    }
-
-    /// `splice` of the variable of this name in a slot that it keeps. Names aren't compared.
-    pub fn splice_in<U: Units>(
-        &mut self,
-        alloc: Global,
-        units: &mut U,
-        name: &Text,
-        slot: u32,
-        span: &Span,
-        value: &Value,
-    ) -> Result<(), Fault>
-        requires { slice_get self.old.names slot ≡ Some name.now }
-        ensures served { Served U.Units (stopped_by result) units.old units.new (λ io io'.
-            AnswersAs (done result) (world_of self.new io')
-            (splice_op (Variable name.now) span.now.subject span.now.start span.now.end
-            (value_of value.now) (world_of self.old io))) }
-        ensures quiet { IsQuiet (stopped_by result) (U.told units.old) (U.told units.new) }
-        ensures asked { Prints (stopped_by result) (λ io. io_after
-            (splice_op (Variable name.now) span.now.subject span.now.start span.now.end
-            (value_of value.now) (world_of self.old io))) }
-        ensures only { (self.new ≡ self.old) ⊎
-            ((v : MVal) × IsSet (Variable name.now) v self.old self.new) }
-        ensures names { self.new.names ≡ self.old.names }
-    {
-        let whole = self.replaced(alloc, span, value)?;
-        self.assign_in(alloc, units, name, slot, whole)
     }
 
     // Writes a variable's value, unless `&OUTPUT` is 0.
@@ -384,7 +303,7 @@ impl World {
             (write_var (Some unit) (value_in (variable_at name.now self.now.variables))
             (world_of self.now io))) }
         ensures quiet { IsQuiet (stopped_by result) (U.told units.old) (U.told units.new) }
-        ensures asked { Prints (stopped_by result) (λ io. io_after
+        ensures asked { Prints (U.may_fail units.old) (stopped_by result) (λ io. io_after
             (write_var (Some unit) (value_in (variable_at name.now self.now.variables))
             (world_of self.now io))) }
     {
@@ -404,7 +323,7 @@ fn print<U: Units>(alloc: Global, units: &mut U, unit: u8, value: &Value) -> Res
         (h : WorldView) → AnswersAs (done result) (world_of h io')
         (print_text unit (to_text (value_of value.now)) (world_of h io))) }
     ensures quiet { IsQuiet (stopped_by result) (U.told units.old) (U.told units.new) }
-    ensures asked { (h : WorldView) → Prints (stopped_by result) (λ io. io_after
+    ensures asked { (h : WorldView) → Prints (U.may_fail units.old) (stopped_by result) (λ io. io_after
         (print_text unit (to_text (value_of value.now)) (world_of h io))) }
 {
     let text = match value.to_text(alloc) {

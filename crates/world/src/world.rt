@@ -408,16 +408,6 @@ impl World {
         &self.variables[slot as usize]
     }
 
-    // The variable of this name in a slot that it keeps. Names aren't compared.
-    #[inline(always)]
-    pub(crate) fn variable_named(&self, name: &Text, slot: u32) -> &Variable
-        requires { slice_get self.now.names slot ≡ Some name.now }
-        ensures { variable_at name.now self.now.variables ≡ Some result.now }
-    {
-        let _name = name;
-        self.variable_in(slot)
-    }
-
     /// The value of the variable in a slot that it keeps, if it reads from no unit.
     #[inline(always)]
     pub fn plain_in(&self, slot: u32) -> Option<&Value>
@@ -797,26 +787,6 @@ impl World {
             Some(variable) => {
                 variable.set(value);
                 Ok(variable.output)
-            }
-            None => unreachable!(),
-        }
-    }
-
-    /// Gives the variable of this name in a slot that it keeps another value, and tells the unit that it writes to. Names
-    /// aren't compared.
-    #[inline(always)]
-    pub(crate) fn set_in(&mut self, name: &Text, slot: u32, value: Value) -> Option<u8>
-        requires { slice_get self.old.names slot ≡ Some name.now }
-        ensures set { (io : Io) → world_of self.new io
-            ≡ set_var name.now (value_of value) (world_of self.old io) }
-        ensures output { result ≡ output_in (variable_at name.now self.old.variables) }
-        ensures names { self.new.names ≡ self.old.names }
-    {
-        let _name = name;
-        match self.variables.get_index_mut(slot as usize) {
-            Some(variable) => {
-                variable.set(value);
-                variable.output
             }
             None => unreachable!(),
         }

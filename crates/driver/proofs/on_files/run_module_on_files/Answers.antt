@@ -1,5 +1,6 @@
 use Rattle.std.proofs.Common.{subst, sym}
 use Rattle.unit_io.specs.Files.{told_of}
+use Rattle.unit_io.specs.Ways.{any_may_fail}
 use Rattle.driver.specs.Whole.{IsModuleRun, RefinesMeaning}
 use Rattle.driver.proofs.FileRuns.{card_kept, finished_meaning, handed_on, run_on_files, sound_units, writes}
 use Rattle.driver.proofs.on_files.run_module_on_files.Goals as goal
@@ -29,5 +30,5 @@ returns-clause-card g c =
 
 pub returns-clause-run : goal.returns-clause-run
 returns-clause-run g c =
-    run_on_files g.S.UnitSystem.exposes (IsModuleRun c.args.bytes.now c.args.bound) c.in_ok-ran.ran.status c.finished.result.status c.flush.result c.args.units.now c.run_with_card.new.units c.flush.new.self
+    run_on_files g.S.UnitSystem.exposes (IsModuleRun c.args.bytes.now c.args.bound any_may_fail) c.in_ok-ran.ran.status c.finished.result.status c.flush.result c.args.units.now c.run_with_card.new.units c.flush.new.self
     c.in_ok-ran.ensures.run c.in_ok-ran.ensures.counts c.finished.ensures.status c.flush.ensures.told c.flush.ensures.all c.flush.ensures.same c.flush.ensures.counted c.flush.ensures.others

@@ -38,5 +38,5 @@ returns-in_err-assign-clause-next g c =
     let result = c.from_residual-in_err-assign.result in
     let f = c.in_err-assign.field-0.0 in
     pending_next c.args.world.now c.loop-assignment.world c.args.pending.now c.loop-assignment.assignment-index x (value_of (value.String c.in_ok-clone.field-0)) c.loop-assignment-test.true c.assignment-item.is (search rules)
-    (stopped_by result) _ _ _ c.loop-assignment.invariant.served.told
+    _ _ (stopped_by result) _ _ _ c.loop-assignment.invariant.served.sound c.loop-assignment.invariant.served.told
     (passed_on result f _ c.from_residual-in_err-assign.ensures.1 c.in_err-assign.ensures.asked) (residual_quiet result f _ _ c.from_residual-in_err-assign.ensures.1 c.in_err-assign.ensures.quiet)

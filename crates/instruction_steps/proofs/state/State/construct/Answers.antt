@@ -33,7 +33,7 @@ returns-in-Err-clause-served g c =
 pub returns-in-Ok-clause-asked : goal.returns-in-Ok-clause-asked
 returns-in-Ok-clause-asked g c im fs =
     let s = c.args.self.now in
-    takes_on (halted_by c.resume.result) _ _
+    takes_on _ (halted_by c.resume.result) _ _
     (λ io. ap (λ o. io_at (given_by im fs c.args.want_name c.args.next o s)) (ap (λ xs. construct_op c.args.name.now c.args.fields.now (map value_of xs) (world_of s.world io)) (sym c.as_slice.ensures.value) ∙ c.in-Ok.ensures.made io))
     (c.resume.ensures.asked im fs)
 

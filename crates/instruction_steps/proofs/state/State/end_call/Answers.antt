@@ -66,7 +66,7 @@ returns-in-Ok-Some-clause-asked g c im fs =
     let s = c.args.self.now in
     let kept = c.args.kept.now in
     let mid = record s { saved = c.leave.new.saved; world = c.leave.new.self } in
-    takes_on (halted_by c.resume.result) _ _
+    takes_on _ (halted_by c.resume.result) _ _
     (λ io.
     let o = leave_op c.args.kind (kept_with kept s.saved.items) (world_of s.world io) in
     ap io_at (ended_is im fs c.args.want_name c.args.place kept s mid refl refl c.in-Ok-Some.ensures.values c.args.kind io)

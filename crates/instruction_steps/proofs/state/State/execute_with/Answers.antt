@@ -65,19 +65,19 @@ returns-in-Splice-clause-sound g c fs sound =
 pub returns-in-Fetch-clause-asked : goal.returns-in-Fetch-clause-asked
 returns-in-Fetch-clause-asked g c fs =
     let im = c.args.program.now in
-    asks_taking (halted_by c.fetch.result) _ _ (λ io. ap (λ i. io_at (after im i c.args.next fs c.args.self.now io)) c.in-Fetch.is) (c.fetch.ensures.asked im fs)
+    asks_taking _ (halted_by c.fetch.result) _ _ (λ io. ap (λ i. io_at (after im i c.args.next fs c.args.self.now io)) c.in-Fetch.is) (c.fetch.ensures.asked im fs)
 
 pub returns-in-FetchK-clause-asked : goal.returns-in-FetchK-clause-asked
 returns-in-FetchK-clause-asked g c fs =
     let im = c.args.program.now in
-    asks_taking (halted_by c.fetch_above.result) _ _ (λ io. ap (λ i. io_at (after im i c.args.next fs c.args.self.now io)) c.in-FetchK.is) (c.fetch_above.ensures.asked im fs)
+    asks_taking _ (halted_by c.fetch_above.result) _ _ (λ io. ap (λ i. io_at (after im i c.args.next fs c.args.self.now io)) c.in-FetchK.is) (c.fetch_above.ensures.asked im fs)
 
 pub returns-in-Assign-clause-asked : goal.returns-in-Assign-clause-asked
 returns-in-Assign-clause-asked g c fs =
     let im = c.args.program.now in
-    asks_printing (halted_by c.assign.result) _ _ (λ io. ap (λ i. io_at (after im i c.args.next fs c.args.self.now io)) c.in-Assign.is) (c.assign.ensures.asked im fs)
+    asks_printing _ (halted_by c.assign.result) _ _ (λ io. ap (λ i. io_at (after im i c.args.next fs c.args.self.now io)) c.in-Assign.is) (c.assign.ensures.asked im fs)
 
 pub returns-in-Splice-clause-asked : goal.returns-in-Splice-clause-asked
 returns-in-Splice-clause-asked g c fs =
     let im = c.args.program.now in
-    asks_printing (halted_by c.splice.result) _ _ (λ io. ap (λ i. io_at (after im i c.args.next fs c.args.self.now io)) c.in-Splice.is) (c.splice.ensures.asked im fs)
+    asks_printing _ (halted_by c.splice.result) _ _ (λ io. ap (λ i. io_at (after im i c.args.next fs c.args.self.now io)) c.in-Splice.is) (c.splice.ensures.asked im fs)

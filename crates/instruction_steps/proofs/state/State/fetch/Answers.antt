@@ -29,5 +29,5 @@ returns-clause-quiet g c = quiet_ever (halted_by c.gave.result) _ _ c.fetch_at-a
 
 pub returns-clause-asked : goal.returns-clause-asked
 returns-clause-asked g c im fs =
-    c.gave.ensures.asked (λ io. io_at (after im op.Fetch c.args.next fs c.args.self.now io))
-    (takes_on (stopped_by c.fetch_at-answer.result) _ _ (fetch_io im fs c.args.next c.args.self.now c.gave.new.self c.fetch_at-answer.new.self c.gave.result c.pop_name-named.new.operands c.pop_name-named.result c.pop_name-named.ensures) c.fetch_at-answer.ensures.asked)
+    c.gave.ensures.asked _ (λ io. io_at (after im op.Fetch c.args.next fs c.args.self.now io))
+    (takes_on _ (stopped_by c.fetch_at-answer.result) _ _ (fetch_io im fs c.args.next c.args.self.now c.gave.new.self c.fetch_at-answer.new.self c.gave.result c.pop_name-named.new.operands c.pop_name-named.result c.pop_name-named.ensures) c.fetch_at-answer.ensures.asked)

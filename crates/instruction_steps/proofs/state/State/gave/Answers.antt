@@ -32,10 +32,10 @@ returns-in-Err-clause-left c im fs io o a =
     (subst (λ r. AnswersOrFails (answer_map (option_map value_of) r) (world_of s.world io) o) c.in-Err.is a)
 
 pub returns-in-Ok-Some-clause-asked : goal.returns-in-Ok-Some-clause-asked
-returns-in-Ok-Some-clause-asked c f h = no_unit c.put.result _ c.put.ensures.stop
+returns-in-Ok-Some-clause-asked c may f h = no_unit c.put.result _ c.put.ensures.stop
 
 pub returns-in-Ok-None-clause-asked : goal.returns-in-Ok-None-clause-asked
-returns-in-Ok-None-clause-asked c f h = no_unit c.fail.result _ c.fail.ensures.stop
+returns-in-Ok-None-clause-asked c may f h = no_unit c.fail.result _ c.fail.ensures.stop
 
 pub returns-in-Err-clause-asked : goal.returns-in-Err-clause-asked
-returns-in-Err-clause-asked c f h = subst (λ r. Takes (stopped_by r) f) c.in-Err.is h
+returns-in-Err-clause-asked c may f h = subst (λ r. Takes may (stopped_by r) f) c.in-Err.is h

@@ -43,4 +43,4 @@ returns-in-Err-clause-next g c = λ im fs.
     let s = c.args.self.now in
     let ps = c.in-Matched.pending.now in
     let e : event_of c.args.matching.now.search.state ≡ Matched c.in-Matched.start c.in-Matched.end (pending_of ps) = sym c.event.ensures ∙ ap event_is c.in-Matched.is in
-    rw e (next_as (stopped_by {A = Unit {0}} (Err c.in-Err.fault)) _ _ _ _ (λ io. found_io im (matching_in im c.args.matching.now s) c.args.matching.now.search.state (waiting im fs s) c.in-Matched.start c.in-Matched.end (pending_of ps) (world_of s.world io)) c.in-Err.ensures.next)
+    rw e (next_as _ (stopped_by {A = Unit {0}} (Err c.in-Err.fault)) _ _ _ _ (λ io. found_io im (matching_in im c.args.matching.now s) c.args.matching.now.search.state (waiting im fs s) c.in-Matched.start c.in-Matched.end (pending_of ps) (world_of s.world io)) c.in-Err.ensures.next)

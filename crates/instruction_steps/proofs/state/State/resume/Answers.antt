@@ -58,4 +58,4 @@ returns-in-Value-clause-asked g c im fs = no_unit c.put.result _ c.put.ensures.s
 
 pub returns-in_default-clause-asked : goal.returns-in_default-clause-asked
 returns-in_default-clause-asked g c im fs =
-    takes_on (halted_by c.resume_for_value.result) _ _ (λ io. ap (λ b. io_at (resumed_with im fs b c.args.next c.args.given c.args.self.now io)) c.if-want_name.false) (c.resume_for_value.ensures.asked im fs)
+    takes_on _ (halted_by c.resume_for_value.result) _ _ (λ io. ap (λ b. io_at (resumed_with im fs b c.args.next c.args.given c.args.self.now io)) c.if-want_name.false) (c.resume_for_value.ensures.asked im fs)

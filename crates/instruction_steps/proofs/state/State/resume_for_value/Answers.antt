@@ -40,6 +40,6 @@ returns-clause-quiet g c = quiet_ever (halted_by c.gave.result) _ _ c.returned_v
 pub returns-clause-asked : goal.returns-clause-asked
 returns-clause-asked g c im fs =
     let s = c.args.self.now in
-    c.gave.ensures.asked (λ io. io_at (resumed_with im fs false c.args.next c.args.given s io))
-    (takes_on (stopped_by c.returned_value-answer.result) _ _
+    c.gave.ensures.asked _ (λ io. io_at (resumed_with im fs false c.args.next c.args.given s io))
+    (takes_on _ (stopped_by c.returned_value-answer.result) _ _
     (λ io. op_io (as_value (given_of c.args.given) (world_of s.world io)) (handlers_in im s) (operands_of s.operands.top) (waiting im fs s) _ (λ v w. refl)) c.returned_value-answer.ensures.asked)

@@ -40,7 +40,7 @@ returns-in-Err-clause-served g c =
 pub returns-in-Ok-clause-asked : goal.returns-in-Ok-clause-asked
 returns-in-Ok-clause-asked g c im fs =
     let s = c.args.self.now in
-    takes_on (halted_by c.resume.result) _ _
+    takes_on _ (halted_by c.resume.result) _ _
     (λ io.
     let w = world_of s.world io in
     ap (λ o. io_at (given_by im fs c.args.want_name c.args.next o s)) (ap (λ xs. select_op c.args.name.now (map value_of xs) w) (sym c.as_slice.ensures.value) ∙ sym (c.select.ensures io) ∙ ap (λ r. op_of (answer_map given_of r) w) c.in-Ok.is))

@@ -30,5 +30,5 @@ returns-clause-quiet g c = quiet_settled (halted_by c.went.result) _ _ _ c.went.
 pub returns-clause-asked : goal.returns-clause-asked
 returns-clause-asked g c im fs =
     unit_settled (halted_by c.went.result) _ _ c.went.ensures.stop
-    (prints_on (stopped_by c.splice_at-answer.result) _ _ (splice_io im fs c.args.next c.args.self.now c.went.new.self c.splice_at-answer.new.self c.went.result c.pop_name-named.new.operands c.pop_name-named.result c.pop_value-value.result c.pop_span-span.result
+    (prints_on _ (stopped_by c.splice_at-answer.result) _ _ (splice_io im fs c.args.next c.args.self.now c.went.new.self c.splice_at-answer.new.self c.went.result c.pop_name-named.new.operands c.pop_name-named.result c.pop_value-value.result c.pop_span-span.result
     (c.pop_value-value.ensures ∙ ap (λ (l : Stacked Operand). record l { top = operand.Value c.pop_value-value.result ∷ l.top }) (c.pop_span-span.ensures ∙ ap (λ (l : Stacked Operand). record l { top = operand.Span c.pop_span-span.result ∷ l.top }) c.pop_name-named.ensures))) c.splice_at-answer.ensures.asked)

@@ -46,4 +46,4 @@ invariant_of-self-in-Err g c =
 
 pub returns-in-Err-clause-stops : goal.returns-in-Err-clause-stops
 returns-in-Err-clause-stops g c =
-    halt_stops c.self.inside.program.now c.args.self.now c.self.inside.halt c.in-Err.halt c.self.inside.run c.args.bound c.status-in-Err.result _ _ c.self.view_is c.in_default.is c.status-in-Err.ensures c.in-Err.ensures.stops
+    halt_stops _ c.self.inside.program.now c.args.self.now c.self.inside.halt c.in-Err.halt c.self.inside.run c.args.bound c.status-in-Err.result _ _ c.self.view_is c.in_default.is c.status-in-Err.ensures c.in-Err.ensures.stops

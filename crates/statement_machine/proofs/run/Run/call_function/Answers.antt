@@ -58,7 +58,7 @@ returns-in-Some-Defined-clause-asked g c =
     let r = c.args.self.now in
     let f = c.in-Some-Defined in
     let is = f.is ∙ ap (λ x. Some x) f.field-0-is in
-    takes_on (halted_by c.enter.result) _ _
+    takes_on _ (halted_by c.enter.result) _ _
     (λ io. ap io_at (found_as im r.frames.top c.args.name.now c.args.want_name c.args.next r.state io _ _ (c.in_ok-entry.ensures.function io) is
     ∙ defined_as im r.frames.top c.args.name.now f.entry f.prototype c.args.want_name c.args.next r.state io (subst (IfNamed c.args.name.now) is c.in_ok-entry.ensures.named)))
     c.enter.ensures.asked
@@ -68,7 +68,7 @@ returns-in-Some-Constructor-clause-asked g c =
     let im = c.args.program.now in
     let r = c.args.self.now in
     let f = c.in-Some-Constructor in
-    takes_on (halted_by c.construct.result) _ _
+    takes_on _ (halted_by c.construct.result) _ _
     (λ io. ap io_at (found_as im r.frames.top c.args.name.now c.args.want_name c.args.next r.state io _ (Some (function.Constructor f.fields)) (c.in_ok-entry.ensures.function io) (f.is ∙ ap (λ x. Some x) f.field-0-is)))
     (c.construct.ensures.asked im r.frames.top)
 
@@ -77,6 +77,6 @@ returns-in-Some-Field-clause-asked g c =
     let im = c.args.program.now in
     let r = c.args.self.now in
     let f = c.in-Some-Field in
-    takes_on (halted_by c.select.result) _ _
+    takes_on _ (halted_by c.select.result) _ _
     (λ io. ap io_at (found_as im r.frames.top c.args.name.now c.args.want_name c.args.next r.state io _ (Some function.Field) (c.in_ok-entry.ensures.function io) (f.is ∙ ap (λ x. Some x) f.field-0-is)))
     (c.select.ensures.asked im r.frames.top)

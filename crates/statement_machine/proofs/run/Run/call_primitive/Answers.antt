@@ -79,7 +79,7 @@ pub returns-in-Ok-Value-clause-asked : goal.returns-in-Ok-Value-clause-asked
 returns-in-Ok-Value-clause-asked g c =
     let im = c.args.program.now in
     let r = c.args.self.now in
-    takes_on (halted_by c.resume.result) _ _
+    takes_on _ (halted_by c.resume.result) _ _
     (λ io. ap io_at (came_by im r.frames.top c.args.want_name c.args.id c.args.next r.state c.as_slice.result.now c.call_prim-outcome.new.world io c.as_slice.ensures.value c.in-Ok-Value.field-0 (outcome.Value c.in-Ok-Value.value) c.in-Ok-Value.field-0-is (c.in-Ok-Value.ensures.answer io)))
     (c.resume.ensures.asked im r.frames.top)
 
@@ -87,7 +87,7 @@ pub returns-in-Ok-Name-clause-asked : goal.returns-in-Ok-Name-clause-asked
 returns-in-Ok-Name-clause-asked g c =
     let im = c.args.program.now in
     let r = c.args.self.now in
-    takes_on (halted_by c.resume-in-Ok-Name.result) _ _
+    takes_on _ (halted_by c.resume-in-Ok-Name.result) _ _
     (λ io. ap io_at (came_by im r.frames.top c.args.want_name c.args.id c.args.next r.state c.as_slice.result.now c.call_prim-outcome.new.world io c.as_slice.ensures.value c.in-Ok-Name.field-0 (outcome.Name c.in-Ok-Name.name) c.in-Ok-Name.field-0-is (c.in-Ok-Name.ensures.answer io)))
     (c.resume-in-Ok-Name.ensures.asked im r.frames.top)
 
@@ -98,7 +98,7 @@ pub returns-in-Ok-Call-clause-asked : goal.returns-in-Ok-Call-clause-asked
 returns-in-Ok-Call-clause-asked g c =
     let im = c.args.program.now in
     let r = c.args.self.now in
-    takes_on (halted_by c.call_function.result) _ _
+    takes_on _ (halted_by c.call_function.result) _ _
     (λ io. ap io_at (came_by im r.frames.top c.args.want_name c.args.id c.args.next r.state c.as_slice.result.now c.call_prim-outcome.new.world io c.as_slice.ensures.value c.in-Ok-Call.field-0 (outcome.Call c.in-Ok-Call.name c.in-Ok-Call.arguments) c.in-Ok-Call.field-0-is (c.in-Ok-Call.ensures.answer io)))
     c.call_function.ensures.asked
 

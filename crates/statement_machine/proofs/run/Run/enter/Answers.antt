@@ -27,6 +27,6 @@ returns-clause-sound g c h =
 pub returns-clause-asked : goal.returns-clause-asked
 returns-clause-asked g c =
     let im = c.args.program.now in
-    takes_on (halted_by c.go_to.result) _ _
+    takes_on _ (halted_by c.go_to.result) _ _
     (λ io. sym (λ i. io_at (go_to_return (module_of im) c.args.entry.now (return_of c.args.entry.now) (c.in_ok-open_call.ensures.opened im io i) (c.in_ok-open_call.ensures.entered io i))))
     c.go_to.ensures.asked

@@ -130,34 +130,34 @@ pub returns-in-Return-clause-asked : goal.returns-in-Return-clause-asked
 returns-in-Return-clause-asked g c =
     let im = c.args.program.now in
     let r = c.args.self.now in
-    takes_on (halted_by c.return_from.result) _ _ (λ io. ap (λ i. io_at (after im i c.args.next r.frames.top r.state io)) c.in-Return.is) (c.return_from.ensures.asked im)
+    takes_on _ (halted_by c.return_from.result) _ _ (λ io. ap (λ i. io_at (after im i c.args.next r.frames.top r.state io)) c.in-Return.is) (c.return_from.ensures.asked im)
 
 pub returns-in-GotoV-clause-asked : goal.returns-in-GotoV-clause-asked
 returns-in-GotoV-clause-asked g c =
     let im = c.args.program.now in
     let r = c.args.self.now in
-    takes_on (halted_by c.go_to_value.result) _ _ (λ io. ap (λ i. io_at (after im i c.args.next r.frames.top r.state io)) c.in-GotoV.is) c.go_to_value.ensures.asked
+    takes_on _ (halted_by c.go_to_value.result) _ _ (λ io. ap (λ i. io_at (after im i c.args.next r.frames.top r.state io)) c.in-GotoV.is) c.go_to_value.ensures.asked
 
 pub returns-in-CallV-clause-asked : goal.returns-in-CallV-clause-asked
 returns-in-CallV-clause-asked g c =
     let im = c.args.program.now in
     let r = c.args.self.now in
-    takes_on (halted_by c.call.result) _ _ (λ io. ap (λ i. io_at (after im i c.args.next r.frames.top r.state io)) c.in-CallV.is) c.call.ensures.asked
+    takes_on _ (halted_by c.call.result) _ _ (λ io. ap (λ i. io_at (after im i c.args.next r.frames.top r.state io)) c.in-CallV.is) c.call.ensures.asked
 
 pub returns-in-CallN-clause-asked : goal.returns-in-CallN-clause-asked
 returns-in-CallN-clause-asked g c =
     let im = c.args.program.now in
     let r = c.args.self.now in
-    takes_on (halted_by c.call-in-CallN.result) _ _ (λ io. ap (λ i. io_at (after im i c.args.next r.frames.top r.state io)) c.in-CallN.is) c.call-in-CallN.ensures.asked
+    takes_on _ (halted_by c.call-in-CallN.result) _ _ (λ io. ap (λ i. io_at (after im i c.args.next r.frames.top r.state io)) c.in-CallN.is) c.call-in-CallN.ensures.asked
 
 pub returns-in-PrimV-clause-asked : goal.returns-in-PrimV-clause-asked
 returns-in-PrimV-clause-asked g c =
     let im = c.args.program.now in
     let r = c.args.self.now in
-    takes_on (halted_by c.primitive.result) _ _ (λ io. ap (λ i. io_at (after im i c.args.next r.frames.top r.state io)) c.in-PrimV.is) c.primitive.ensures.asked
+    takes_on _ (halted_by c.primitive.result) _ _ (λ io. ap (λ i. io_at (after im i c.args.next r.frames.top r.state io)) c.in-PrimV.is) c.primitive.ensures.asked
 
 pub returns-in-PrimN-clause-asked : goal.returns-in-PrimN-clause-asked
 returns-in-PrimN-clause-asked g c =
     let im = c.args.program.now in
     let r = c.args.self.now in
-    takes_on (halted_by c.primitive-in-PrimN.result) _ _ (λ io. ap (λ i. io_at (after im i c.args.next r.frames.top r.state io)) c.in-PrimN.is) c.primitive-in-PrimN.ensures.asked
+    takes_on _ (halted_by c.primitive-in-PrimN.result) _ _ (λ io. ap (λ i. io_at (after im i c.args.next r.frames.top r.state io)) c.in-PrimN.is) c.primitive-in-PrimN.ensures.asked

@@ -43,6 +43,6 @@ pub returns-in-Some-clause-asked : goal.returns-in-Some-clause-asked
 returns-in-Some-clause-asked g c =
     let im = c.args.program.now in
     let r = c.args.self.now in
-    takes_on (halted_by c.return_from.result) _ _
+    takes_on _ (halted_by c.return_from.result) _ _
     (λ io. ap io_at (returned im r.frames.top c.in_ok-goto_entry.field-0 c.in-Some.kind c.goto_entry.new.self io _ c.in-Some.is (c.in_ok-goto_entry.ensures.left r.frames.top io)))
     (c.return_from.ensures.asked im)

@@ -50,6 +50,6 @@ pub returns-in-Ok-Some-clause-asked : goal.returns-in-Ok-Some-clause-asked
 returns-in-Ok-Some-clause-asked g c =
     let im = c.args.program.now in
     let r = c.args.self.now in
-    takes_on (halted_by c.return_from.result) _ _
+    takes_on _ (halted_by c.return_from.result) _ _
     (λ io. ap io_at (returned im r.frames.top c.in-Ok-Some.field-0 c.in-Ok-Some.kind c.goto_value.new.self io _ c.in-Ok-Some.field-0-is (c.in-Ok-Some.ensures.left 0 r.frames.top io)))
     (c.return_from.ensures.asked im)

@@ -63,7 +63,7 @@ pub returns-clause-asked : goal.returns-clause-asked
 returns-clause-asked g c =
     let im = c.args.program.now in
     let r = c.args.self.now in
-    takes_on (halted_by c.call_primitive.result) _ _
+    takes_on _ (halted_by c.call_primitive.result) _ _
     (λ io. ap io_at (primitive_is im r.frames.top c.args.count r.state c.take_arguments.new.self c.in_ok-take_arguments.ensures.taken c.args.want_name c.args.id c.args.next io c.in_ok-take_arguments.ensures.pops))
     c.call_primitive.ensures.asked
 

@@ -14,6 +14,7 @@ pub returns-in-Element-clause-served : goal.returns-in-Element-clause-served
 returns-in-Element-clause-served g c = record {
   told = assigned_there c.args.name.now _ _ c.args.self.now c.store.new.self _ _ c.in-Element.is c.store.ensures.stored;
   counts = search rules;
+  sound = search rules;
 }
 
 pub returns-in-Element-clause-ok : goal.returns-in-Element-clause-ok
@@ -25,6 +26,7 @@ returns-in-IntegerKey-clause-served g c =
     record {
       told = assigned_key c.args.name.now c.in-IntegerKey.object c.in-IntegerKey.key _ _ c.args.self.now stored.new.self stored.result c.in-IntegerKey.is (search rules) stored.ensures.stored _;
       counts = search rules;
+      sound = search rules;
     }
 
 pub returns-in-IntegerKey-clause-ok : goal.returns-in-IntegerKey-clause-ok
@@ -39,6 +41,7 @@ returns-in_ok-clone-in-StringKey-clause-served g c =
       told = assigned_there c.args.name.now (name.StringKey c.in-StringKey.object c.in_ok-clone-in-StringKey.field-0) _ c.args.self.now stored.new.self _ _
           (c.in-StringKey.is ∙ ap (name.StringKey c.in-StringKey.object) (sym c.in_ok-clone-in-StringKey.ensures.cases)) stored.ensures.stored;
       counts = search rules;
+      sound = search rules;
     }
 
 pub returns-in_ok-clone-in-StringKey-clause-ok : goal.returns-in_ok-clone-in-StringKey-clause-ok
@@ -58,4 +61,4 @@ returns-in_ok-clone-in-StringKey-clause-asked g c = no_unit c.store-in-StringKey
 
 pub returns-in-Variable-clause-asked : goal.returns-in-Variable-clause-asked
 returns-in-Variable-clause-asked g c =
-    prints_on (stopped_by c.assign_variable.result) _ _ (λ io. ap (λ n. io_after (assign_op (name_of n) (value_of c.args.value) (world_of c.args.self.now io))) c.in-Variable.is) c.assign_variable.ensures.asked
+    prints_on _ (stopped_by c.assign_variable.result) _ _ (λ io. ap (λ n. io_after (assign_op (name_of n) (value_of c.args.value) (world_of c.args.self.now io))) c.in-Variable.is) c.assign_variable.ensures.asked

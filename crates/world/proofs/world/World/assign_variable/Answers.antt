@@ -8,14 +8,16 @@ pub returns-in-Some-clause-served : goal.returns-in-Some-clause-served
 returns-in-Some-clause-served g c = record {
   told = assigned_to_unit c.args.name.now _ _ c.args.self.now c.set.new.self _ _ _ (sym c.in-Some.is ∙ c.in_ok-unit.ensures.output) c.in_ok-unit.ensures.set c.write.ensures.served.told;
   counts = search rules;
+  sound = search rules;
 }
 
 pub returns-in-None-clause-served : goal.returns-in-None-clause-served
 returns-in-None-clause-served g c = record {
   told = assigned_alone c.args.name.now _ c.args.self.now c.set.new.self _ (sym c.in-None.is ∙ c.in_ok-unit.ensures.output) c.in_ok-unit.ensures.set;
   counts = search rules;
+  sound = search rules;
 }
 
 pub returns-in-Some-clause-asked : goal.returns-in-Some-clause-asked
 returns-in-Some-clause-asked g c =
-    assign_asks c.args.name.now _ (value_of c.args.value) c.args.self.now c.set.new.self (stopped_by c.write.result) (sym c.in-Some.is ∙ c.in_ok-unit.ensures.output) c.in_ok-unit.ensures.set c.write.ensures.asked
+    assign_asks _ c.args.name.now _ (value_of c.args.value) c.args.self.now c.set.new.self (stopped_by c.write.result) (sym c.in-Some.is ∙ c.in_ok-unit.ensures.output) c.in_ok-unit.ensures.set c.write.ensures.asked

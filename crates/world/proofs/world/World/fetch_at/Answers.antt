@@ -8,12 +8,14 @@ pub returns-in-Element-clause-served : goal.returns-in-Element-clause-served
 returns-in-Element-clause-served g c = record {
   told = fetched_there c.args.name.now _ c.args.self.now _ _ c.in-Element.is c.element.ensures.value;
   counts = search rules;
+  sound = search rules;
 }
 
 pub returns-in-IntegerKey-clause-served : goal.returns-in-IntegerKey-clause-served
 returns-in-IntegerKey-clause-served g c = record {
   told = fetched_key c.args.name.now c.in-IntegerKey.object c.in-IntegerKey.key _ c.args.self.now _ _ c.in-IntegerKey.is (search rules) c.entry.ensures.value;
   counts = search rules;
+  sound = search rules;
 }
 
 pub returns-in_ok-clone-in-StringKey-clause-served : goal.returns-in_ok-clone-in-StringKey-clause-served
@@ -21,6 +23,7 @@ returns-in_ok-clone-in-StringKey-clause-served g c = record {
   told = fetched_there c.args.name.now (name.StringKey c.in-StringKey.object c.in_ok-clone-in-StringKey.field-0) c.args.self.now _ _
       (c.in-StringKey.is ∙ ap (name.StringKey c.in-StringKey.object) (sym c.in_ok-clone-in-StringKey.ensures.cases)) c.entry-in-StringKey.ensures.value;
   counts = search rules;
+  sound = search rules;
 }
 
 pub returns-in-Element-clause-asked : goal.returns-in-Element-clause-asked

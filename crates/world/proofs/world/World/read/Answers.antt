@@ -1,19 +1,21 @@
 use Rattle.std.proofs.Common.{rules}
 use Rattle.world.proofs.UnitCalls.{read_takes, read_ends}
-use Rattle.world.proofs.Asked.{refused_by, takes_record}
+use Rattle.world.proofs.Asked.{refused_read}
 use Rattle.world.proofs.world.World.read.Goals as goal
 
 pub returns-in-Ok-Some-clause-served : goal.returns-in-Ok-Some-clause-served
 returns-in-Ok-Some-clause-served g c = record {
   told = read_takes c.args.name.now c.args.unit _ c.in-Ok-Some.line c.args.self.now c.take.new.self _ _ _ c.in-Ok-Some.field-0-is c.in-Ok-Some.ensures.ok c.take.ensures.taken;
   counts = search rules;
+  sound = search rules;
 }
 
 pub returns-in-Ok-None-clause-served : goal.returns-in-Ok-None-clause-served
 returns-in-Ok-None-clause-served g c = record {
   told = read_ends c.args.name.now c.args.unit _ c.args.self.now _ _ c.in-Ok-None.field-0-is c.in-Ok-None.ensures.ok;
   counts = search rules;
+  sound = search rules;
 }
 
 pub returns-in-Err-clause-asked : goal.returns-in-Err-clause-asked
-returns-in-Err-clause-asked g c = refused_by c.args.unit c.in-Err.cause c.stop_of.result _ c.stop_of.ensures (takes_record c.args.name.now c.args.unit c.args.self.now)
+returns-in-Err-clause-asked g c = refused_read _ c.args.unit c.in-Err.cause c.stop_of.result c.args.name.now c.args.self.now c.stop_of.ensures c.in-Err.ensures.may

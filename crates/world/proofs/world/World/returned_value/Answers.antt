@@ -9,4 +9,4 @@ use Rattle.world.proofs.world.World.returned_value.Goals as goal
 
 pub returns-in-Name-clause-asked : goal.returns-in-Name-clause-asked
 returns-in-Name-clause-asked g c =
-    takes_on (stopped_by c.fetch.result) _ _ (λ io. ap (λ x. io_after (as_value (given_of x) (world_of c.args.self.now io))) c.in-Name.is) c.fetch.ensures.asked
+    takes_on _ (stopped_by c.fetch.result) _ _ (λ io. ap (λ x. io_after (as_value (given_of x) (world_of c.args.self.now io))) c.in-Name.is) c.fetch.ensures.asked

@@ -21,6 +21,7 @@ returns-in_err-whole-clause-served g c = record {
       (splice_op (name_of c.args.name.now) c.args.span.now.subject c.args.span.now.start c.args.span.now.end (value_of c.args.value.now)) _ c.from_residual.ensures.1
       (λ io. c.in_err-whole.ensures.value io (name_of c.args.name.now));
   counts = search rules;
+  sound = search rules;
 }
 
 pub returns-clause-served : goal.returns-clause-served
@@ -29,10 +30,11 @@ returns-clause-served g c = record {
       (splice_op (name_of c.args.name.now) c.args.span.now.subject c.args.span.now.start c.args.span.now.end (value_of c.args.value.now)) _ _ _
       (λ io. c.in_ok-whole.ensures.value io (name_of c.args.name.now)) c.assign_at.ensures.served.told;
   counts = search rules;
+  sound = search rules;
 }
 
 pub returns-in_err-whole-clause-asked : goal.returns-in_err-whole-clause-asked
 returns-in_err-whole-clause-asked g c = passed_on c.from_residual.result c.in_err-whole.field-0.0 _ c.from_residual.ensures.1 (no_unit {A = Unit {0}} (Err c.in_err-whole.field-0.0) _ c.in_err-whole.ensures.stop)
 
 pub returns-clause-asked : goal.returns-clause-asked
-returns-clause-asked g c = prints_on (stopped_by c.assign_at.result) _ _ (λ io. ap io_after (c.in_ok-whole.ensures.value io (name_of c.args.name.now))) c.assign_at.ensures.asked
+returns-clause-asked g c = prints_on _ (stopped_by c.assign_at.result) _ _ (λ io. ap io_after (c.in_ok-whole.ensures.value io (name_of c.args.name.now))) c.assign_at.ensures.asked

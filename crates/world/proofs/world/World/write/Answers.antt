@@ -7,8 +7,8 @@ use Rattle.world.proofs.world.World.write.Goals as goal
 
 pub returns-in-Some-clause-asked : goal.returns-in-Some-clause-asked
 returns-in-Some-clause-asked g c =
-    write_asks c.args.unit _ _ c.args.self.now (stopped_by c.print.result) (ap value_in c.in-Some.ensures) (sym (ap (λ h. is_zero h.keys.output) c.self.view_is) ∙ sym c.is_zero.ensures ∙ c.if-is_zero.false) c.print.ensures.asked
+    write_asks _ c.args.unit _ _ c.args.self.now (stopped_by c.print.result) (ap value_in c.in-Some.ensures) (sym (ap (λ h. is_zero h.keys.output) c.self.view_is) ∙ sym c.is_zero.ensures ∙ c.if-is_zero.false) c.print.ensures.asked
 
 pub returns-in-None-clause-asked : goal.returns-in-None-clause-asked
 returns-in-None-clause-asked g c =
-    write_asks c.args.unit _ _ c.args.self.now (stopped_by c.print-in-None.result) (c.null.ensures ∙ ap value_in c.in-None.ensures) (sym (ap (λ h. is_zero h.keys.output) c.self.view_is) ∙ sym c.is_zero.ensures ∙ c.if-is_zero.false) c.print-in-None.ensures.asked
+    write_asks _ c.args.unit _ _ c.args.self.now (stopped_by c.print-in-None.result) (c.null.ensures ∙ ap value_in c.in-None.ensures) (sym (ap (λ h. is_zero h.keys.output) c.self.view_is) ∙ sym c.is_zero.ensures ∙ c.if-is_zero.false) c.print-in-None.ensures.asked
