@@ -63,6 +63,7 @@ INPUTS = {
     "backref": (lambda rng, n: [letters(rng, 30, 60, "abcdef") for _ in range(n)], 1500),
     "arbno": (lambda rng, n: [letters(rng, 5000, 5000) for _ in range(n)], 60),
     "permutations": (lambda rng, n: ["abcdefghij"[: round(math.log(n, 4.2))]], 100000),
+    "trees": (lambda rng, n: [str(round(math.log2(n)))], 2**16),
     "scans": (lambda rng, n: [letters(rng, 40, 4000) + " " * 50 + letters(rng, 300, 900) for _ in range(n)], 5000),
 }
 
