@@ -62,9 +62,13 @@ else
 	@build/sno go $(DECK) 5=$(INPUT)
 endif
 
-try: deck ## DECK=file: run a deck with nothing proved, in seconds; at most 60 seconds and 1 MiB of output
+try: input ## DECK=file [INPUT=file]: run a deck with nothing proved, built in two minutes; 60 seconds and 1 MiB of output
 	@echo "try: nothing is proved of this run" >&2
+ifeq ($(INPUT),)
 	@(cd $(PROGRAM) && $(RT) try) < $(DECK)
+else
+	@(cd $(PROGRAM) && $(RT) try --data deck.sno=$(abspath $(DECK)) --data input=$(abspath $(INPUT)) -- go deck.sno 5=input)
+endif
 
 sno: build/sno ## leave the proved program at build/sno
 
@@ -106,7 +110,7 @@ build/snobol: $(SNOBOL_SOURCES) | program
 	@(cd $(FOR_PEOPLE) && echo END | ../../tools/progress "$(RT) run -- -") >&2 || { echo "snobol: not proved, or not built" >&2; exit 1; }
 	@cp $(FOR_PEOPLE)/out/snobol build/snobol.new && mv build/snobol.new build/snobol
 
-install: $(SNO) $(LIST) $(SNOBOL) ## [PREFIX=folder]: put the proved programs, manual pages and completion there (/usr/local if none is told)
+install: $(SNO) $(LIST) $(SNOBOL) ## [PREFIX=folder]: put the proved programs, manual pages and completion there (/usr/local if none is given)
 	@tools/install "$(DESTDIR)$(PREFIX)" $(SNO) $(LIST) $(SNOBOL) && echo "install: in $(DESTDIR)$(PREFIX)"
 
 deb: $(SNO) $(LIST) $(SNOBOL) ## a Debian package of the proved programs, at build/fizhdova.deb
@@ -115,7 +119,7 @@ deb: $(SNO) $(LIST) $(SNOBOL) ## a Debian package of the proved programs, at bui
 uninstall: ## [PREFIX=folder]: take away what install put there
 	@tools/install --remove "$(DESTDIR)$(PREFIX)" && echo "uninstall: from $(DESTDIR)$(PREFIX)"
 
-release: build/sno build/sno_list ## leave programs, manual pages, the page and checksums of VERSION at build/release
+release: build/sno build/sno_list build/snobol ## leave programs, manual pages, library, packages and checksums of VERSION at build/release
 	@tools/release
 
 # A program that the gate proved is the one that `make run` runs, unless a source changed since the gate began.

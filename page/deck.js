@@ -95,7 +95,7 @@ export function telling(deck, unit, watched) {
   return made + 'END\n';
 }
 
-// What stands on a listing's lines: its cards, each with the numbers of its statements, and under it what is told.
+// What stands on a listing's lines: its cards, each with the numbers of its statements, and under it what is reported.
 export function readListing(text) {
   const lines = text.split('\n'), cards = [];
   let now = null;

@@ -76,7 +76,7 @@ def allowed():
 
 
 def faults(never):
-    """What is told of points that were never taken: each that fits no line, and each line that fits none."""
+    """What is reported of points that were never taken: each that fits no line, and each line that fits none."""
     lines = allowed()
     used = {line for line, fits in lines.items() for point in never if fits.fullmatch(point)}
     for point in never:

@@ -166,7 +166,7 @@ def passes_over(crate, it):
 
 
 def told(crate):
-    """The lines that tell what a crate cites of each crate below."""
+    """The lines that say what a crate cites of each crate below."""
     found = {}
     for it in cited(crate):
         what = "types" if it.where.startswith("declared") else it.room

@@ -284,7 +284,7 @@ class Count(typing.NamedTuple):
         return f"{specs}; {self.types} types of the code, {self.type_lines} lines"
 
 
-# The clauses whose figures docs/promises.md tells.
+# The clauses whose figures docs/promises.md gives.
 HEADLINES = (
     ("driver", "run_deck", "meaning"),
     ("driver", "run_deck_on_files", "meaning"),

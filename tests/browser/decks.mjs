@@ -4,7 +4,7 @@
 //     node decks.mjs WASM --cases FILE  a list of {name, deck, input, steps, out, told, status} as JSON
 //
 // Each is run by `page_watch` in pieces, and where it has units 5 and 6 alone by `page_run` too. What isn't as it must be is
-// told a line each; the last line is `N passed, M failed, K left out`.
+// reported a line each; the last line is `N passed, M failed, K left out`.
 import { afterwards, ofFile, ofFolder, unitsOf } from './cases.mjs';
 import { handed, load, watched } from './module.mjs';
 

@@ -1,7 +1,7 @@
 // Uses the page and the site in a browser: node drive.mjs chromium|firefox PROGRAM PAGE SITE DECKS CASES [SHOTS]
 //
 // DECKS is a folder as tests/decks, and CASES a list as tests/browser/cases.mjs reads it. Each thing that isn't as it must be
-// is told in a line; the last line is `N passed, M failed`.
+// is reported in a line; the last line is `N passed, M failed`.
 import { decksOnPage } from './decks_on_page.mjs';
 import { hands } from './hands.mjs';
 import { byKeys, endless, looks, usePage } from './use.mjs';

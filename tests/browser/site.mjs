@@ -22,7 +22,7 @@ export async function useSite({ b, check, click, until, shot, open }, site) {
   await shot('site-dark');
 }
 
-// Whether a deck printed and told what its page shows of it: each page shows something.
+// Whether a deck printed and reported what its page shows of it: each page shows something.
 async function isSaid(b, n, said) {
   const { prints, told } = JSON.parse(await b.value(`document.querySelectorAll('.deck')[${n}].dataset.given`));
   if (prints === null && told === null) return false;

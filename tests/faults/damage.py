@@ -30,7 +30,7 @@ SUBJECTS = ("worked", "fence", "replacement", "keywords", "gotos", "text_functio
 # With `tests_failing`, each so many-th is run by `sno` too; a process has so many seconds.
 BOTH = 50
 SECONDS = 600
-# What a run tells with each status.
+# What a run reports with each status.
 TOLD = {
     0: re.compile(rb""),
     1: re.compile(rb"error E[0-9]+ statement [0-9]+( card [0-9]+)?\n"),
@@ -73,7 +73,7 @@ def modules(library_file, program):
 
 
 class Damaged(typing.NamedTuple):
-    """A damaged module, what is told of it and the status, None if the program ended before."""
+    """A damaged module, what is reported of it and the status, None if the program ended before."""
 
     name: str
     content: bytes
@@ -88,7 +88,7 @@ class Damaged(typing.NamedTuple):
         return {0: "a normal end", 4: "refused"}.get(self.status) or b" ".join(words).decode("latin-1")
 
     def failure(self):
-        """The line that tells what is wrong, or none."""
+        """The line that reports what is wrong, or none."""
         if self.status in TOLD and TOLD[self.status].fullmatch(self.told):
             return None
         return f"{self.name}: status {self.status}, told {self.told!r}; the module is {self.content.hex()}"
@@ -102,7 +102,7 @@ class Batch(typing.NamedTuple):
     programs: typing.List[pathlib.Path]
 
     def damaged(self, library_file):
-        """The forms and what is told of them."""
+        """The forms and what is reported of them."""
         names = [f"{self.module.name}, form {number}" for number in self.numbers]
         contents = [self.module.form(number) for number in self.numbers]
         if len(self.programs) == 1:
@@ -113,14 +113,14 @@ class Batch(typing.NamedTuple):
 
 
 def alone(library_file, program, contents):
-    """What `sno run` tells of modules, and its status, started anew for each."""
+    """What `sno run` reports of modules, and its status, started anew for each."""
     with tempfile.TemporaryDirectory(prefix="sno-damage-") as folder:
         with Served(library_file, program, ["run", "file", "--steps", "10000"], folder) as served:
             return [(seen.told, seen.status) for seen in served.run_each(contents)]
 
 
 def together(program, contents):
-    """What `tests_failing` tells of modules; where it ends within one, nothing of that one, and the others anew."""
+    """What `tests_failing` reports of modules; where it ends within one, nothing of that one, and the others anew."""
     answers = []
     while len(answers) < len(contents):
         left = contents[len(answers) :]
@@ -135,7 +135,7 @@ def together(program, contents):
 
 
 def answered(out):
-    """The answers that `tests_failing` printed: what is told, and behind it a line with the status."""
+    """The answers that `tests_failing` printed: what is reported, and behind it a line with the status."""
     found, told = [], b""
     for line in out.splitlines(keepends=True):
         if line.strip().isdigit():
@@ -147,7 +147,7 @@ def answered(out):
 
 
 def some(library_file, batch):
-    """Runs a batch: how many forms came to what, and the lines that tell what failed."""
+    """Runs a batch: how many forms came to what, and the lines that report what failed."""
     found = batch.damaged(library_file)
     lines = [line for line in map(Damaged.failure, found) if line]
     if len(batch.programs) > 1:

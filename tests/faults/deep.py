@@ -44,7 +44,7 @@ class Case(typing.NamedTuple):
 
 
 class Ran(typing.NamedTuple):
-    """What a process printed, told, its status, its megabytes at most and its seconds of processor time."""
+    """What a process printed, reported, its status, its megabytes at most and its seconds of processor time."""
 
     out: bytes
     told: bytes

@@ -64,7 +64,7 @@ class FailingUnits(Units):
 
 
 class Seen(typing.NamedTuple):
-    """What a run prints and tells, its status, and what its files hold."""
+    """What a run prints and reports, its status, and what its files hold."""
 
     out: bytes
     told: bytes

@@ -26,7 +26,7 @@ SPACES = [1024 * k * k for k in range(20)]
 
 
 class Seen(typing.NamedTuple):
-    """How a command ended, what it printed and told, and what its files held then."""
+    """How a command ended, what it printed and reported, and what its files held then."""
 
     status: int
     out: bytes

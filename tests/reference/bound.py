@@ -146,7 +146,7 @@ def cases_of(given, later):
 
 
 def told(result):
-    """The lines that tell a failure."""
+    """The lines that report a failure."""
     text = result.case.deck.decode()
     return "\n".join([f"FAILED {result.case.name}", *result.lines, text if len(text) < 4000 else "(a long deck)"])
 

@@ -1,4 +1,4 @@
-"""The command: reads a deck, runs it, and tells what comes of it as `sno` does."""
+"""The command: reads a deck, runs it, and reports what comes of it as `sno` does."""
 
 import argparse
 import pathlib
@@ -15,7 +15,7 @@ DEEP_ENOUGH = 20000
 
 
 class Seen(typing.NamedTuple):
-    """What a run prints on unit 6, what it tells, its exit status, and the rules that it used."""
+    """What a run prints on unit 6, what it reports, its exit status, and the rules that it used."""
 
     out: bytes
     told: bytes

@@ -45,7 +45,7 @@ def is_left_out(deck):
 
 
 def differences(deck):
-    """The lines that tell how the reference differs from a case."""
+    """The lines that report how the reference differs from a case."""
     units, files = units_of(deck)
     seen = seen_of(deck.read_bytes(), units)
     status = int((bytes_of(deck, ".status") or b"0").decode())

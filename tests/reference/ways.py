@@ -42,7 +42,7 @@ class Case(typing.NamedTuple):
 
 
 class Result(typing.NamedTuple):
-    """What came of a case: the lines that tell what differs, whether it was left out, and its instructions."""
+    """What came of a case: the lines that report what differs, whether it was left out, and its instructions."""
 
     case: Case
     lines: typing.List[str]
@@ -58,7 +58,7 @@ class Ways(typing.NamedTuple):
 
 
 def ran(program, folder, words, given=b""):
-    """What is seen of a program with these words: output, what it tells, and its status."""
+    """What is seen of a program with these words: output, what it reports, and its status."""
     how = {"stdout": subprocess.PIPE, "stderr": subprocess.PIPE, "input": given, "timeout": SECONDS, "check": False}
     done = subprocess.run([program, *words], cwd=folder, **how)
     return done.stdout, done.stderr, done.returncode

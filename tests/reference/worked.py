@@ -11,7 +11,7 @@ from .units import Units
 
 
 class Worked(typing.NamedTuple):
-    """Statements before END, what is printed and told, what unit 5 holds, and the rules, if they are known."""
+    """Statements before END, what is printed and reported, what unit 5 holds, and the rules, if they are known."""
 
     statements: typing.List[str]
     out: str
@@ -101,7 +101,7 @@ DECKS = [
 
 
 def differences(worked):
-    """The lines that tell how the reference differs from a worked deck."""
+    """The lines that report how the reference differs from a worked deck."""
     cards = [card for it in worked.statements + ["END"] for card in cards_of(it)]
     seen = seen_of("\n".join(cards).encode(), Units({5: worked.given.encode()}))
     pairs = [("printed", worked.out.encode(), seen.out), ("told", worked.told.encode(), seen.told)]

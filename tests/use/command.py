@@ -11,7 +11,7 @@ SECONDS = 60
 
 
 def run(words, given=b"", folder=None, **environment):
-    """What a command prints, what it tells, and its exit status."""
+    """What a command prints, what it reports, and its exit status."""
     how = {"cwd": folder, "env": {**os.environ, **environment}, "timeout": SECONDS}
     try:
         ran = subprocess.run([str(word) for word in words], input=given, capture_output=True, check=False, **how)

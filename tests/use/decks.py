@@ -18,7 +18,7 @@ LIBRARY = ROOT / "share" / "snobol"
 
 
 class Shown(typing.NamedTuple):
-    """A deck of a page: its line there, its text, its input, what it prints, what is told of it, and what of its check."""
+    """A deck of a page: its line there, its text, its input, what it prints, what is reported of it, and what of its check."""
 
     line: int
     deck: str
@@ -41,7 +41,7 @@ def shown(page):
 
 
 def outcome(sno, deck, given):
-    """What a deck prints and tells with this input."""
+    """What a deck prints and reports with this input."""
     with tempfile.TemporaryDirectory(prefix="sno-page-") as name:
         folder = pathlib.Path(name)
         (folder / "deck").write_bytes(deck)
@@ -51,7 +51,7 @@ def outcome(sno, deck, given):
 
 
 def page_checks(sno, page):
-    """Each deck of a page prints and tells what is shown under it."""
+    """Each deck of a page prints and reports what is shown under it."""
     for it in shown(page):
         out, told = outcome(sno, it.deck.encode(), it.input.encode())
         same = (out.decode("latin-1"), told.decode("latin-1")) == (it.prints, it.told)

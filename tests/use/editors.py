@@ -20,6 +20,8 @@ VIM = ROOT / "editors" / "vim"
 VSCODE = ROOT / "editors" / "vscode"
 # Decks of more bytes take too long.
 MOST = 20000
+# So many decks are given to one run of vim, whose time is limited.
+BATCH = 50
 # Which kind of token a scope, or a group of vim, stands for; any other is no token. The longest beginning counts.
 SCOPES = {
     "keyword.control": "name",
@@ -291,7 +293,9 @@ def vim_rows(files):
 def vim_checks():
     """The syntax of vim on each deck, by vim."""
     files = [file for file in decks() if file.stat().st_size]
-    rows = vim_rows(files)
+    rows = {}
+    for first in range(0, len(files), BATCH):
+        rows.update(vim_rows(files[first : first + BATCH]))
     for file in files:
         found = differ(expected(file.read_bytes(), False), rows.get(str(file), []))
         yield str(file.relative_to(ROOT)), f"the lexer's tokens by the syntax of vim: {found}", not found

@@ -29,7 +29,7 @@ UNITS = (b"unit 5 U2\n", b"unit 6 U3\n")
 
 
 class Row(typing.NamedTuple):
-    """Words, standard input, and what is told where that and where standard output is closed, if it is needed."""
+    """Words, standard input, and what is reported where that and where standard output is closed, if it is needed."""
 
     words: typing.List[str]
     given: bytes = b""
@@ -58,7 +58,7 @@ OF_LIST = [
 
 
 class Seen(typing.NamedTuple):
-    """What a command prints, tells and ends with, and what the files of its folder hold then."""
+    """What a command prints, reports and ends with, and what the files of its folder hold then."""
 
     out: bytes
     told: bytes
@@ -117,7 +117,7 @@ def faults(row, closed, whole, seen):
 
 
 def closed_streams(program, rows, before):
-    """Runs rows in each of the seven ways; the lines that tell what is wrong."""
+    """Runs rows in each of the seven ways; the lines that report what is wrong."""
     with tempfile.TemporaryDirectory(prefix="sno-streams-") as folder:
         place = pathlib.Path(folder)
         for row in rows:

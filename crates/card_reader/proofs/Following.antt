@@ -117,7 +117,7 @@ waits_no_end r (Some p) e w = has_end_append p.whole (p.last ∷ []) ∙ rw (w.h
 not_ended : (deck : List ℕ) (r : Reader) (n : ℕ) (rest : List ℕ) (s : Reached deck r n rest) → has_end (pieces_of s.before) ≡ false
 not_ended deck r n rest s = ap has_end (pieces_here s.before s.parts s.pieces) ∙ waits_no_end r s.parts (early s.before) s.waits
 
--- what the card's faults are, told by the parts
+-- what the card's faults are, by the parts
 same_early : (deck : List ℕ) (r : Reader) (n : ℕ) (rest line : List ℕ) (s : Reached deck r n rest)
     → merge (early s.before) (card_fault (is_some s.parts) (kind_of (next_card n line)) n line) ≡ early (s.before ++ next_card n line ∷ [])
 same_early deck r n rest line s = ap (λ b. merge (early s.before) (card_fault b (kind_of (next_card n line)) n line)) (sym s.begun) ∙ sym (early_more s.before (next_card n line))

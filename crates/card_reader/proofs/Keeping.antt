@@ -179,7 +179,7 @@ pub piece_ends : (b : Bool) (r closed after : Reader) (p : Parts) (e : Option Ca
 piece_ends false r closed after p e h c is s q = requoted closed after (parts (p.whole ++ p.last ∷ []) [] p.quote) e None (closes r closed p e h c (sym is)) s q
 piece_ends true r closed after p e h c is s q = λ more. ends_same closed after (p.whole ++ p.last ∷ more) e (closes_end r closed p e more h c (sym is)) s
 
--- the faults told so far, and one more
+-- the faults reported so far, and one more
 merge_later : (e l f : Option CardFault) → merge (merge e l) f ≡ merge (merge e f) l
 merge_later e l f = merge_shift e l f ∙ ap (merge e) (merge_swap l f) ∙ sym (merge_shift e f l)
 

@@ -44,7 +44,7 @@ pub record Reached (deck : List ℕ) (r : Reader) (number : ℕ) (rest : List �
   pub waits : Waits r parts (early before)
   pub ended : ended (cards deck) ≡ ended_at before (numbered_from number (lines rest))
 
--- the answer of a reader that has read all
+-- the result of a reader that has read all
 abbrev pub answer : List Statement → Option CardFault → Result (List Statement) CardFault
 answer statements None = Ok statements
 answer statements (Some f) = Err f

@@ -8,7 +8,7 @@
 //! `view_deck(alloc, &arena, bytes)` does the same without a copy of texts that stand on one card.
 //!
 //! Promised: each is the definition `deck` of `model`'s `Cards`, both ways, for every list of bytes; C7 says that a
-//! growth of memory was refused, in place of any other answer.
+//! growth of memory was refused, in place of any other result.
 #![tactic(auto)]
 
 ghost use Rattle.std.specs.Prelude.{◌≡◌, ◌≢◌, ◌≤◌, length, IfOk, IfErr, Ok, Err};
@@ -63,8 +63,8 @@ const NO_MEMORY: CardFault = CardFault {
 };
 
 /// The statements of a deck up to and with END, or its first fault: the least card's, and there the least rule's.
-/// A refused growth of memory is told at card 0 in place of any other fault. Texts that stand on several cards are kept
-/// in the arena.
+/// A refused growth of memory is reported at card 0 in place of any other fault. Texts that stand on several cards are
+/// kept in the arena.
 pub fn view_deck<'a>(
     alloc: Global,
     arena: &'a Bump,
@@ -86,7 +86,7 @@ pub fn view_deck<'a>(
     }
 }
 
-/// The same with texts of its own.
+/// The statements of a deck up to and with END, each with a text of its own, or its first fault as `view_deck` has it.
 pub fn read_deck(alloc: Global, deck: &[u8]) -> Result<Deck, CardFault>
     ensures statements { IfOk result (λ d. cards.deck deck.now ≡ Ok d.statements) }
     ensures fault { IfErr result (λ f. f.rule ≢ rule.Memory → cards.deck deck.now ≡ Err f) }

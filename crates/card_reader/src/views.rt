@@ -64,7 +64,7 @@ pub struct DeckView<'a> {
 }
 
 impl<'a> DeckView<'a> {
-    /// The same with copies of the texts.
+    /// The deck with copies of the texts.
     pub(crate) fn to_deck(&self, alloc: Global) -> Result<Deck, AllocError>
         ensures { IfOk result (λ d. d.statements ≡ self.now.statements) }
     {

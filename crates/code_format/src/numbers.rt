@@ -55,7 +55,7 @@ pub(crate) fn first_u64(bytes: &[u8]) -> Option<(u64, &[u8])>
     Some((n, &bytes[8..]))
 }
 
-/// What is told of a field that is cut: no bytes are left where it ends.
+/// What is reported of a field that is cut: no bytes are left where it ends.
 pub const CUT: Miss = Miss {
     left: 0,
     rule: FormatRule::Truncated,

@@ -29,7 +29,7 @@ use Rattle.codegen_laws.proofs.Sounding.{is_sound, statement_there}
 use Rattle.codegen_laws.proofs.Standing.{Held, AllHeld}
 use Rattle.codegen_laws.proofs.TextPlaces.{all_held}
 
--- where nothing is told of any part behind those before it, nothing is told of all
+-- where nothing is reported of any part behind those before it, nothing is reported of all
 scan_fine : {A : Type 0} (fault : List A → ℕ → A → Option ModuleFault) (width : A → ℕ) (whole : List A) → ((front : List A) (x : A) (rest : List A) → whole ≡ front ++ x ∷ rest → (pos : ℕ) → fault front pos x ≡ None)
     → (xs front : List A) (pos : ℕ) → whole ≡ front ++ xs → fault_among fault width front pos xs ≡ None
 scan_fine fault width whole all [] front pos e = refl

@@ -93,7 +93,7 @@ sound_units (status.Ended e) s' (Ok done) a b c is k h = subst (λ (x : Status).
 sound_units status.Running s' (Err unit) a b c is k h = subst (λ (x : Status). IfRan x (Same (failures_at a) (failures_at c))) (sym is) tt
 sound_units (status.Ended e) s' (Err unit) a b c is k h = subst (λ (x : Status). IfRan x (Same (failures_at a) (failures_at c))) (sym is) tt
 
--- the card that is told
+-- the card that is reported
 pub card_kept : (cards : List ℕ) (s s' : Status) (written : Result (Unit {0}) ℕ) (c c' : ℕ) → IsFinished s written s' → c' ≡ c → c ≡ card_told cards s → IfRan s' (c' ≡ card_told cards s')
 card_kept cards (status.Stopped why) s' written c c' is e h = subst (λ (x : Status). IfRan x (c' ≡ card_told cards x)) (sym is) tt
 card_kept cards status.Running s' (Ok done) c c' is e h = subst (λ (x : Status). IfRan x (c' ≡ card_told cards x)) (sym is) (e ∙ h)

@@ -1,4 +1,4 @@
--- The card that is told beside a run's status.
+-- The card that is reported beside a run's status.
 use Rattle.std.specs.Prelude.{ℕ, ℤ, pos, negsuc, List}
 use Rattle.model.specs.declared.run.Ending.TheVariants.{Normal, Error, StLimit}
 use Rattle.model.specs.declared.run.Status.{Status}
@@ -10,7 +10,7 @@ abbrev pub number_in : ℤ → ℕ
 number_in (pos n) = n
 number_in (negsuc n) = 0
 
--- the number of the statement that a status tells of; 0 where it tells of none
+-- the number of the statement that a status names; 0 where it names none
 abbrev pub statement_told : Status → ℕ
 statement_told (Ended (Error e k)) = number_in k
 statement_told (Ended (StLimit n)) = n

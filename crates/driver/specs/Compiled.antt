@@ -48,9 +48,9 @@ IsRefusalOf deck (refusal.Card f) = verdict deck ≡ CardRefused f
 IsRefusalOf deck (refusal.Statements fs) = verdict deck ≡ Refused fs
 IsRefusalOf deck refusal.Memory = ⊤
 
--- ---- how faults of the layers are told
+-- ---- how faults of the layers are reported
 
--- want of memory is told in one way
+-- want of memory is reported in one way
 abbrev pub OfCards : CardFault → Refusal → Type 0
 OfCards f (refusal.Card g) = (g ≡ f) × (f.rule ≢ rule.Memory)
 OfCards f (refusal.Statements fs) = ⊥

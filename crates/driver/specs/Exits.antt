@@ -1,4 +1,4 @@
--- The exit status of the program, as a function of what it has to tell.
+-- The exit status of the program, as a function of what it has to report.
 use Rattle.std.specs.Prelude.{◌≡◌, ◌⊎◌, ℕ, List, [], ◌∷◌, Option, Some, None}
 use Rattle.model.specs.declared.format.FormatRule.{FormatRule}
 use Rattle.model.specs.declared.format.FormatRule.TheVariants as rule
@@ -51,7 +51,7 @@ exit_of (told.CannotRead file) = 6
 exit_of (told.CannotWrite file) = 6
 exit_of told.NoMemory = 6
 
--- of what the program has to tell, if anything
+-- of what the program has to report, if anything
 abbrev pub exit_of_outcome : Option Told → ℕ
 exit_of_outcome (Some told) = exit_of told
 exit_of_outcome None = 0

@@ -52,7 +52,7 @@ error_number error.TooManyArguments = 16
 abbrev pub ending_lines : Ending → (card : ℕ) → List ℕ
 ending_lines ending.Normal card = []
 ending_lines (ending.StLimit n) card = (codes "stlimit statement " ++ decimal n) ++ line (card_text card)
-ending_lines (ending.Error code n) card = (codes "error E" ++ decimal (error_number code) ++ codes " statement " ++ signed_decimal n) ++ line (card_text card)
+ending_lines (ending.Error code n) card = (codes "error E" ++ (decimal (error_number code) ++ (codes " statement " ++ signed_decimal n))) ++ line (card_text card)
 
 abbrev pub stop_lines : Stop → List ℕ
 stop_lines stop.NoMemory = no_memory_line

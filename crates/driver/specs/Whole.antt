@@ -22,7 +22,7 @@ use Rattle.statement_machine.specs.Stopped.{IfRan, IfStop, ending_of, stop_of_ru
 
 -- ---- in the deck's own words, without machine or image
 
--- P holds of what the units held at first, of how the run ended, if it has, and of what it printed, on units that tell:
+-- P holds of what the units held at first, of how the run ended, if it has, and of what it printed, on units that expose what they hold:
 -- what was printed after is what was printed before, and then this
 abbrev pub OfRun : Status → Option Io → Option Io → (Inputs → Seen → Type 0) → Type 0
 OfRun status before after P = IfTold before after (λ io io'. (new : Records) × (io'.printed ≡ io.printed ++ new) × P io.left (record { ending = ending_of status; printed = new }))

@@ -60,7 +60,7 @@ fn of_fault(fault: LoadFault) -> u8
     }
 }
 
-/// The exit status for what is told.
+/// The exit status for what is reported.
 pub fn exit_status(told: &Told<'_>) -> u8
     ensures { result ≡ exit_of told.now }
 {

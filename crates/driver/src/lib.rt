@@ -1,16 +1,16 @@
 //! Whole calls: from a deck to a module, from a module to what it prints, and the words of the program `sno`.
 //!
 //! `run_deck(alloc, deck, units, bound)` compiles a deck and runs its module, at most `bound` steps; `compile_deck` and
-//! `run_with_card` are its halves, `run_module` is the second without the card of an error, `check_module` and `show` look
-//! at a module, and `upgrade` writes one of version 1 of the format anew.
+//! `run_with_card` are its halves, `run_module` is the second without the card of an error, `check_module` and `show`
+//! look at a module, and `upgrade` writes one of version 1 of the format anew.
 //!
 //!     let ran = run_deck(alloc, b" OUTPUT = 'HI'\nEND\n", &mut units, 1_000)?;
 //!
 //! Promised, of `run_deck`: a deck is refused by exactly its faults (`refused`). A run does what the deck means
-//! (`meaning`): it ends as the deck's meaning does, with that printed, or what it printed is a prefix of what the meaning
-//! prints (`sound`); a meaning that ends after r rules is reached within 5 * (r + 1) steps (`reaches`); and what a meaning
-//! prints within r rules is printed within so many steps, also where neither ends (`prints`). The exit status is a function
-//! of what is told (`exit_status`). Words and lines (`read_words`, `report`) are tested.
+//! (`meaning`): it ends as the deck's meaning does, with that printed, or what it printed is a prefix of what the
+//! meaning prints (`sound`); a meaning that ends after r rules is reached within 5 * (r + 1) steps (`reaches`); and
+//! what a meaning prints within r rules is printed within so many steps, also where neither ends (`prints`). The exit
+//! status is a function of what is reported (`exit_status`). Words and lines (`read_words`, `report`) are tested.
 #![tactic(auto)]
 
 mod compiling;

@@ -19,12 +19,12 @@ use statement_machine::Unwatched;
 use std::alloc::Global;
 use unit_io::Units;
 
-/// How a run came out, and the card where the statement begins that this tells of.
+/// How a run came out, and the card where the statement begins that this is about.
 #[derive(Clone, Copy, Debug)]
 pub struct Ran {
     /// How it came out.
     pub status: Status,
-    /// 0 where no card is known, or no statement is told of.
+    /// 0 where no card is known, or the status names no statement.
     pub card: u32,
 }
 
@@ -43,7 +43,7 @@ fn card_at(program: &Module, statement: i64) -> u32
     }
 }
 
-/// The card that is told beside a status.
+/// The card that is reported beside a status.
 pub(crate) fn card_told(program: &Module, status: Status) -> u32
     requires { IsLoaded program.now }
     ensures { result ≡ card_told program.now.cards status }
@@ -55,8 +55,8 @@ pub(crate) fn card_told(program: &Module, status: Status) -> u32
     }
 }
 
-/// Runs the module that bytes spell, at most so many steps, or tells why it is refused. The card is the one where the
-/// statement begins that the status tells of.
+/// Runs the module that bytes spell, at most so many steps, or reports why it is refused. The card is the one where the
+/// statement begins that the status names.
 pub fn run_with_card<U: Units>(
     alloc: Global,
     bytes: &[u8],
@@ -84,7 +84,7 @@ pub fn run_with_card<U: Units>(
     watch_with_card(alloc, bytes, units, bound, &mut Unwatched)
 }
 
-/// Runs the module that bytes spell, at most so many steps, or tells why it is refused.
+/// Runs the module that bytes spell, at most so many steps, or reports why it is refused.
 pub fn run_module<U: Units>(
     alloc: Global,
     bytes: &[u8],

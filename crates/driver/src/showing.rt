@@ -12,7 +12,7 @@ use model::{Instr, LoadFault};
 use std::alloc::Global;
 use std::io::{self, Write};
 
-/// Accepts a module, or tells why it is refused.
+/// Accepts a module, or reports why it is refused.
 pub fn check_module(alloc: Global, bytes: &[u8]) -> Result<(), LoadFault>
     ensures refused { IfErr result (λ fault. IsAnswer bytes.now (Err fault)) }
     ensures accepted { OnOk result ((m : Image) × (read_image bytes.now ≡ Ok m) × IsLoaded m) }

@@ -1,4 +1,4 @@
-//! What the program tells on standard error.
+//! What the program reports on standard error.
 
 ghost use Rattle.std.specs.Prelude.{◌≡◌, IfOk, IfSome, OnOk};
 ghost use Rattle.std.specs.Io.KnownBytes.{Appends};
@@ -12,7 +12,7 @@ use crate::running::Ran;
 use model::{Ending, ErrorCode, FormatFault, FormatRule, LoadFault, Status, Stop, UnitFault};
 use std::io::{self, Write};
 
-/// What the program has to tell at its end.
+/// What the program has to report at its end.
 #[derive(Debug, Drop)]
 pub enum Told<'a> {
     BadCommandLine,
@@ -174,7 +174,7 @@ fn tell<W: Write>(told: &Told<'_>, out: &mut W) -> io::Result<()>
     }
 }
 
-/// Writes the lines that tell it, and gives the exit status. After a failure nothing is said of what was written.
+/// Writes the lines that report it, and returns the exit status. After a failure nothing is said of what was written.
 pub fn report<W: Write>(told: &Told<'_>, out: &mut W) -> Result<u8, WriteFault>
     ensures exit { IfOk result (λ exit. exit ≡ exit_of told.now) }
     // These lines, where the library says what it writes for all that they show.

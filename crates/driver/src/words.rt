@@ -5,7 +5,7 @@ use clap::error::ErrorKind;
 use clap::{Arg, ArgAction, ArgMatches, Command, Error};
 use std::alloc::{AllocError, Global};
 
-/// How many steps a run takes at most, where the words don't tell.
+/// How many steps a run takes at most, where the words don't say.
 const DEFAULT_STEPS: u64 = 1_000_000_000;
 
 /// The last unit.

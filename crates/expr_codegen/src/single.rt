@@ -65,7 +65,7 @@ fn primitive_call(wants_name: bool, primitive: PrimId, count: u8) -> Instr
     }
 }
 
-// The same of a function of the program's own.
+// The call of a function of the program's own, for a name or for a value.
 fn own_call(wants_name: bool, name: u32, count: u16) -> Instr
     ensures { result ≡ (if wants_name then Instr.CallN name count else Instr.CallV name count) }
 {

@@ -8,7 +8,8 @@ use pattern_compiler::PatCode;
 use std::alloc::{AllocError, Global};
 use strings::Text;
 
-/// The code of a literal, which answers the same text again without memory of its own, and another one in its memory.
+/// The code of a literal, which is given for the same text again without memory of its own, and another one in its
+/// memory.
 #[derive(Drop)]
 pub(crate) struct Literal {
     code: PatCode,

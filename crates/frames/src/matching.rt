@@ -205,8 +205,8 @@ impl Matching {
         self.held.matcher.event()
     }
 
-    /// The answer that a value is to a match that wants a pattern, a count or bytes. A string that answers again takes no
-    /// memory.
+    /// The answer that a value is to a match that wants a pattern, a count or bytes. A string that is given again takes
+    /// no memory.
     pub fn answer(&mut self, alloc: Global, want: Want, value: &Value) -> Result<Answer, Fault>
         ensures answer { Converts (answer_map answer_view result)
             (answer_of codes_of (want_of want) (value_of value.now)) }
@@ -239,8 +239,8 @@ impl Matching {
 
     /// Answers the question that was the last event, and as often as it comes again, at most so many times more: where
     /// it is for a pattern at the ends of an ARB, and the answer is a literal that doesn't stand there. How many times
-    /// more; None where that isn't so, and then nothing is answered. Where each answer takes so many steps of the machine,
-    /// it makes those, two to the end of each match of the literal, and two between it and the next question.
+    /// more; None where that isn't so, and then nothing is answered. Where each answer takes so many steps of the
+    /// machine, it makes those, two to the end of each match of the literal, and two between it and the next question.
     #[inline(always)]
     pub fn answer_again(
         &mut self,

@@ -1,4 +1,4 @@
--- What calls of keywords answer.
+-- What calls of keywords return.
 use Rattle.std.specs.Prelude.{ℤ, Bool, true, false, Result, Ok, Err, if◌then◌else◌}
 use Rattle.model.specs.Language.Keywords.{Keys, allows, return_name, IsInteger, IsText}
 use Rattle.model.specs.Language.Keywords as model
@@ -24,7 +24,7 @@ is_counter k.StFCount = true
 is_counter k.FncLevel = true
 is_counter _ = false
 
--- the answer to a statement's assignment
+-- the result of a statement's assignment
 abbrev pub set_answer : KeyId → ℤ → Result (Unit {0}) KeyFault
 set_answer id n = if is_protected id then Err Protected else (if allows id n then Ok tt else Err NotAllowed)
 

@@ -1,4 +1,4 @@
--- What the scan of one piece answers.
+-- What the scan of one piece returns.
 use Rattle.std.specs.Prelude.{◌≡◌, ◌<◌, ◌≤◌, ℕ, List, [], ◌∷◌, length, take, drop, Option, Some, None}
 use Rattle.model.specs.Deck.Cut.{Class, Piece, Token, Stray, Unclosed}
 use Rattle.model.specs.Deck.Cut as cut
@@ -31,7 +31,7 @@ abbrev pub fits : List ℕ → Scanned → Type 0
 fits text (s.Token k n) = (0 < n) × (n ≤ length text)
 fits text _ = Unit {0}
 
--- the scan of this text answers what the function `pieces` finds
+-- the scan of this text returns what the function `pieces` finds
 abbrev pub IsFound : List ℕ → Scanned → FirstPiece → Type 0
 IsFound text p f = (found_by text p ≡ f) × fits text p
 

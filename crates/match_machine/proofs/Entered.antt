@@ -1,4 +1,4 @@
--- Patterns that are entered and fail at once.
+-- Patterns that are entered and fail immediately.
 use Rattle.std.proofs.Common.{◌≡◌, ℕ, ◌+◌, List, [], ◌∷◌, refl, sym, ◌∙◌, ap, subst, arith}
 use Rattle.std.specs.Prelude.{Some}
 use Rattle.model.specs.Pattern.Patterns.{IsPattern}

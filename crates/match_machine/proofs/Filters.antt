@@ -1,4 +1,4 @@
--- Starts from which a look or a filter tells that the match fails.
+-- Starts from which a look or a filter shows that the match fails.
 use Rattle.std.proofs.Common.{◌≡◌, ℕ, ℤ, zero, suc, ◌+◌, ◌-◌, ◌*◌, ◌<◌, ◌≤◌, List, [], ◌∷◌, ◌++◌, length, get_or, drop, take, refl, sym, ◌∙◌, ap, subst, arith, Bool, true, false}
 use Rattle.std.specs.Prelude.{min, not, Some, slice_get, ◌/◌, ◌==◌, ◌||◌}
 use Rattle.std.specs.List.{prefix_len, starts_with}

@@ -1,4 +1,4 @@
--- Attempts that fail at once, whatever is gone back to.
+-- Attempts that fail immediately, whatever is gone back to.
 use Rattle.std.proofs.Common.{◌≡◌, ℕ, ℤ, zero, suc, ◌+◌, ◌<◌, ◌≤◌, List, [], ◌∷◌, ◌++◌, length, refl, sym, ◌∙◌, ap, subst, arith}
 use Rattle.std.specs.Prelude.{Option, Some, slice_get}
 use Rattle.model.specs.Deck.Target.{Name}

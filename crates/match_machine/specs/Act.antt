@@ -19,7 +19,7 @@ act_of u t act.Opens = s.pattern_act u (Some p.Open) t
 act_of u t act.OpensFence = s.pattern_act u (Some p.OpenFence) t
 act_of u t act.ClosesFence = s.pattern_act u (Some p.CloseFence) t
 
--- an assignment of what stands since OPEN, at once or after the match
+-- an assignment of what stands since OPEN, immediately or after the match
 abbrev pub assigning : Bool → target.Name → p.Instr
 assigning true x = p.Say x
 assigning false x = p.Close x

@@ -1,4 +1,4 @@
-//! What a match asks and tells, and the answers that it takes.
+//! What a match asks and reports, and the answers that it takes.
 
 use pattern_compiler::{Name, PatCode};
 use strings::Text;

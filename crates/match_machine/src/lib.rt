@@ -1,7 +1,7 @@
 //! The matcher: pattern code on a subject, step by step.
 //!
-//! `Matcher::start(alloc, code, subject, anchored)` is a match before its first step; `go_on(bound)` makes steps up to the
-//! next event, which `event()` tells; `supply(answer)` answers the question that it asks.
+//! `Matcher::start(alloc, code, subject, anchored)` is a match before its first step; `go_on(bound)` makes steps up to
+//! the next event, which `event()` returns; `supply(answer)` answers the question that it asks.
 //!
 //!     let mut matcher = Matcher::start(alloc, code, subject, false);
 //!     let steps = matcher.go_on(1_000)?;

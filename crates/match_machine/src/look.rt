@@ -15,7 +15,7 @@ use pattern_compiler::{Basic, Instr};
 /// Behind so many steps no further SPLIT is looked at.
 const MANY: u64 = 96;
 
-/// Whether a part has no end from a place, where a look at the bytes there tells.
+/// Whether a part has no end from a place, where a look at the bytes there shows it.
 #[inline(always)]
 fn misses(bytes: &[u8], cursor: usize, part: &Basic) -> bool
     requires { cursor ≤ length bytes.now }
@@ -78,7 +78,7 @@ pub fn opens_at(instrs: &[Instr], place: usize) -> bool
     }
 }
 
-/// Whether the part at a place has no end from a cursor, where a look tells.
+/// Whether the part at a place has no end from a cursor, where a look shows.
 #[inline(always)]
 fn misses_at(bytes: &[u8], instrs: &[Instr], place: usize, cursor: usize) -> bool
     requires cursor { cursor ≤ length bytes.now }
@@ -90,8 +90,8 @@ fn misses_at(bytes: &[u8], instrs: &[Instr], place: usize, cursor: usize) -> boo
     }
 }
 
-/// The parts from which an attempt fails at a place, and in how many steps, if both have no end: the part there, or, where
-/// SPLIT stands there, the parts that it leads to.
+/// The parts from which an attempt fails at a place, and in how many steps, if both have no end: the part there, or,
+/// where SPLIT stands there, the parts that it leads to.
 #[inline(always)]
 pub fn parts_beside(instrs: &[Instr], place: usize) -> Option<(&Basic, Option<&Basic>, u64)>
     ensures fails { IfSome result (λ (part, other, steps). (u : List ℕ) (c : ℕ) (ns : List Note)
@@ -195,9 +195,9 @@ fn fails_straight(
     }
 }
 
-/// In how many steps an attempt fails where all ways of the SPLITs fail that stand one behind the other at a place, if any, as
-/// by `fails_at`. Their other ways are looked at if parts stand there, and not too many. Apart, so that each instruction is
-/// short.
+/// In how many steps an attempt fails where all ways of the SPLITs fail that stand one behind the other at a place, if
+/// any, as by `fails_at`. Their other ways are looked at if parts stand there, and not too many. Apart, so that each
+/// instruction is short.
 #[inline(never)]
 fn fails_split(
     bytes: &[u8],
@@ -232,7 +232,7 @@ fn misses_apart(bytes: &[u8], cursor: usize, part: &Basic) -> bool
     misses(bytes, cursor, part)
 }
 
-/// The same, with RPOS looked at in line.
+/// Whether a part has no end from a place, with RPOS looked at in line.
 #[inline(always)]
 fn misses_in_line(bytes: &[u8], cursor: usize, part: &Basic) -> bool
     requires { cursor ≤ length bytes.now }
@@ -244,9 +244,9 @@ fn misses_in_line(bytes: &[u8], cursor: usize, part: &Basic) -> bool
     }
 }
 
-/// In how many steps an attempt fails at a place, which may be the end of its code, whatever is gone back to; at most so
-/// many, and 0 where no look tells that it does. Of an attempt with other notes than a trail's, what stands around its
-/// code isn't looked at. A part and the end of the code are told apart in line, and of a jump nothing is told.
+/// In how many steps an attempt fails at a place, which may be the end of its code, whatever is gone back to; at most
+/// so many, and 0 where no look shows that it does. Of an attempt with other notes than a trail's, what stands around
+/// its code isn't looked at. A part and the end of the code are told apart in line, and of a jump nothing is known.
 #[inline(always)]
 pub fn fails_at(
     bytes: &[u8],

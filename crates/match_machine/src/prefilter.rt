@@ -37,7 +37,7 @@ pub struct Firsts {
     pub steps: u64,
 }
 
-/// At how many places from one on the instruction at a place of the code fails, as a search for a byte tells; at most
+/// At how many places from one on the instruction at a place of the code fails, as a search for a byte shows; at most
 /// so many.
 #[inline(always)]
 pub fn idle_from(subject: &[u8], code: &PatCode, place: usize, from: usize, limit: usize) -> usize
@@ -72,7 +72,7 @@ pub fn none_passed() -> Passed
     }
 }
 
-/// Past starts that fail at the first part, which may stand behind OPEN, as a search for it tells; of so many that are
+/// Past starts that fail at the first part, which may stand behind OPEN, as a search for it shows; of so many that are
 /// left, in at most so many steps.
 #[inline(always)]
 pub fn pass_part(bytes: &[u8], code: &PatCode, start: usize, left: usize, bound: u64) -> Passed
@@ -126,8 +126,8 @@ fn behind_splits(instrs: &[Instr], from: usize) -> usize
     place
 }
 
-/// The first bytes of an alternation of literals at a place, and in how many steps an attempt there fails that begins with
-/// none of them; nothing where something else stands there, or more than so many.
+/// The first bytes of an alternation of literals at a place, and in how many steps an attempt there fails that begins
+/// with none of them; nothing where something else stands there, or more than so many.
 #[inline(always)]
 fn gather(instrs: &[Instr], place: usize, found: &mut [u8; 32]) -> Option<(usize, u64)>
     ensures few { IfSome result (λ (count, steps). count ≤ 32) }
@@ -153,7 +153,7 @@ fn gather(instrs: &[Instr], place: usize, found: &mut [u8; 32]) -> Option<(usize
     Some((count, steps))
 }
 
-/// The bytes that a match of code may begin with, where an alternation of literals tells.
+/// The bytes that a match of code may begin with, where an alternation of literals shows them.
 #[inline(never)]
 fn firsts_of(instrs: &[Instr]) -> Option<Firsts>
     ensures { IfSome result (λ firsts. AreFirsts (code_of instrs.now) firsts) }
@@ -167,7 +167,7 @@ fn firsts_of(instrs: &[Instr]) -> Option<Firsts>
     })
 }
 
-/// The same, if many starts are left.
+/// The bytes that a match of code may begin with, if many starts are left and an alternation of literals shows them.
 #[inline(always)]
 fn filter_of(instrs: &[Instr], left: usize) -> Option<Firsts>
     ensures { IfSome result (λ firsts. AreFirsts (code_of instrs.now) firsts) }
@@ -230,7 +230,7 @@ fn pass_others(
     }
 }
 
-/// In how many steps the first attempt of a start fails, if a look tells that it does, and 0 else; at most so many.
+/// In how many steps the first attempt of a start fails, if a look shows that it does, and 0 else; at most so many.
 #[inline(always)]
 fn fails_from(bytes: &[u8], instrs: &[Instr], start: usize, most: u64) -> u64
     requires { start ≤ length bytes.now }
@@ -245,7 +245,7 @@ fn fails_from(bytes: &[u8], instrs: &[Instr], start: usize, most: u64) -> u64
     if fails > 0 { fails + opening } else { 0 }
 }
 
-/// Past one start, if a look tells that the match fails from there.
+/// Past one start, if a look shows that the match fails from there.
 #[inline(always)]
 fn pass_one(bytes: &[u8], instrs: &[Instr], start: usize, left: usize, bound: u64) -> Passed
     requires starts { start + left ≤ length bytes.now }
@@ -264,7 +264,7 @@ fn pass_one(bytes: &[u8], instrs: &[Instr], start: usize, left: usize, bound: u6
     }
 }
 
-/// Past starts that a filter, if there is one, or a look tells to fail.
+/// Past starts that a filter, if there is one, or a look shows to fail.
 #[inline(always)]
 fn pass_some(
     bytes: &[u8],
@@ -292,7 +292,7 @@ fn pass_some(
     }
 }
 
-/// Past starts of code with an alternation in front, as looks and the bytes tell that it may begin with.
+/// Past starts of code with an alternation in front, as looks and the bytes show that it may begin with.
 #[inline(never)]
 fn pass_alternation(bytes: &[u8], instrs: &[Instr], start: usize, left: usize, bound: u64) -> Passed
     requires starts { start + left ≤ length bytes.now }
@@ -337,7 +337,7 @@ pub fn pass(bytes: &[u8], code: &PatCode, start: usize, left: usize, bound: u64)
     }
 }
 
-/// In how many steps a match fails from its last start, if a look tells that it does, and 0 else; at most so many.
+/// In how many steps a match fails from its last start, if a look shows that it does, and 0 else; at most so many.
 #[inline(always)]
 pub fn lost_from(bytes: &[u8], code: &PatCode, start: usize, bound: u64) -> u64
     requires { start ≤ length bytes.now }

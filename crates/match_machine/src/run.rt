@@ -64,7 +64,8 @@ fn onward_past(run: &mut Run, place: usize, cursor: usize) -> Result<(), AllocEr
     onward_out(run, place, cursor)
 }
 
-/// The same, where entered patterns may have to be left. Apart, so that the end of the match is short.
+/// On at a place and a cursor, where entered patterns may have to be left. Apart, so that the end of the match is
+/// short.
 #[inline(never)]
 fn onward_out(run: &mut Run, place: usize, cursor: usize) -> Result<(), AllocError>
     ensures state { OnOk result ((u : List ℕ) → state_of u run.new ≡ gone u run.old place cursor) }

@@ -127,7 +127,8 @@ impl Trail {
         }
     }
 
-    /// The same, where there are some. Apart, so that the other way is short.
+    /// Drops the notes, pending assignments and choices, of which there are some. Apart, so that the other way is
+    /// short.
     #[inline(never)]
     fn empty_lists(&mut self)
         ensures { self.new ≡ record { code = self.old.code; notes = []; pending = []; backs = [] } }
@@ -303,7 +304,7 @@ impl Trail {
         Ok(())
     }
 
-    /// The same, where the assignments have no room. Apart, so that the other way is short.
+    /// A pending assignment more, where the list has no room. Apart, so that the other way is short.
     #[cold]
     #[inline(never)]
     fn assign_growing(&mut self, assignment: Assignment) -> Result<(), AllocError>
@@ -365,7 +366,8 @@ impl Trail {
         Ok(())
     }
 
-    /// The same, where the code isn't stored yet or the choices have no room. Apart, so that the other way is short.
+    /// Keeps a choice, where the code isn't stored yet or the choices have no room. Apart, so that the other way is
+    /// short.
     #[cold]
     #[inline(never)]
     fn keep_growing(&mut self, kept: Kept, place: usize, cursor: usize) -> Result<(), AllocError>
@@ -512,7 +514,7 @@ impl Trail {
         }
     }
 
-    /// The same, where a log may have to be cut. Apart, so that the other way is short.
+    /// Back to the newest choice, where a log may have to be cut. Apart, so that the other way is short.
     #[inline(never)]
     fn back_cutting(&mut self) -> Result<Option<Choice>, AllocError>
         ensures { IfOk result (λ o. MatchOption o (self.old.backs ≡ []) (λ x. IsBackTo self.old self.new x)) }

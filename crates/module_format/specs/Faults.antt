@@ -1,4 +1,4 @@
--- What a reader of modules answers.
+-- What a reader of modules returns.
 use Rattle.std.specs.Prelude.{◌≡◌, ◌⊎◌, ◌-◌, ℕ, Result, Ok, Err}
 use Rattle.model.specs.declared.format.FormatFault.{FormatFault}
 use Rattle.model.specs.declared.format.Miss.{Miss}

@@ -16,7 +16,7 @@ pub(crate) const MOST: u32 = 16_777_216;
 /// The most bytes of code.
 pub(crate) const MOST_CODE: u32 = 1_073_741_824;
 
-/// What is told of a field that these bytes begin with.
+/// What is reported of a field that these bytes begin with.
 pub(crate) fn miss(rule: FormatRule, bytes: &[u8]) -> Miss
     ensures { result ≡ record { left = length bytes.now; rule = rule } }
 {

@@ -1,14 +1,14 @@
 //! Modules as bytes: the one spelling of an image, and the image that bytes spell.
 //!
 //! `write_image(alloc, &image)` gives the bytes, `write_parts` those of an image whose code is bytes already;
-//! `read_image(alloc, bytes)` gives the image or the first fault and its offset; `view_image` the same without a copy of
-//! strings and code; `read_image_v1` and `view_image_v1` read what was written in version 1 of the format.
+//! `read_image(alloc, bytes)` gives the image or the first fault and its offset; `view_image` the same without a copy
+//! of strings and code; `read_image_v1` and `view_image_v1` read what was written in version 1 of the format.
 //!
 //!     let bytes = write_image(alloc, &image)?;
 //!     let same = read_image(alloc, &bytes)?;
 //!
 //! Promised: what is written is the image's one spelling (`model`'s `Spelling`); bytes are read exactly where they
-//! spell an image, and else the defined fault F1 to F6 is told at its offset; F7 says that a growth of memory was
+//! spell an image, and else the defined fault F1 to F6 is reported at its offset; F7 says that a growth of memory was
 //! refused. Nothing is reserved for a count before it is checked. Whether an image is well-formed is not asked here,
 //! but by `loader`.
 #![tactic(auto)]

@@ -98,8 +98,8 @@ fn answer(alloc: Global, version: Version, bytes: &[u8]) -> Result<Image, Format
     }
 }
 
-/// The image that the bytes spell, as slices of them, or the first fault and its offset. Where a growth was refused that
-/// is told in place of any other answer.
+/// The image that the bytes spell, as slices of them, or the first fault and its offset. Where a growth was refused
+/// that is reported in place of any other result.
 pub fn view_image<'a>(alloc: Global, bytes: &'a [u8]) -> Result<ImageView<'a>, FormatFault>
     ensures exact { IsAnswer result (read_image bytes.now) (length bytes.now) }
     ensures found { IfOk result (λ m. IsImage m × (bytes.now ≡ spelling m)) }
@@ -109,7 +109,7 @@ pub fn view_image<'a>(alloc: Global, bytes: &'a [u8]) -> Result<ImageView<'a>, F
     view_answer(alloc, Version::Two, bytes)
 }
 
-/// The same of bytes of version 1, which spell an image of level 1 and without cards.
+/// The image, of level 1 and without cards, that bytes of version 1 spell, or the first fault and its offset.
 pub fn view_image_v1<'a>(alloc: Global, bytes: &'a [u8]) -> Result<ImageView<'a>, FormatFault>
     ensures exact { IsAnswer result (image_in versions.One bytes.now) (length bytes.now) }
     ensures found { IfOk result (λ m.
@@ -120,8 +120,8 @@ pub fn view_image_v1<'a>(alloc: Global, bytes: &'a [u8]) -> Result<ImageView<'a>
     view_answer(alloc, Version::One, bytes)
 }
 
-/// The image that the bytes spell, or the first fault and its offset. Where a growth was refused that is told in place
-/// of any other answer.
+/// The image that the bytes spell, or the first fault and its offset. Where a growth was refused that is reported in
+/// place of any other result.
 pub fn read_image(alloc: Global, bytes: &[u8]) -> Result<Image, FormatFault>
     ensures exact { IsAnswer result (read_image bytes.now) (length bytes.now) }
     ensures found { IfOk result (λ m. IsImage m × (bytes.now ≡ spelling m)) }
@@ -132,7 +132,7 @@ pub fn read_image(alloc: Global, bytes: &[u8]) -> Result<Image, FormatFault>
 }
 
 /// The image that bytes of version 1 spell, of level 1 and without cards, or the first fault and its offset. Where a
-/// growth was refused that is told in place of any other answer.
+/// growth was refused that is reported in place of any other result.
 pub fn read_image_v1(alloc: Global, bytes: &[u8]) -> Result<Image, FormatFault>
     ensures exact { IsAnswer result (image_in versions.One bytes.now) (length bytes.now) }
     ensures found { IfOk result (λ m.

@@ -63,7 +63,7 @@ impl<'a> Model for ImageView<'a> {
 }
 
 impl<'a> ImageView<'a> {
-    /// What the module may name, and whether it tells cards.
+    /// What the module may name, and whether it has cards.
     pub fn level(&self) -> Level
         ensures { result ≡ self.now.level }
     {

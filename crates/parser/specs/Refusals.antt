@@ -8,11 +8,11 @@ use Rattle.model.specs.declared.trees.Program.{Program}
 use Rattle.model.specs.Deck.Faults.{faults, deck_trees}
 use Rattle.model.specs.Deck.TreeViews.{program_of}
 
--- these faulty statements, of which there is at least one, are told
+-- these faulty statements, of which there is at least one, are reported
 abbrev pub AreTold : List StmtFault → List StmtFault → Type 0
 AreTold faults fs = (fs ≡ faults) × (faults ≢ [])
 
--- all faulty statements are told, unless memory ran out
+-- all faulty statements are reported, unless memory ran out
 abbrev pub IsRefusal : List StmtFault → DeckFault → Type 0
 IsRefusal faults (fault.Faulty fs) = AreTold faults fs
 IsRefusal faults fault.Memory = ⊤

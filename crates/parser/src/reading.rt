@@ -62,7 +62,7 @@ fn tree<'a>(alloc: Global, tokens: &mut Vec<Token<'a>>, text: &'a [u8]) -> Resul
     parse_statement(alloc, tokens)
 }
 
-// The same where memory runs out apart.
+// The tree of a text or the cause for which it has none, with want of memory as a result of its own.
 fn tree_or_cause<'a>(
     alloc: Global,
     tokens: &mut Vec<Token<'a>>,

@@ -1,4 +1,4 @@
--- What calls of primitives answer.
+-- What calls of primitives return.
 use Rattle.std.specs.Prelude.{◌≡◌, ℕ, ℤ, map, Bool, true, false, not, int_le, int_lt, Option, Some, None, Result, Ok, Err}
 use Rattle.model.specs.declared.run.ErrorCode.{ErrorCode}
 use Rattle.model.specs.declared.run.ErrorCode.TheVariants as error
@@ -39,7 +39,7 @@ ComesTo (Ok r) w o = o ≡ op_of r w
 ComesTo (Err (fault.Error e)) w o = o ≡ Faults e w
 ComesTo (Err (fault.Stop s)) w o = Unit {0}
 
--- in each world, unless it stopped, a call answers as the operation does, which changes nothing
+-- in each world, unless it stopped, a call comes out as the operation does, which changes nothing
 abbrev pub AnswersAs : Result Outcome Fault → (MW → Op MW MVal) → Type 0
 AnswersAs r o = (w : MW) → ComesTo r w (returned (o w))
 
@@ -65,7 +65,7 @@ abbrev pub SameOr : Result Bool ErrorCode → Option Bool → Type 0
 SameOr (Ok b) same = same ≡ Some b
 SameOr (Err e) same = (same ≡ None) × (e ≡ error.WrongType)
 
--- unless it stopped, a call answers as the operation does, and its new world is what that leaves of the old one
+-- unless it stopped, a call comes out as the operation does, and its new world is what that leaves of the old one
 abbrev pub Changes : Result Outcome Fault → (MW → Op MW MVal) → (old new : WorldView) → Type 0
 Changes r o old new = (io : Io) → ComesTo r (world_of new io) (returned (o (world_of old io)))
 

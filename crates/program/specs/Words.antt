@@ -1,4 +1,4 @@
--- What each word of the program does: which file it reads and writes, and what it tells.
+-- What each word of the program does: which file it reads and writes, and what it reports.
 use Rattle.std.specs.Prelude.{◌≡◌, ◌⊎◌, ℕ, List, Option, Some, None, Result, Ok, Err, IfSome, codes}
 use Rattle.std.specs.Io.KnownBytes.{Appends}
 use Rattle.model.specs.declared.format.LoadFault.{LoadFault}
@@ -35,7 +35,7 @@ IsAccepted deck = (ss : List Stmt) × (verdict deck ≡ Accepted ss)
 abbrev pub IsTaken : List ℕ → Type 0
 IsTaken bytes = (m : Image) × (read_image bytes ≡ Ok m) × IsLoaded m
 
--- ---- what is told
+-- ---- what is reported
 
 abbrev pub told_of_run : Result Ran Told → Option Told
 told_of_run (Ok ran) = Some (told.Ran ran)
@@ -45,7 +45,7 @@ abbrev pub told_of_work : Result (Unit {0}) Told → Option Told
 told_of_work (Ok done) = None
 told_of_work (Err t) = Some t
 
--- what is told stands on standard error, of which these are the bytes before and after, and this is the exit status; 6 where
+-- what is reported stands on standard error, of which these are the bytes before and after, and this is the exit status; 6 where
 -- standard error took no line
 abbrev pub IsReported : Option Told → (status : ℕ) → (before after : Option (List ℕ)) → Type 0
 IsReported (Some t) status before after = ((status ≡ exit_of t) × IfSome (lines_of t) (Appends before after)) ⊎ (status ≡ 6)
@@ -95,12 +95,12 @@ OfRun accepted failed (Some (told.Ran ran)) = accepted
 OfRun accepted failed (Some t) = failed t
 OfRun accepted failed None = ⊥
 
--- of another word: its work is done and nothing is told, or the word came to nothing
+-- of another word: its work is done and nothing is reported, or the word came to nothing
 abbrev pub OfWork : (done : Type 0) → (failed : Told → Type 0) → Option Told → Type 0
 OfWork done failed None = done
 OfWork done failed (Some t) = failed t
 
--- files were read and written from one state to the next: what the word was to do is done, or what is told says why not
+-- files were read and written from one state to the next: what the word was to do is done, or what is reported says why not
 module _ {F : Type 0} (holds : F → List ℕ → List ℕ → Type 0) (input : F → List ℕ → Type 0) (writes : F → F → List ℕ → List ℕ → Type 0) where
   -- these bytes were written to the file with this name
   abbrev pub HasWritten : (old new : F) → List ℕ → (List ℕ → Type 0) → Type 0

@@ -187,7 +187,7 @@ pub fn write_whole<R: Files + AllocGlobal>(rt: &R, file: &str, bytes: &[u8]) -> 
     }
 }
 
-/// Writes a file so, or says what is to be told.
+/// Writes a file so, or says what is to be reported.
 pub(crate) fn write_file<'a, F: WholeFiles>(
     files: &mut F,
     file: &'a str,

@@ -291,7 +291,7 @@ fn run_file<'a, R: Files + Input + Print + AllocGlobal, F: WholeFiles>(
     run(rt, &bytes, steps, files)
 }
 
-/// What is told of a job that leads to a run, or fails.
+/// What is reported of a job that leads to a run, or fails.
 fn told_of<'a>(done: Result<Ran, Told<'a>>) -> Option<Told<'a>>
     ensures { result ≡ told_of_run done.entry }
 {
@@ -301,7 +301,7 @@ fn told_of<'a>(done: Result<Ran, Told<'a>>) -> Option<Told<'a>>
     }
 }
 
-/// What is told of work that leads to no run.
+/// What is reported of work that leads to no run.
 fn failure_of<'a>(done: Result<(), Told<'a>>) -> Option<Told<'a>>
     ensures { result ≡ told_of_work done.entry }
 {
@@ -311,8 +311,8 @@ fn failure_of<'a>(done: Result<(), Told<'a>>) -> Option<Told<'a>>
     }
 }
 
-/// Does what it is asked to do, and says what is to be told, if anything. Its exit status is one of those that docs/program.md
-/// has for the word.
+/// Does what it is asked to do, and says what is to be reported, if anything. Its exit status is one of those that
+/// docs/program.md has for the word.
 pub(crate) fn perform<'a, R: Files + Input + Print + AllocGlobal, F: WholeFiles>(
     rt: &R,
     whole: &mut F,

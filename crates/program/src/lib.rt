@@ -1,16 +1,16 @@
 //! What the program does: its words, its files, its lines and its exit status.
 //!
 //! `run(runtime, input, output, errors)` holds the numbers of the standard streams that are closed, reads the words,
-//! does what they ask by the calls of `driver`, tells what is to be told as lines of `errors`, and gives the exit
-//! status. docs/program.md has the rules.
+//! does what they ask by the calls of `driver`, reports what is to be reported as lines of `errors`, and returns the
+//! exit status. docs/program.md has the rules.
 //!
 //!     let status = run(&runtime, &runtime.stdin(), &runtime.stdout(), &mut errors);
 //!
 //! The program `snobol` too runs decks on the units that `units_of` gives, on the system of `system_of`.
 //!
-//! Promised: the exit status is a function of what is told, and one of those that docs/program.md has for the word; a deck
-//! is run only if it has no fault, and is refused by exactly its faults. What files and terminals hold and give isn't
-//! stated. Decks and commands of tests/ show the rest.
+//! Promised: the exit status is a function of what is reported, and one of those that docs/program.md has for the word;
+//! a deck is run only if it has no fault, and is refused by exactly its faults. What files and terminals hold and give
+//! isn't stated. Decks and commands of tests/ show the rest.
 #![tactic(auto)]
 
 ghost use Rattle.std.specs.Prelude.{Option, Some};
@@ -37,7 +37,7 @@ use std::process::ExitCode;
 use streams::{Stream, Streams};
 pub use system::RunSystem;
 
-/// The exit status where nothing can be told, since standard error takes no line.
+/// The exit status where nothing can be reported, since standard error takes no line.
 const NOTHING_TOLD: u8 = 6;
 
 /// The words after the program's name. One that isn't UTF-8 makes the command line a bad one.
@@ -78,7 +78,7 @@ fn answer<'a, R: Files + Input + Print + AllocGlobal>(
     }
 }
 
-/// Tells it, and gives the exit status, which is `NOTHING_TOLD` where standard error took no line.
+/// Reports it, and returns the exit status, which is `NOTHING_TOLD` where standard error took no line.
 fn tell<W: Write>(told: &Told<'_>, errors: &mut W) -> ExitCode
     ensures { IsReported (Some told.now) (exit_status result) (W.contents errors.old) (W.contents errors.new) }
 {
@@ -88,7 +88,7 @@ fn tell<W: Write>(told: &Told<'_>, errors: &mut W) -> ExitCode
     }
 }
 
-/// What is told where the number of a standard stream can't be held.
+/// What is reported where the number of a standard stream can't be held.
 fn not_held(stream: Stream) -> Told<'static> {
     match stream {
         Stream::Input => Told::CannotRead("standard input"),
@@ -97,7 +97,7 @@ fn not_held(stream: Stream) -> Told<'static> {
     }
 }
 
-/// Tells what is to be told, if anything, and gives the exit status.
+/// Reports what is to be reported, if anything, and returns the exit status.
 fn finish<W: Write>(outcome: Option<Told<'_>>, errors: &mut W) -> ExitCode
     ensures { IsReported outcome.entry (exit_status result) (W.contents errors.old) (W.contents errors.new) }
 {
@@ -123,15 +123,16 @@ fn perform_words<R: Env + Files + Input + Print + AllocGlobal, W: Write>(
     finish(answer(rt, &words), errors)
 }
 
-/// Does what the program's words ask for, tells what is to be told as lines of `errors`, and gives the exit status. The
-/// standard streams that are closed are held first.
+/// Does what the program's words ask for, reports what is to be reported as lines of `errors`, and returns the exit
+/// status. The standard streams that are closed are held first.
 pub fn run<R: Env + Files + Input + Print + AllocGlobal, I: AsFd, O: AsFd, W: Write + AsFd>(
     rt: &R,
     input: &I,
     output: &O,
     errors: &mut W,
 ) -> ExitCode
-    // There is something that stands on standard error as the lines that tell it, and whose exit status this is; or nothing.
+    // There is something that stands on standard error as the lines that tell it, and whose exit status this is; or
+    // nothing.
     ensures { (told : Option AnyTold) × IsReported told (exit_status result) (W.contents errors.old) (W.contents errors.new) }
 {
     match Streams::hold(rt, input, output, errors) {

@@ -53,7 +53,7 @@ impl<R> Drop for RunSystem<'_, R> {
 }
 
 /// The standard streams by their names in the system, the unit of each, and whether it is written while units are open.
-/// What is told on standard error comes behind the run, so a file may be read that takes it.
+/// What is reported on standard error comes behind the run, so a file may be read that takes it.
 const STREAMS: [(&str, u8, bool); 3] = [
     ("/proc/self/fd/0", 5, false),
     ("/proc/self/fd/1", 6, true),

@@ -6,7 +6,7 @@
 //!     let bounds = dimensions(alloc, &text)?;
 //!
 //! Promised: each is its definition in `model`'s `Prototypes`, for every text; only a refused growth of memory gives
-//! another answer.
+//! another result.
 #![tactic(auto)]
 
 mod array;

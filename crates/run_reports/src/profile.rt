@@ -24,8 +24,8 @@ pub(crate) struct Calls {
     pub(crate) steps: u64,
 }
 
-/// Counts, of each statement of a run, how often it began and failed, and its steps; and the calls and the steps of each
-/// function.
+/// Counts, of each statement of a run, how often it began and failed, and its steps; and the calls and the steps of
+/// each function.
 #[derive(Drop)]
 pub struct Profile {
     /// By the numbers of statements.
@@ -41,7 +41,7 @@ pub struct Profile {
     since: u64,
     /// The statement that runs.
     statement: u32,
-    /// How many steps were made, and how many statements had failed, when it was told of last.
+    /// How many steps were made, and how many statements had failed, when it was reported last.
     steps: u64,
     failures: i64,
     is_lost: bool,

@@ -66,7 +66,7 @@ fn compile<R: Env + Files + Input + AllocGlobal, W: Write>(
     }
 }
 
-/// Does what it is asked to do, writes messages to `errors`, and gives the exit status.
+/// Does what it is asked to do, writes messages to `errors`, and returns the exit status.
 pub(crate) fn perform<R: Env + Files + Input + Print + AllocGlobal, W: Write + IsTerminal>(
     rt: &R,
     job: Job<'_>,

@@ -90,7 +90,7 @@ fn check_sources<W: Write>(
     }
 }
 
-/// Says what is wrong in decks, read as one, and gives the exit status.
+/// Says what is wrong in decks, read as one, and returns the exit status.
 pub(crate) fn check<R: Env + Files + Input + AllocGlobal, W: Write>(
     rt: &R,
     decks: &[&str],
@@ -119,7 +119,7 @@ pub(crate) fn write_list<R: Env + Files + Print + AllocGlobal>(
     Ok(())
 }
 
-/// Lists decks, read as one, and gives the exit status.
+/// Lists decks, read as one, and returns the exit status.
 pub(crate) fn list_decks<R: Env + Files + Input + Print + AllocGlobal, W: Write>(
     rt: &R,
     decks: &[&str],

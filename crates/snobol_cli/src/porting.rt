@@ -13,8 +13,8 @@ use std::env::Env;
 use std::fs::Files;
 use std::io::{Input, Print, Write};
 
-/// Decks that are written anew as a deck of this language: its bytes, the card from which each of its cards comes, what was
-/// changed, and the words that give units the files which the decks name.
+/// Decks that are written anew as a deck of this language: its bytes, the card from which each of its cards comes, what
+/// was changed, and the words that give units the files which the decks name.
 #[derive(Drop)]
 pub(crate) struct Written {
     deck: Vec<u8>,
@@ -29,8 +29,8 @@ impl Written {
         !self.notes.is_empty()
     }
 
-    /// Whether the decks end by an error as they are: functions are defined that they call and don't define, or prototypes
-    /// have blanks.
+    /// Whether the decks end by an error as they are: functions are defined that they call and don't define, or
+    /// prototypes have blanks.
     pub(crate) fn is_needed(&self) -> bool {
         self.notes.iter().any(|note| matches!(note.change, Change::Functions | Change::Prototypes))
     }
@@ -124,7 +124,7 @@ fn report_notes<W: Write>(
     }
 }
 
-// Says what is wrong in a deck that was written anew, if anything, and gives the exit status.
+// Says what is wrong in a deck that was written anew, if anything, and returns the exit status.
 fn report_faults<W: Write>(alloc: Global, form: Form, sources: &Sources<'_>, errors: &mut W) -> u8 {
     match compile_deck(alloc, sources.bytes()) {
         Ok(_) => DONE,
@@ -135,8 +135,8 @@ fn report_faults<W: Write>(alloc: Global, form: Form, sources: &Sources<'_>, err
     }
 }
 
-/// Writes a deck as one of this language to standard output, says what was changed and what is wrong in it then, and gives
-/// the exit status.
+/// Writes a deck as one of this language to standard output, says what was changed and what is wrong in it then, and
+/// gives the exit status.
 pub(crate) fn port_deck<R: Env + Files + Input + Print + AllocGlobal, W: Write>(
     rt: &R,
     deck: &str,

@@ -68,7 +68,7 @@ fn exit_status(told: &Told<'_>) -> u8 {
     }
 }
 
-/// Writes what is reported to `errors`, as far as that and memory permit, and gives the exit status.
+/// Writes what is reported to `errors`, as far as that and memory permit, and returns the exit status.
 pub(crate) fn report_outcome<W: Write>(
     alloc: Global,
     form: Form,
@@ -90,7 +90,7 @@ pub(crate) fn report_outcome<W: Write>(
     }
 }
 
-/// The same where there is no deck and no unit.
+/// Writes what is reported where there is no deck and no unit, and returns the exit status.
 pub(crate) fn report_alone<W: Write>(
     alloc: Global,
     form: Form,

@@ -114,8 +114,8 @@ fn is_unread<R: Files + AllocGlobal>(rt: &R, told: &Told<'_>, files: &[UnitFile<
     }
 }
 
-// Runs decks, which are written anew if that is permitted, and they are refused as they are, or need it, or small letters
-// are to be raised.
+// Runs decks, which are written anew if that is permitted, and they are refused as they are, or need it, or small
+// letters are to be raised.
 fn run_as_asked<'a, R: Files + Input + Print + AllocGlobal, W: Write>(
     rt: &R,
     sources: &mut Sources<'_>,
@@ -155,7 +155,7 @@ pub(crate) struct Asked<'a> {
     pub(crate) form: Form,
 }
 
-/// Compiles decks as one, runs the module, and gives the exit status.
+/// Compiles decks as one, runs the module, and returns the exit status.
 pub(crate) fn run_decks<R: Env + Files + Input + Print + AllocGlobal, W: Write>(
     rt: &R,
     given: &Given<'_>,

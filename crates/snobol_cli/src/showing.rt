@@ -21,7 +21,7 @@ fn write_module<W: Write>(alloc: Global, bytes: &[u8], out: &mut W) -> Result<()
     Ok(())
 }
 
-/// Shows a module's instructions, and gives the exit status.
+/// Shows a module's instructions, and returns the exit status.
 pub(crate) fn show_module<R: Files + Input + Print + AllocGlobal, W: Write>(
     rt: &R,
     module: &str,
@@ -77,7 +77,7 @@ fn report_other<W: Write>(
     }
 }
 
-// Writes the instructions of decks under their cards, and gives the exit status.
+// Writes the instructions of decks under their cards, and returns the exit status.
 fn list_code<R: Env + Files + Print + AllocGlobal, W: Write>(
     rt: &R,
     sources: &Sources<'_>,
@@ -91,7 +91,7 @@ fn list_code<R: Env + Files + Print + AllocGlobal, W: Write>(
     }
 }
 
-/// Shows a module's instructions under the cards of the deck from which it was compiled, and gives the exit status.
+/// Shows a module's instructions under the cards of the deck from which it was compiled, and returns the exit status.
 pub(crate) fn show_with_cards<R: Env + Files + Input + Print + AllocGlobal, W: Write>(
     rt: &R,
     module: &str,

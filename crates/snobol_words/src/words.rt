@@ -11,7 +11,7 @@ use std::alloc::{AllocError, Global};
 /// The version of the program.
 pub const VERSION: &str = "1.0";
 
-/// The columns of a message's card, where the environment doesn't tell them.
+/// The columns of a message's card, where the environment doesn't say them.
 pub const COLUMNS: usize = 80;
 
 fn form_asked(matches: &ArgMatches<'_>) -> Option<Form> {

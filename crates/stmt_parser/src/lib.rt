@@ -7,7 +7,7 @@
 //!     let tree = parse_statement(alloc, &tokens)?;
 //!
 //! Promised: the one tree that has these tokens by the grammar (`Tree` of `model`'s `Statements`), or P1 exactly where
-//! none has; want of memory is an answer of its own. It asks for tokens as `lexer` cuts them (`Lexed`).
+//! none has; want of memory is a result of its own. It asks for tokens as `lexer` cuts them (`Lexed`).
 #![tactic(auto)]
 
 mod bodies;

@@ -1,4 +1,4 @@
-//! Modules of version 1 of the format, and the cards that are told beside a run's status.
+//! Modules of version 1 of the format, and the cards that are reported beside a run's status.
 
 use driver::{compile_deck, run_module, run_with_card, upgrade};
 use model::{

@@ -1,4 +1,4 @@
-//! Runs each module of a file, and tells of each what `sno run` tells.
+//! Runs each module of a file, and reports of each what `sno run` reports.
 
 use code_format::read_u32;
 use driver::{Told, report, run_with_card};
@@ -26,7 +26,7 @@ fn units(alloc: Global) -> Result<MemUnits, UnitFault> {
     Ok(units)
 }
 
-/// What there is to tell of a module.
+/// What there is to report of a module.
 fn told_of(alloc: Global, module: &[u8]) -> Told<'static> {
     let Ok(mut units) = units(alloc) else {
         return Told::NoMemory;
@@ -37,7 +37,7 @@ fn told_of(alloc: Global, module: &[u8]) -> Told<'static> {
     }
 }
 
-/// Prints what is told of a module, and the exit status as a line of its own.
+/// Prints what is reported of a module, and the exit status as a line of its own.
 fn print<R: Print + AllocGlobal>(rt: &R, told: &Told<'_>) -> Result<(), Told<'static>> {
     let mut lines = Vec::new(rt.alloc());
     let Ok(status) = report(told, &mut lines) else {

@@ -7,8 +7,8 @@
 //!     let tree = StmtTree::new(alloc, statement);
 //!     let statement = &tree.statement;
 //!
-//! Promised: a tree is the statement or the expression that it was made of. Where memory for the list is refused, a part
-//! is dropped as it is, which takes a stack as deep as the part.
+//! Promised: a tree is the statement or the expression that it was made of. Where memory for the list is refused, a
+//! part is dropped as it is, which takes a stack as deep as the part.
 #![tactic(auto)]
 
 ghost use Rattle.std.specs.Prelude.{◌≡◌};
@@ -25,7 +25,8 @@ fn is_leaf(expr: &Expr) -> bool {
     )
 }
 
-/// Moves an expression to those that wait, unless it has no parts. Where memory for it is refused it goes at once.
+/// Moves an expression to those that wait, unless it has no parts. Where memory for it is refused it is dropped
+/// immediately.
 fn put(waiting: &mut Vec<Expr>, expr: &mut Expr) {
     if is_leaf(expr) {
         return;

@@ -1,4 +1,4 @@
--- Going deeper, the rules used stay where something was found, told or answered.
+-- Going deeper, the rules used stay where something was found, assigned or answered.
 use Rattle.std.proofs.Common.{◌≡◌, ℕ, zero, suc, ◌+◌, ◌-◌, ◌≤◌, List, [], ◌∷◌, ◌++◌, Option, Some, None, refl, sym, ap, ◌∙◌, subst, arith}
 use Rattle.model.specs.Deck.Trees.{Nil, More, Absent, Given, Expr}
 use Rattle.model.specs.Language.Programs.{Program, program}
@@ -108,7 +108,7 @@ search_kept s (suc n) (x ∷ rest) c a t =
 
 -- ---- of a scan
 
--- the same, where the event is told
+-- the same, where the event is an assignment
 abbrev EventKept : SearchEvent → ℕ → ℕ → Type 0
 EventKept Running i j = Unit {0}
 EventKept x i j = j ≡ i

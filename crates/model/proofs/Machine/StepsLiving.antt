@@ -109,7 +109,7 @@ module _ (n : ℕ → Bool) where
   ret_alike v (InCall k c ∷ fs) w os h f i = stuck i
   ret_alike v (InEval g want st ∷ fs) w os h f i = supply_alike (answer_of codes_of want v) g st fs w os (answer_lives n want v h) f.0.0 f.0.1 f.1 i
 
-  -- what a match tells holds marked numbers
+  -- what a match assigns holds marked numbers
   abbrev EventLives : Event ℕ → Type 0
   EventLives (Matched b e a) = PendingLives n a
   EventLives (Asks (SayThat x v)) = NameLives n x

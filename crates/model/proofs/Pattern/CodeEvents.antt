@@ -73,7 +73,7 @@ module _ (s : List ℕ) (xs : ℕ → Option Expr) (p : Pat) (code : Code) (st :
   like_back x y match = St.match
   like_back x y (ask h) = St.ask h
 
-  -- what a scan answers, the steps come to
+  -- what a scan returns, the steps come to
   pub steps_of_scan : (n left b : ℕ) (t : Script) (u : Answers) → Alike xs t u → (scan s n p left b t ≡ Running → ⊥) → (m : ℕ) × AlikeEvent xs (scan s n p left b t) (event_of (match_steps s code left b u m))
   steps_of_scan n left b t u al o = go (scan_run n left b t u al)
     where

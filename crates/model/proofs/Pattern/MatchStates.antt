@@ -1,4 +1,4 @@
--- What the states of a match promise of its answer.
+-- What the states of a match promise of its result.
 use Rattle.std.proofs.Common.{◌≡◌, ℕ, zero, suc, ◌+◌, List, [], ◌∷◌, refl, sym, ◌∙◌, ap, subst, arith, ◌≤◌, ◌<◌, ◌⊎◌, inl, inr, Option}
 use Rattle.std.specs.Prelude.{◌≢◌}
 use Rattle.model.specs.Pattern.Patterns.{Event, Running}

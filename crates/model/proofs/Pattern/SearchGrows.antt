@@ -93,7 +93,7 @@ search_more s (suc n) zero le rest c a t = absurd (omega arith)
 search_more s (suc n) (suc m) le rest c a t =
     level_grows s (search s n) (search s m) (search_more s n m (omega arith)) rest c a t
 
--- what an event tells stays
+-- what an event reports stays
 abbrev pub EventGrows : {E : Type 0} → Event E → Event E → Type 0
 EventGrows Running y = Unit {0}
 EventGrows x y = y ≡ x

@@ -279,7 +279,7 @@ module _ (s : List ℕ) (xs : ℕ → Option Expr) (main : Code) (en : Ending) (
       (subst (λ o. Costs (3 * rows n (Part Succeed) rest c a t) (after_act (pattern_act s o (thread code p notes c a)) cs b left u) cs b left y) (sym e)
       (succeed_forward n f g code p notes rest c a t u cs b left fc fn kp e r al)))
 
-  -- a value is told
+  -- a value is assigned
   told_forward : (n : ℕ) → Forward n → (code : Code) (p : ℕ) (notes : List Note) (rest : List Goal) (c : ℕ) (a : Pending) (x : Name) (v : Told) (t : Script) (u : Answers) (cs : List Choice) (b left : ℕ)
       → Fine code → FineNotes notes → Keeps en cs → RestAt xs en code p notes rest → Alike xs t u
       → Costs (suc (3 * told_count (λ w. search_count s n rest c a w) t)) (Waits (ForSaid x v) (settled notes code p c a) cs b left u) cs b left (told_that (SayThat x v) (λ w. search s n rest c a w) t)

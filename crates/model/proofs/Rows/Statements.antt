@@ -109,7 +109,7 @@ value_as_target : meaning_at 60 (deck (does (Evaluate (Call (codes "DEFINE") (ar
 unfolding meaning prim_named key_named named
 value_as_target = refl
 
--- an entry label FRETURN leaves the call at once
+-- an entry label FRETURN leaves the call immediately
 returns_at_once : meaning_at 40 (deck (does (Evaluate (Call (codes "DEFINE") (args ((Literal (codes "F(F1)")) ∷ (Literal (codes "FRETURN")) ∷ [])))) Next ∷ does (sets OUTPUT (Call (codes "F") (args ((num 1) ∷ [])))) (OnFailure (Label (codes "L"))) ∷ out (Literal (codes "NO")) ∷ at (codes "L") (sets OUTPUT (Keyword (codes "RTNTYPE"))) Next ∷ [])) no_inputs ≡ ends_normally (codes "FRETURN" ∷ [])
 unfolding meaning prim_named key_named named
 returns_at_once = refl

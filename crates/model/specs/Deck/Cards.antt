@@ -237,7 +237,7 @@ abbrev pub deck_of : List Card → Option (List Card) → Result (List Statement
 deck_of cards (Some used) = cards_verdict used (least (faults_of used))
 deck_of cards None = cards_verdict cards (least (faults_of cards ++ fault (length cards + 1) rule.NoEnd ∷ []))
 
--- C5: a deck over 16,777,216 bytes is told at card 0 before all others
+-- C5: a deck over 16,777,216 bytes is reported at card 0 before all others
 unfoldable pub deck : List ℕ → Result (List Statement) CardFault
 deck text = if nat_lt 16777216 (length text) then Err (fault 0 rule.DeckTooLong) else deck_of (cards text) (ended (cards text))
 

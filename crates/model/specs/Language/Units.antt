@@ -37,7 +37,7 @@ after_read unit io = record io { left = λ u. if nat_eq unit u then rest_of (io.
 abbrev pub after_write : ℕ → List ℕ → Io → Io
 after_write unit bytes io = record io { printed = io.printed ++ record { unit = unit; bytes = bytes } ∷ [] }
 
--- units that tell what they hold told `io` before and tell `io'` after
+-- units that expose what they hold had `io` before and have `io'` after
 abbrev pub Carries : Option Io → Option Io → Io → Io → Type 0
 Carries None after io io' = Unit {0}
 Carries (Some told) after io io' = (told ≡ io) × (after ≡ Some io')

@@ -1,4 +1,4 @@
--- All faults of well-formedness that an image has, in no order, and that the least of them is told.
+-- All faults of well-formedness that an image has, in no order, and that the least of them is reported.
 use Rattle.std.specs.Prelude.{◌≡◌, ℕ, ◌+◌, ◌≤◌, ◌<◌, List, ◌∷◌, ◌++◌, length, map, Option, Some, None, not, ◌&&◌, ◌||◌, ◌==◌, ◌⊎◌}
 use Rattle.std.specs.List.{sum}
 use Rattle.model.specs.declared.format.ModuleFault.{ModuleFault}
@@ -12,7 +12,7 @@ use Rattle.model.specs.Module.Images.{instr_size, code_size}
 use Rattle.model.specs.Module.Flow.{BreaksFlow}
 use Rattle.model.specs.Module.WellFormed.{unless, entry_offset, labels_offset, statements_offset, expressions_offset, patterns_offset, code_offset, entry_rule, label_rule, statement_rule, expression_rule, pat_rule, pat_bytes, pattern_bytes, indices_fit, place_fits, is_last_instr, is_end_instr, begins_last, number_of, IsWellFormed, IsTold}
 
--- a broken rule, told at an offset
+-- a broken rule, reported at an offset
 abbrev pub IsAt : ℕ → Option ModuleRule → ModuleFault → Type 0
 IsAt at r f = (f.offset ≡ at) × (r ≡ Some f.rule)
 
@@ -56,7 +56,7 @@ abbrev pub IsLeastOf : (ModuleFault → Type 0) → Option ModuleFault → Type 
 IsLeastOf P None = (f : ModuleFault) → P f → ⊥
 IsLeastOf P (Some f) = P f × ((g : ModuleFault) → P g → NotAfter f g)
 
--- what is told is the least of all faults, and so is the only one that may be told
+-- what is reported is the least of all faults, and so is the only one that may be reported
 abbrev pub LeastIsTold : Type 0
 LeastIsTold = (v : Version) (im : Image) (fault : Option ModuleFault) → IsTold v im fault → IsLeastOf (Has v im) fault
 

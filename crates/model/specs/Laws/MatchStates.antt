@@ -1,4 +1,4 @@
--- What the states of a match promise of its answer.
+-- What the states of a match promise of its result.
 use Rattle.std.specs.Prelude.{◌≡◌, ◌≢◌, ℕ, ◌+◌, ◌<◌, List, [], ◌++◌, Option}
 use Rattle.model.specs.Pattern.Patterns.{Pat, Running}
 use Rattle.model.specs.Pattern.Ends.{first, IsPlain, IsOfLiterals}
@@ -21,11 +21,11 @@ IsMatchOf xs s p code left b t u m st = Stands xs p code × Alike xs t u × IsAf
 abbrev pub AnswersAsScan : List ℕ → Code → (old new : MatchState) → Type 0
 AnswersAsScan s code old new = (xs : ℕ → Option Expr) (p : Pat) (left b m : ℕ) (t : Script) (u : Answers) → IsMatchOf xs s p code left b t u m old → event_of new ≢ Running → (n : ℕ) × AlikeEvent xs (scan s n p left b t) (event_of new)
 
--- what the scan with this script answers at some bound, some number of steps comes to
+-- what the scan with this script returns at some bound, some number of steps comes to
 abbrev pub ComesToScan : List ℕ → Code → MatchState → Type 0
 ComesToScan s code st = (xs : ℕ → Option Expr) (p : Pat) (left b m : ℕ) (t : Script) (u : Answers) → IsMatchOf xs s p code left b t u m st → (n : ℕ) → scan s n p left b t ≢ Running → (k : ℕ) × AlikeEvent xs (scan s n p left b t) (event_of (pattern_steps s code k st))
 
--- of a plain pattern, the answer is the first end in pattern order with its assignments
+-- of a plain pattern, the result is the first end in pattern order with its assignments
 abbrev pub AnswersFirstEnd : List ℕ → Code → (old new : MatchState) → Type 0
 AnswersFirstEnd s code old new = (xs : ℕ → Option Expr) (p : Pat) (left b m : ℕ) → IsPlain p → IsMatchOf xs s p code left b [] [] m old → event_of new ≢ Running → (n : ℕ) × AlikeEvent xs (first s n p left b) (event_of new)
 
@@ -37,7 +37,7 @@ ComesToFirstEnd s code st = (xs : ℕ → Option Expr) (p : Pat) (left b m : ℕ
 abbrev pub AnswersLiterals : List ℕ → Code → (old new : MatchState) → Type 0
 AnswersLiterals s code old new = (xs : ℕ → Option Expr) (p : Pat) (left b m : ℕ) → IsOfLiterals p → IsMatchOf xs s p code left b [] [] m old → TellsRight s p left b (event_of new)
 
--- and some number of steps comes to an answer
+-- and some number of steps comes to a result
 abbrev pub ComesToAnswer : List ℕ → Code → MatchState → Type 0
 ComesToAnswer s code st = (xs : ℕ → Option Expr) (p : Pat) (left b m : ℕ) → IsOfLiterals p → IsMatchOf xs s p code left b [] [] m st → (k : ℕ) × (event_of (pattern_steps s code k st) ≢ Running)
 

@@ -16,7 +16,7 @@ Begins xs ys = (xs ≡ ys) ⊎ ((zs : List Item) × (more : List Item) × (xs �
 abbrev pub EndsGrow : Type 0
 EndsGrow = (s : List ℕ) (n m : ℕ) → n ≤ m → (p : Pat) (c : ℕ) → Begins (ends s n p c) (ends s m p c)
 
--- what a scan answers stays
+-- what a scan returns stays
 abbrev pub ScanStays : Type 0
 ScanStays = (s : List ℕ) (n m : ℕ) → n ≤ m → (p : Pat) (left b : ℕ) (t : Script) → scan s n p left b t ≢ Running → scan s m p left b t ≡ scan s n p left b t
 
@@ -33,7 +33,7 @@ IsItem i (x ∷ xs) = (i ≡ x) ⊎ IsItem i xs
 abbrev pub EndsPermitted : Type 0
 EndsPermitted = (s : List ℕ) (n : ℕ) (p : Pat) (c e : ℕ) (a : Pending) → IsItem (End e a) (ends s n p c) → Permits s p c e a
 
--- code that stands for a pattern comes to what its scan answers, under answers that are alike
+-- code that stands for a pattern comes to what its scan returns, under answers that are alike
 abbrev pub StepsOfScan : Type 0
 StepsOfScan = (s : List ℕ) (xs : ℕ → Option Expr) (p : Pat) (code : Code) → Stands xs p code → (n left b : ℕ) (t : Script) (u : Answers) → Alike xs t u → scan s n p left b t ≢ Running → (m : ℕ) × AlikeEvent xs (scan s n p left b t) (event_of (match_steps s code left b u m))
 
@@ -78,14 +78,14 @@ TellsRight s p left b (Matched d e a) = IsStart left b d × Permits s p d e a
 abbrev pub LiteralsScanned : Type 0
 LiteralsScanned = (s : List ℕ) (p : Pat) → IsOfLiterals p → (left b : ℕ) → (n : ℕ) × (scan s n p left b [] ≢ Running)
 
--- what a scan answers is right
+-- what a scan returns is right
 abbrev pub LiteralScansRight : Type 0
 LiteralScansRight = (s : List ℕ) (p : Pat) → IsOfLiterals p → (n left b : ℕ) → TellsRight s p left b (scan s n p left b [])
 
--- code that stands for the pattern reaches an answer
+-- code that stands for the pattern reaches a result
 abbrev pub LiteralsRun : Type 0
 LiteralsRun = (s : List ℕ) (xs : ℕ → Option Expr) (p : Pat) (code : Code) → IsOfLiterals p → Stands xs p code → (left b : ℕ) → (m : ℕ) × (event_of (match_steps s code left b [] m) ≢ Running)
 
--- and what it answers is right
+-- and its result is right
 abbrev pub LiteralRunsRight : Type 0
 LiteralRunsRight = (s : List ℕ) (xs : ℕ → Option Expr) (p : Pat) (code : Code) → IsOfLiterals p → Stands xs p code → (m left b : ℕ) → TellsRight s p left b (event_of (match_steps s code left b [] m))

@@ -1,4 +1,4 @@
--- What is told of bytes: the image that they spell, if it is well-formed, or the fault.
+-- What is reported of bytes: the image that they spell, if it is well-formed, or the fault.
 use Rattle.std.specs.Prelude.{◌≡◌, ℕ, ◌-◌, List, length, Some, Result, Ok, Err}
 use Rattle.model.specs.declared.format.FormatFault.{FormatFault}
 use Rattle.model.specs.declared.format.LoadFault.{LoadFault}

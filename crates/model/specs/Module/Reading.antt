@@ -1,5 +1,5 @@
 -- Reading a module from left to right, with the first fault that is met.
--- A fault is told with the bytes that are left at it, so that no reader counts what was before.
+-- A fault is reported with the bytes that are left at it, so that no reader counts what was before.
 use Rattle.std.specs.Prelude.{◌≡◌, ℕ, zero, suc, List, [], ◌∷◌, ◌++◌, length, take, drop, replicate, option_map, Bool, not, Option, Some, None, Result, Ok, Err, nat_lt, ◌==◌, if◌then◌else◌, slice_get, ℤ}
 use Rattle.std.specs.Int.{Width, w16, w32, w64, byte_len, from_be_bytes, cast_signed}
 use Rattle.model.specs.declared.format.FormatRule.{FormatRule}
@@ -143,7 +143,7 @@ abbrev pub ◌>>=◌ : {A B : Type 0} → Result A Miss → (A → Result B Miss
 abbrev pub fault_at : {A : Type 0} → FormatRule → List ℕ → Result A Miss
 fault_at rule bytes = Err (record { left = length bytes; rule = rule })
 
--- a field that is cut is told at the end of the input
+-- a field that is cut is reported at the end of the input
 abbrev pub required : {A : Type 0} → Option A → Result A Miss
 required None = fault_at Truncated []
 required (Some x) = Ok x
@@ -287,7 +287,7 @@ image_in v bytes = do
 abbrev pub read_image : List ℕ → Result Image Miss
 read_image bytes = image_in versions.Two bytes
 
--- ---- what a reader in the code answers
+-- ---- what a reader in the code returns
 
 -- one that takes no memory
 abbrev pub Reads : {X Y : Type 0} → (X → Y) → Result X Miss → Result Y Miss → Type 0

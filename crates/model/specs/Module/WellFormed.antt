@@ -1,4 +1,4 @@
--- Well-formed images: what each part of one may be, and where it is told that it is not.
+-- Well-formed images: what each part of one may be, and where it is reported that it is not.
 use Rattle.std.specs.Prelude.{◌≡◌, ℕ, suc, ◌+◌, ◌*◌, List, [], ◌∷◌, ◌++◌, length, map, Option, Some, None, is_none, Bool, true, false, not, ◌&&◌, ◌||◌, ◌==◌, nat_lt, if◌then◌else◌, slice_get, ℤ, pos, negsuc}
 use Rattle.std.specs.Str.{bytes_eq}
 use Rattle.std.specs.List.{list_any, sum}
@@ -119,7 +119,7 @@ begins_last im at = is_at (newest im.statements)
 abbrev pub most_integer : ℕ
 most_integer = 9223372036854775807
 
--- ---- the rules of each part; where a part breaks several, the least is told
+-- ---- the rules of each part; where a part breaks several, the least is reported
 
 abbrev pub or_else : {A : Type 0} → Option A → Option A → Option A
 or_else None y = y
@@ -239,6 +239,6 @@ pub record IsWellFormed (im : Image) : Type 0 where
   pub parts : part_fault versions.Two im ≡ None
   pub flow : IsLeast (BreaksFlow im) None
 
--- what is told of an image that is spelt in a version: its least fault, or none
+-- what is reported of an image that is spelt in a version: its least fault, or none
 abbrev pub IsTold : Version → Image → Option ModuleFault → Type 0
 IsTold v im fault = (flow : Option ℕ) × IsLeast (BreaksFlow im) flow × (fault ≡ lesser_fault (part_fault v im) (flow_fault v im flow))

@@ -43,7 +43,7 @@ Script = List (Answer Pat)
 abbrev pub SearchOn : Type 0
 SearchOn = List Goal → ℕ → Pending → Script → Found'
 
--- a value is told: the next answer says so
+-- a value is assigned: the next answer says so
 abbrev pub told_that : Ask Expr → (Script → Found') → Script → Found'
 told_that v k [] = Wait v
 told_that v k (IsSaid ∷ t) = k t

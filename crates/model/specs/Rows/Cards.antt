@@ -48,7 +48,7 @@ pub record CardRows : Type 0 where
   pub blank_piece : deck (card (codes " X;  ;;Y") ++ card (codes "END")) ≡ Ok (statement 1 1 (codes " X") ∷ statement 2 1 (codes "Y") ∷ statement 3 2 (codes "END") ∷ [])
   -- what stands behind the END piece is ignored, on its card and after it
   pub after_end : deck (card (codes "END A;B") ++ card (codes "-FOO") ++ card (9 ∷ [])) ≡ Ok (statement 1 1 (codes "END A") ∷ [])
-  -- but a bad byte on its card is told
+  -- but a bad byte on its card is reported
   pub bad_byte_after_end : deck (card (codes "END;" ++ 9 ∷ [])) ≡ refused_at 1 rule.BadByte
   -- the deck ends at the card that makes the piece END
   pub end_over_two_cards : deck (card (codes ";EN") ++ card (codes "+D") ++ card (codes "+ A")) ≡ Ok (statement 1 1 (codes "END") ∷ [])
@@ -62,7 +62,7 @@ pub record CardRows : Type 0 where
   pub two_on_one_card : deck (card (codes "+" ++ 9 ∷ []) ++ card (codes "END")) ≡ refused_at 1 rule.BadByte
   pub earlier_card : deck (card (codes " X") ++ card (codes "-FOO") ++ card (9 ∷ []) ++ card (codes "END")) ≡ refused_at 2 rule.UnknownControl
   pub four_thousand_bytes : deck (long_text 23 ++ card (codes "END")) ≡ Ok (statement 1 1 (xs 4000) ∷ statement 2 58 (codes "END") ∷ [])
-  -- told at the card of its first byte, and so before what is wrong with a later card
+  -- reported at the card of its first byte, and so before what is wrong with a later card
   pub one_byte_more : deck (long_text 24 ++ card (codes "-FOO") ++ card (codes "END")) ≡ refused_at 1 rule.StatementTooLong
-  -- a deck over 16,777,216 bytes is told at card 0, whatever is in it
+  -- a deck over 16,777,216 bytes is reported at card 0, whatever is in it
   pub too_long : (text : List ℕ) → 16777216 < length text → deck text ≡ refused_at 0 rule.DeckTooLong

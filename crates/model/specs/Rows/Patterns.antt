@@ -1,4 +1,4 @@
--- Worked cases of matches: what the scan of a pattern and the steps of its code answer.
+-- Worked cases of matches: what the scan of a pattern and the steps of its code return.
 use Rattle.std.specs.Prelude.{◌≡◌, ℕ, List, [], ◌∷◌, map, length, codes}
 use Rattle.model.specs.Deck.Target.{Name, Variable}
 use Rattle.model.specs.Pattern.Patterns.{KLen, Lit, Len, Pos, RPos, Tab, RTab, AnyOf, NotAnyOf, Span, Break, Rem, Arb, Bal, Fail, Pat, Plain, Succeed, Abort, Fence, Cat, Alt, Arbno, FenceOf, Cond, Imm, At, Defer, DeferBasic, DoSucceed, DoAbort, DoFence, Pending, IsPattern, IsCount, IsFailed, IsSaid, Event, Running, Failed, Asks, Matched, AskFor, SayThat, Text, Number, WantPattern, WantCount}
@@ -143,7 +143,7 @@ nested = Alt (Cat (text (codes "A")) (Defer e)) (text (codes "B"))
 abbrev pub one_or_two : Pat
 one_or_two = FenceOf (Alt (text (codes "A")) (text (codes "AA")))
 
--- a subject, a pattern, the answers for the scan and those for the code, and what is asked or told then
+-- a subject, a pattern, the answers for the scan and those for the code, and what is asked or assigned then
 pub record Asked : Type 0 where
   pub subject : List ℕ
   pub pattern : Pat
@@ -163,7 +163,7 @@ asked_run m k = event_of (match_steps k.subject (code_of k.pattern) (length k.su
 
 abbrev pub questions : List Asked
 questions =
-    -- `LEN(1) $ X 'Z'`: told at each start, and never taken back
+    -- `LEN(1) $ X 'Z'`: assigned at each start, and never taken back
     asked (codes "AB") (Cat (Imm (Plain (Len 1)) x) (text (codes "Z"))) [] [] (Asks (SayThat x (Text (codes "A")))) (Asks (SayThat x (Text (codes "A"))))
     ∷ asked (codes "AB") (Cat (Imm (Plain (Len 1)) x) (text (codes "Z"))) (IsSaid ∷ []) (IsSaid ∷ []) (Asks (SayThat x (Text (codes "B")))) (Asks (SayThat x (Text (codes "B"))))
     ∷ asked (codes "AB") (Cat (Imm (Plain (Len 1)) x) (text (codes "Z"))) (IsSaid ∷ IsSaid ∷ []) (IsSaid ∷ IsSaid ∷ []) Failed Failed
@@ -180,13 +180,13 @@ questions =
     ∷ asked (codes "AAB") (Cat (FenceOf (Alt (Defer e) (text (codes "AA")))) (text (codes "B"))) (IsPattern (text (codes "A")) ∷ IsPattern (text (codes "A")) ∷ []) (IsPattern (basic_code (Lit (codes "A"))) ∷ IsPattern (basic_code (Lit (codes "A"))) ∷ []) (Matched 1 3 []) (Matched 1 3 [])
     -- `*E 'B'` with `FENCE('A' | 'AA')` for E: a fence in a pattern that is entered
     ∷ asked (codes "AAB") (Cat (Defer e) (text (codes "B"))) (IsPattern one_or_two ∷ IsPattern one_or_two ∷ []) (IsPattern (code_of one_or_two) ∷ IsPattern (code_of one_or_two) ∷ []) (Matched 1 3 []) (Matched 1 3 [])
-    -- `FENCE(LEN(1) $ X) 'A'`: told inside a fence, once at each start
+    -- `FENCE(LEN(1) $ X) 'A'`: assigned inside a fence, once at each start
     ∷ asked (codes "XA") (Cat (FenceOf (Imm (Plain (Len 1)) x)) (text (codes "A"))) [] [] (Asks (SayThat x (Text (codes "X")))) (Asks (SayThat x (Text (codes "X"))))
     ∷ asked (codes "XA") (Cat (FenceOf (Imm (Plain (Len 1)) x)) (text (codes "A"))) (IsSaid ∷ []) (IsSaid ∷ []) (Matched 0 2 []) (Matched 0 2 [])
     -- `FENCE('A' $ X | 'AA' $ Y) 'B'`: the second part is not gone back to
     ∷ asked (codes "AAB") (Cat (FenceOf (Alt (Imm (text (codes "A")) x) (Imm (text (codes "AA")) y))) (text (codes "B"))) (IsSaid ∷ []) (IsSaid ∷ []) (Asks (SayThat x (Text (codes "A")))) (Asks (SayThat x (Text (codes "A"))))
     ∷ asked (codes "AAB") (Cat (FenceOf (Alt (Imm (text (codes "A")) x) (Imm (text (codes "AA")) y))) (text (codes "B"))) (IsSaid ∷ IsSaid ∷ []) (IsSaid ∷ IsSaid ∷ []) (Matched 1 3 []) (Matched 1 3 [])
-    -- `FENCE(LEN(1) @X | 'AA') 'B'`: a cursor that is told inside a fence
+    -- `FENCE(LEN(1) @X | 'AA') 'B'`: a cursor that is assigned inside a fence
     ∷ asked (codes "AAB") (Cat (FenceOf (Alt (Cat (Plain (Len 1)) (At x)) (text (codes "AA")))) (text (codes "B"))) (IsSaid ∷ []) (IsSaid ∷ []) (Asks (SayThat x (Number 2))) (Asks (SayThat x (Number 2)))
     ∷ asked (codes "AAB") (Cat (FenceOf (Alt (Cat (Plain (Len 1)) (At x)) (text (codes "AA")))) (text (codes "B"))) (IsSaid ∷ IsSaid ∷ []) (IsSaid ∷ IsSaid ∷ []) (Matched 1 3 []) (Matched 1 3 [])
     -- a pattern that enters itself
