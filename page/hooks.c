@@ -1,4 +1,4 @@
-/* What the page hears of a run, in the place of the calls of crates/page/src/hooks.rt, which do nothing. Places and
+/* What the page hears of a run, in the place of the calls of crates/page_calls/src/hooks.rt, which do nothing. Places and
    lengths go to it as doubles, which have every one that a browser's memory has. */
 typedef unsigned char u8;
 typedef unsigned long long u64;

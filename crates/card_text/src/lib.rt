@@ -1,8 +1,8 @@
 //! Where on the cards of a deck something stands, those of a faulty deck too.
 //!
 //! `cut_text(alloc, text)` cuts a statement's text into pieces, `fault_notes(alloc, bytes, deck, faults)` finds the cards
-//! and columns of faulty statements, `mistake_notes` says too why a statement has no form that is
-//! permitted, as far as its pieces show it, and `Walk` goes over the bytes of cards as they are joined to statements.
+//! and columns of faulty statements, `notes_of` and `locate` do so where a caller moves what is to be found, and `Walk`
+//! goes over the bytes of cards as they are joined to statements.
 //!
 //!     let notes = fault_notes(alloc, bytes, &deck, &faults)?;
 //!
@@ -10,12 +10,10 @@
 #![tactic(auto)]
 
 mod cut;
-mod mistakes;
 mod notes;
 mod places;
 mod walk;
 
 pub use cut::{Kind, Piece, cut_text};
-pub use mistakes::Mistake;
-pub use notes::{Note, fault_notes, mistake_notes};
+pub use notes::{Note, fault_notes, locate, notes_of};
 pub use walk::{Joined, Spot, Walk, columns, joining, next_line};

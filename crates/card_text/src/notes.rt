@@ -1,6 +1,5 @@
 //! The faults of a deck's statements, and where on its cards they are reported.
 
-use crate::mistakes::{Mistake, mistake_in};
 use crate::places::place;
 use crate::walk::{Joined, Spot, Walk, columns, joining, next_line};
 use model::{Cause, Deck, StmtFault};
@@ -15,9 +14,8 @@ pub struct Note {
     /// From 1.
     pub card: u32,
     pub column: Option<usize>,
-    /// Why the statement has no form that is permitted, where that is asked for and seen.
-    pub mistake: Option<Mistake>,
-    place: Option<usize>,
+    /// Where in the statement's text the token stands, where that is known.
+    pub place: Option<usize>,
 }
 
 // The note of a fault, reported under the card where the statement begins.
@@ -35,27 +33,8 @@ fn note_of(alloc: Global, deck: &Deck, fault: StmtFault) -> Result<Note, AllocEr
         cause: fault.cause,
         card,
         column: None,
-        mistake: None,
         place,
     })
-}
-
-// Puts the mistakes of statements that have no form that is permitted.
-fn put_mistakes(alloc: Global, deck: &Deck, notes: &mut [Note]) -> Result<(), AllocError> {
-    for note in notes {
-        if note.cause != Cause::NoTree {
-            continue;
-        }
-        let index = note.number.saturating_sub(1) as usize;
-        let Some(statement) = deck.statements.as_slice().get(index) else {
-            continue;
-        };
-        if let Some((mistake, place)) = mistake_in(alloc, statement.text.as_slice())? {
-            note.mistake = Some(mistake);
-            note.place = Some(place);
-        }
-    }
-    Ok(())
 }
 
 // Looks whether a byte is where the next note's token begins; the index of the note that is looked for then.
@@ -93,8 +72,8 @@ fn see_card(walk: &mut Walk, notes: &mut [Note], next: usize, card: u32, line: &
     next
 }
 
-// Finds the columns of the notes.
-fn locate(bytes: &[u8], notes: &mut [Note]) {
+/// Puts the columns of notes of the deck with these cards, and the cards on which their places are.
+pub fn locate(bytes: &[u8], notes: &mut [Note]) {
     let mut walk = Walk::new();
     let mut rest = bytes;
     let mut next = 0;
@@ -109,7 +88,8 @@ fn locate(bytes: &[u8], notes: &mut [Note]) {
     }
 }
 
-fn notes_of(alloc: Global, deck: &Deck, faults: &[StmtFault]) -> Result<Vec<Note>, AllocError> {
+/// The notes of a deck's faults, in order, each on the card where its statement begins, and without a column.
+pub fn notes_of(alloc: Global, deck: &Deck, faults: &[StmtFault]) -> Result<Vec<Note>, AllocError> {
     let mut notes = Vec::new(alloc);
     for fault in faults.iter().copied() {
         notes.push(note_of(alloc, deck, fault)?)?;
@@ -117,7 +97,7 @@ fn notes_of(alloc: Global, deck: &Deck, faults: &[StmtFault]) -> Result<Vec<Note
     Ok(notes)
 }
 
-/// The notes of a deck's faults, in order.
+/// The notes of a deck's faults, in order, each on the card and in the column of its token.
 pub fn fault_notes(
     alloc: Global,
     bytes: &[u8],
@@ -125,19 +105,6 @@ pub fn fault_notes(
     faults: &[StmtFault],
 ) -> Result<Vec<Note>, AllocError> {
     let mut notes = notes_of(alloc, deck, faults)?;
-    locate(bytes, notes.as_mut_slice());
-    Ok(notes)
-}
-
-/// The same, where a statement that has no form that is permitted is reported at the mistake that is seen in it.
-pub fn mistake_notes(
-    alloc: Global,
-    bytes: &[u8],
-    deck: &Deck,
-    faults: &[StmtFault],
-) -> Result<Vec<Note>, AllocError> {
-    let mut notes = notes_of(alloc, deck, faults)?;
-    put_mistakes(alloc, deck, notes.as_mut_slice())?;
     locate(bytes, notes.as_mut_slice());
     Ok(notes)
 }

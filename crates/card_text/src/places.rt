@@ -14,8 +14,12 @@ const MOST_IN_A_ROW: u32 = 16;
 const GREATEST: u64 = 9_223_372_036_854_775_807;
 
 fn first_of(pieces: &[Piece], kind: Kind) -> Option<usize> {
-    let piece = pieces.iter().find(|piece| piece.kind == kind)?;
-    Some(piece.start)
+    for piece in pieces.iter().copied() {
+        if piece.kind == kind {
+            return Some(piece.start);
+        }
+    }
+    None
 }
 
 // The value of digits, and nothing if it is over the greatest integer.

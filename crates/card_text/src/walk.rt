@@ -35,9 +35,18 @@ pub fn columns(line: &[u8]) -> &[u8] {
     line.get(..COLUMNS).unwrap_or(line)
 }
 
+fn is_blank(columns: &[u8]) -> bool {
+    for byte in columns.iter().copied() {
+        if byte != b' ' {
+            return false;
+        }
+    }
+    true
+}
+
 /// How a card with these columns goes on what stands before it.
 pub fn joining(columns: &[u8]) -> Joined {
-    if columns.iter().all(|byte| *byte == b' ') {
+    if is_blank(columns) {
         return Joined::Nothing;
     }
     match columns {

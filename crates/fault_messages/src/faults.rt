@@ -1,11 +1,12 @@
 //! Messages of decks and modules that are refused.
 
+use crate::mistakes::{Mistake, mistake_in};
 use card_reader::read_deck;
-use card_text::{Note, columns, cut_text, mistake_notes};
+use card_text::{Note, columns, cut_text, locate, notes_of};
 use codes::{Code, MEMORY_CODE, card_code, cause_code, format_code, rule_code};
 use driver::Refusal;
 use messages::{Cards, Message, Place, Sources};
-use model::{CardFault, CardRule, Cause, FormatRule, LoadFault, StmtFault};
+use model::{CardFault, CardRule, Cause, Deck, FormatRule, LoadFault, StmtFault};
 use std::alloc::{AllocError, Global};
 
 /// A message of a file as a whole.
@@ -96,9 +97,14 @@ fn stray_byte(cards: &Cards<'_>, note: Note) -> Option<u8> {
 }
 
 // What is wrong with a faulty statement.
-fn note_text(alloc: Global, cards: &Cards<'_>, note: Note) -> Result<String, AllocError> {
+fn note_text(
+    alloc: Global,
+    cards: &Cards<'_>,
+    note: Note,
+    mistake: Option<Mistake>,
+) -> Result<String, AllocError> {
     let text = cause_code(note.cause).text;
-    match (stray_byte(cards, note), note.mistake) {
+    match (stray_byte(cards, note), mistake) {
         (Some(b'['), _) => String::from_str(alloc, "a [, which begins no token; write <"),
         (Some(b']'), _) => String::from_str(alloc, "a ], which begins no token; write >"),
         (_, Some(mistake)) => String::from_str(alloc, mistake.text()),
@@ -111,13 +117,14 @@ fn of_note(
     sources: &Sources<'_>,
     cards: &Cards<'_>,
     note: Note,
+    mistake: Option<Mistake>,
 ) -> Result<Message, AllocError> {
     let code = cause_code(note.cause);
     let length = match note.column {
         Some(column) => token_length(alloc, cards.card(note.card), column)?,
         None => 0,
     };
-    let text = note_text(alloc, cards, note)?;
+    let text = note_text(alloc, cards, note, mistake)?;
     let (file, place) = sources.message_place(alloc, note.card)?;
     let place = place.at(note.column, length);
     Ok(Message::of_statement(file, place, i64::from(note.number), code, text))
@@ -127,13 +134,49 @@ fn of_notes(
     alloc: Global,
     sources: &Sources<'_>,
     notes: &[Note],
+    mistakes: &[Option<Mistake>],
 ) -> Result<Vec<Message>, AllocError> {
     let cards = Cards::of(alloc, sources.bytes())?;
     let mut messages = Vec::new(alloc);
-    for note in notes.iter().copied() {
-        messages.push(of_note(alloc, sources, &cards, note)?)?;
+    for (note, mistake) in notes.iter().copied().zip(mistakes.iter().copied()) {
+        messages.push(of_note(alloc, sources, &cards, note, mistake)?)?;
     }
     Ok(messages)
+}
+
+// The mistake that is seen in a statement that has no form that is permitted, and where in its text it stands.
+fn mistake_of(
+    alloc: Global,
+    deck: &Deck,
+    note: Note,
+) -> Result<Option<(Mistake, usize)>, AllocError> {
+    let index = note.number.saturating_sub(1) as usize;
+    match deck.statements.as_slice().get(index) {
+        Some(statement) if note.cause == Cause::NoTree => {
+            mistake_in(alloc, statement.text.as_slice())
+        }
+        _ => Ok(None),
+    }
+}
+
+// The mistakes of noted statements. Where there is one, the statement is reported there.
+fn mistakes_of(
+    alloc: Global,
+    deck: &Deck,
+    notes: &mut [Note],
+) -> Result<Vec<Option<Mistake>>, AllocError> {
+    let mut mistakes = Vec::new(alloc);
+    for note in notes {
+        let mistake = match mistake_of(alloc, deck, *note)? {
+            Some((mistake, place)) => {
+                note.place = Some(place);
+                Some(mistake)
+            }
+            None => None,
+        };
+        mistakes.push(mistake)?;
+    }
+    Ok(mistakes)
 }
 
 fn of_statements(
@@ -143,8 +186,10 @@ fn of_statements(
 ) -> Result<Vec<Message>, AllocError> {
     match read_deck(alloc, sources.bytes()) {
         Ok(deck) => {
-            let notes = mistake_notes(alloc, sources.bytes(), &deck, faults)?;
-            of_notes(alloc, sources, &notes)
+            let mut notes = notes_of(alloc, &deck, faults)?;
+            let mistakes = mistakes_of(alloc, &deck, notes.as_mut_slice())?;
+            locate(sources.bytes(), notes.as_mut_slice());
+            of_notes(alloc, sources, &notes, &mistakes)
         }
         // A deck whose statements are faulty has no card fault, so memory was refused.
         Err(_) => only(alloc, of_memory(alloc, sources.last_name())?),

@@ -11,6 +11,7 @@
 mod endings;
 mod faults;
 mod files;
+mod mistakes;
 
 pub use endings::of_run;
 pub use faults::{of_memory, of_module, of_refusal};

@@ -1,9 +1,9 @@
 //! The program's words, its files and its exit status.
 
-use crate::decks::{Trouble, list};
 use crate::terminal::output_style;
 use crate::words::{Job, read_job};
 use codes::{Code, run_code_named};
+use deck_listing::{Trouble, list};
 use std::alloc::AllocError;
 use std::env::{self, Env};
 use std::fs::{self, Files};

@@ -1,6 +1,6 @@
 //! What standard output is: how wide, and whether it takes colours.
 
-use crate::lines::Style;
+use deck_listing::Style;
 use std::env::Env;
 use std::fs::Files;
 

@@ -10,47 +10,11 @@
 //! from the page's side.
 #![tactic(auto)]
 
-mod given;
-mod hooks;
-mod pieces;
-mod putting;
-mod running;
-mod watched;
+ghost use Rattle.page_calls.specs.Shown.{IsPage};
 
-ghost use Rattle.page.specs.Shown.{IsPage};
-
-use crate::given::GivenUnits;
-use crate::pieces::{Pieces, run_in_pieces};
-use crate::putting::put;
-use crate::running::{exit_status, run};
-use driver::{Refusal, Told, report};
-pub use given::GivenUnit;
-pub use hooks::{page_went, page_wrote};
-use listing::{Style, list};
-use model::Status;
+pub use page_calls::{GivenUnit, Shown};
+use page_calls::{Pieces, hand_list, hand_run, watch_run};
 use std::alloc::Global;
-
-/// The status where nothing can be reported.
-const NOTHING_TOLD: u8 = 6;
-
-/// How a call came out.
-#[repr(C)]
-#[derive(Drop)]
-pub struct Shown {
-    /// The exit status that `sno` or `sno_list` has.
-    pub status: u64,
-    /// How many bytes there are to show, which may be more than fitted.
-    pub printed: u64,
-    /// How many bytes of messages there are.
-    pub told: u64,
-}
-
-// What `sno` would write on standard error, and its exit status.
-fn lines_of(alloc: Global, told: &Told<'_>) -> (Vec<u8>, u8) {
-    let mut lines = Vec::new(alloc);
-    let status = report(told, &mut lines).unwrap_or(NOTHING_TOLD);
-    (lines, status)
-}
 
 /// Compiles a deck and runs it, at most so many steps. Unit 5 has the lines of `input`; what is written to unit 6 goes to
 /// `printed`, and what `sno` would write on standard error to `told`.
@@ -66,21 +30,7 @@ pub extern "C" fn page_run(
 )
     ensures { IsPage deck.now input.now shown.new.status shown.new.printed printed.old printed.new }
 {
-    match run(alloc, deck, input, steps) {
-        Ok(run) => {
-            let ran = run.ran;
-            let (lines, status) = lines_of(alloc, &Told::Ran(ran));
-            shown.status = u64::from(exit_status(ran.status, status));
-            shown.printed = put(&run.printed, printed);
-            shown.told = put(&lines, told);
-        }
-        Err(refusal) => {
-            let (lines, status) = lines_of(alloc, &Told::Refused(refusal));
-            shown.status = u64::from(exit_status(Status::Running, status));
-            shown.printed = put(b"", printed);
-            shown.told = put(&lines, told);
-        }
-    }
+    hand_run(alloc, deck, input, steps, printed, told, shown)
 }
 
 /// Compiles a deck and runs it, at most so many steps, of which the page hears as they are made: first so many, and then
@@ -99,29 +49,12 @@ pub extern "C" fn page_watch(
     told: &mut [u8],
     shown: &mut Shown,
 ) {
-    let bound = steps;
     let pieces = Pieces {
-        bound,
+        bound: steps,
         first,
         further,
     };
-    let outcome = match GivenUnits::new(alloc, typed, given) {
-        Ok(mut units) => run_in_pieces(alloc, deck, &mut units, pieces),
-        Err(_) => Err(Refusal::Memory),
-    };
-    let (lines, status, made) = match outcome {
-        Ok(outcome) => {
-            let (lines, status) = lines_of(alloc, &Told::Ran(outcome.ran));
-            (lines, status, outcome.made)
-        }
-        Err(refusal) => {
-            let (lines, status) = lines_of(alloc, &Told::Refused(refusal));
-            (lines, status, 0)
-        }
-    };
-    shown.status = u64::from(status);
-    shown.printed = made;
-    shown.told = put(&lines, told);
+    watch_run(alloc, deck, typed, given, pieces, told, shown)
 }
 
 /// Lists a deck, in lines of some width, with its instructions where they are wanted.
@@ -134,13 +67,5 @@ pub extern "C" fn page_list(
     printed: &mut [u8],
     shown: &mut Shown,
 ) {
-    let mut lines = Vec::new(alloc);
-    let style = Style::new(usize::try_from(width).unwrap_or(80), false);
-    shown.status = match list(alloc, style, has_code, deck, &mut lines) {
-        Ok(true) => 0,
-        Ok(false) => 3,
-        Err(_) => 6,
-    };
-    shown.printed = put(&lines, printed);
-    shown.told = 0;
+    hand_list(alloc, deck, width, has_code, printed, shown)
 }

@@ -1,7 +1,7 @@
 //! What the program `snobol` does, which is for people.
 //!
 //! `run(runtime, input, output, errors)` holds the numbers of the standard streams that are closed, reads the words, does
-//! what they ask by the calls of `driver` and `listing`, writes messages to `errors`, and gives the exit status.
+//! what they ask by the calls of `driver` and `deck_listing`, writes messages to `errors`, and gives the exit status.
 //! docs/snobol.md has the rules.
 //!
 //!     let status = run(&runtime, &runtime.stdin(), &runtime.stdout(), &mut errors);

@@ -1,5 +1,5 @@
-use Rattle.page.proofs.Shows.{is_shown}
-use Rattle.page.proofs.running.run.Goals as goal
+use Rattle.page_calls.proofs.Shows.{is_shown}
+use Rattle.page_calls.proofs.running.run.Goals as goal
 
 pub returns-in-Ok-printed_on-clause-shown : goal.returns-in-Ok-printed_on-clause-shown
 returns-in-Ok-printed_on-clause-shown c =

@@ -9,7 +9,7 @@ use Rattle.model.specs.Laws.Agreement.{Inputs, Records}
 use Rattle.unit_io.specs.Held.{UnitsView, io_of}
 use Rattle.statement_machine.specs.Stopped.{ending_of}
 use Rattle.driver.specs.Whole.{IsMeant, RefinesMeaning}
-use Rattle.page.specs.Shown.{IsShown, inputs_of}
+use Rattle.page_calls.specs.Shown.{IsShown, inputs_of}
 
 same_trees : (v : Verdict) (ss ts : List Stmt) → v ≡ Accepted ss → v ≡ Accepted ts → ss ≡ ts
 same_trees v ss ts a b = cc

@@ -21,10 +21,26 @@ pub(crate) struct Known<'a> {
 
 // How many of the statements begin at a card, which are the first of these.
 fn begin_at(statements: &[Statement], card: u32) -> usize {
-    statements
-        .iter()
-        .take_while(|statement| statement.card == card)
-        .count()
+    let mut count: usize = 0;
+    for statement in statements {
+        if statement.card != card {
+            break;
+        }
+        count = count.saturating_add(1);
+    }
+    count
+}
+
+// How many of the notes are of a card, which are the first of these.
+fn noted_at(notes: &[Note], card: u32) -> usize {
+    let mut count: usize = 0;
+    for note in notes {
+        if note.card != card {
+            break;
+        }
+        count = count.saturating_add(1);
+    }
+    count
 }
 
 // The numbers before a card: its own, and those of the statements that begin there.
@@ -72,7 +88,7 @@ fn notes_of<'a, W: Write>(
     card: u32,
     out: &mut W,
 ) -> io::Result<&'a [Note]> {
-    let count = notes.iter().take_while(|note| note.card == card).count();
+    let count = noted_at(notes, card);
     for here in notes.get(..count).unwrap_or(&[]) {
         write_note(style, *here, out)?;
     }

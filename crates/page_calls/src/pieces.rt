@@ -14,13 +14,13 @@ use std::alloc::Global;
 
 /// How many steps a run makes at once.
 #[derive(Clone, Copy)]
-pub(crate) struct Pieces {
+pub struct Pieces {
     /// All of them, at most.
-    pub(crate) bound: u64,
+    pub bound: u64,
     /// Those of the first piece.
-    pub(crate) first: u64,
+    pub first: u64,
     /// Those of each further piece.
-    pub(crate) further: u64,
+    pub further: u64,
 }
 
 /// How a run in pieces came out.

@@ -1,11 +1,11 @@
 //! Why a statement has no form that is permitted, as far as its pieces show it.
 
-use crate::cut::{Kind, Piece, cut_text};
+use card_text::{Kind, Piece, cut_text};
 use std::alloc::{AllocError, Global};
 
 /// A mistake for which a statement has no tree.
 #[derive(Clone, Copy, Debug, PartialEq, Eq)]
-pub enum Mistake {
+pub(crate) enum Mistake {
     /// A comment stands behind a `;`.
     CommentInside,
     /// The first column has neither a label nor a blank.
@@ -32,7 +32,7 @@ pub enum Mistake {
 
 impl Mistake {
     /// What is wrong, in a few words.
-    pub fn text(self) -> &'static str {
+    pub(crate) fn text(self) -> &'static str {
         match self {
             Mistake::CommentInside => "a comment stands on a card of its own, with * in column 1",
             Mistake::NoLabel =>

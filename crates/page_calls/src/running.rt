@@ -6,7 +6,7 @@ ghost use Rattle.model.specs.Language.Units.{bytes_on};
 ghost use Rattle.unit_io.specs.Held.{io_of};
 ghost use Rattle.statement_machine.specs.Stopped.{ending_of};
 ghost use Rattle.driver.specs.Compiled.{IsRefusalOf};
-ghost use Rattle.page.specs.Shown.{IsShown, inputs_of};
+ghost use Rattle.page_calls.specs.Shown.{IsShown, inputs_of};
 
 use crate::watched::Watched;
 use driver::{Ran, Refusal, run_deck};

@@ -127,8 +127,9 @@ pub(crate) fn statement<W: Write>(
     let mut reached = reached;
     let rest = image.code.as_slice().get(reached.place..).unwrap_or(&[]);
     for instr in rest.iter().copied() {
-        if next.is_some_and(|next| reached.offset >= next) {
-            break;
+        match next {
+            Some(next) if reached.offset >= next => break,
+            _ => {}
         }
         instruction(image, reached.offset, instr, out)?;
         reached = reached.past(instr);

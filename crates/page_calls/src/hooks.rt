@@ -1,17 +1,15 @@
 //! What the page hears of a run while it goes on.
 //!
-//! These calls do nothing. The library that `tools/page` builds for a browser has calls of the page in their place, which
+//! These calls do nothing. What `tools/wasm` builds for a browser has calls of the page in their place, which
 //! look at what they are told and change nothing of the library's.
 
 /// A record was written to a unit; its line feed isn't among the bytes.
-#[unsafe(no_mangle)]
-pub extern "C" fn page_wrote(unit: u8, bytes: &[u8]) {
+pub fn page_wrote(unit: u8, bytes: &[u8]) {
     let _ = unit;
     let _ = bytes;
 }
 
 /// The run has made so many steps and goes on.
-#[unsafe(no_mangle)]
-pub extern "C" fn page_went(steps: u64) {
+pub fn page_went(steps: u64) {
     let _ = steps;
 }

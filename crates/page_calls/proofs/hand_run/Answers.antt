@@ -1,7 +1,7 @@
 use Rattle.std.proofs.Common.{◌∙◌, sym, []}
 use Rattle.model.specs.declared.run.Status.TheVariants as status
-use Rattle.page.proofs.Shows.{nothing_is_shown}
-use Rattle.page.proofs.page_run.Goals as goal
+use Rattle.page_calls.proofs.Shows.{nothing_is_shown}
+use Rattle.page_calls.proofs.hand_run.Goals as goal
 
 pub returns-in-Err : goal.returns-in-Err
 returns-in-Err c = record {
