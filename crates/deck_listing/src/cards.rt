@@ -1,4 +1,4 @@
-//! The cards of a deck with what is told of them.
+//! The cards of a deck with what is reported of them.
 
 use crate::code::{Reached, statement};
 use crate::lines::{Style, caret, loud, sentence, text};
@@ -52,7 +52,7 @@ fn numbers<W: Write>(card: u32, here: &[Statement], out: &mut W) -> io::Result<(
     }
 }
 
-// The fault of the cards, where it is told at this card.
+// The fault of the cards, where it is reported at this card.
 fn card_fault<W: Write>(
     style: Style,
     fault: Option<CardFault>,

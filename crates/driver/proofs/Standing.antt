@@ -15,7 +15,7 @@ use Rattle.statement_machine.specs.Stopped.{IfStop}
 use Rattle.unit_io.proofs.Serving.{told_on}
 use Rattle.driver.specs.Whole.{StandsWithin}
 
--- of two beginnings of one list one is a beginning of the other
+-- of two beginnings of one list one is a prefix of the other
 one_begins : (xs ys a b : Records) → xs ++ a ≡ ys ++ b → IsBeginning xs ys ⊎ IsBeginning ys xs
 one_begins [] ys a b e = inl (ys, refl)
 one_begins (x ∷ xs) [] a b e = inr (x ∷ xs, refl)

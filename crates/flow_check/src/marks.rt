@@ -53,27 +53,28 @@ fn is_bare(mark: Mark) -> bool
     )
 }
 
-/// What is known of an offset at once.
+/// What is known of an offset without the map.
 #[derive(Clone, Copy)]
 pub(crate) enum Slot {
     /// It has no mark.
     Free,
     /// It has the usual one.
     Bare,
-    /// The map tells.
+    /// The map says it.
     Other,
 }
 
 /// The mark of each offset that is reached by a way other than from the instruction before it.
 #[derive(Drop)]
 pub(crate) struct Marks {
-    /// What is known at once, of the first offsets. Most have no mark, and most that have one have the usual one.
+    /// What is known without the map, of the first offsets. Most have no mark, and most that have one have the usual
+    /// one.
     slots: Vec<Slot>,
     map: IndexMap<u32, Mark>,
 }
 
 impl Marks {
-    /// No marks; of so many offsets it is known at once what they have.
+    /// No marks; of so many offsets it is known without the map what they have.
     pub(crate) fn new(alloc: Global, slots: usize) -> Result<Marks, AllocError>
         ensures { IfOk result (λ marks. (y : ℕ) → marked marks y ≡ None) }
     {
@@ -92,7 +93,7 @@ impl Marks {
         }
     }
 
-    /// Whether it is known at once that an offset has no mark.
+    /// Whether it is known without the map that an offset has no mark.
     pub(crate) fn is_free(&self, at: u32) -> bool
         ensures { result ≡ true → marked self.now at ≡ None }
     {
@@ -109,7 +110,7 @@ impl Marks {
         }
     }
 
-    /// Whether it is known at once that the usual shape leaves the usual mark at an offset.
+    /// Whether it is known without the map that the usual shape leaves the usual mark at an offset.
     fn is_plain(&self, at: u32) -> bool
         ensures { result ≡ true
             → joined (empty_shape Goto) (marked self.now at) ≡ Some (One (empty_shape Goto)) }
@@ -120,7 +121,7 @@ impl Marks {
         }
     }
 
-    /// Whether it is known at once that the usual mark is met at an offset to which this was carried.
+    /// Whether it is known without the map that the usual mark is met at an offset to which this was carried.
     #[inline(always)]
     pub(crate) fn is_usual(&self, at: u32, carried: Option<Shape>) -> bool
         ensures { result ≡ true → met carried (marked self.now at) ≡ Some (One (empty_shape Goto)) }

@@ -42,7 +42,7 @@ pub fn entry_of(program: &Module, label: &Text, number: u32) -> Option<usize>
 }
 
 impl State {
-    /// To the label that a value is, or out of a call, which is told.
+    /// To the label that a value is, or out of a call, which is reported.
     pub fn goto_value(&mut self, program: &Module) -> Result<Option<ReturnKind>, Exit>
         requires runnable { IsRunnable program.now }
         requires operands { kinds_of self.old.operands.top ≡ V ∷ [] }
@@ -60,7 +60,7 @@ impl State {
         }
     }
 
-    /// To the statement of a label, or out of a call, which is told.
+    /// To the statement of a label, or out of a call, which is reported.
     pub(crate) fn goto_label(
         &mut self,
         program: &Module,
@@ -92,7 +92,7 @@ impl State {
         }
     }
 
-    /// To the statement of a label, or out of a call, which is told. The label may be the string of this number.
+    /// To the statement of a label, or out of a call, which is reported. The label may be the string of this number.
     #[inline]
     pub fn goto_entry(
         &mut self,

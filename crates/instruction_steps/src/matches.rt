@@ -69,7 +69,7 @@ fn assign_noting<U: Units>(
     world.assign_at(alloc, units, name, slot, value)
 }
 
-// Assigns a value to a name, at once where the slot of its variable is noted.
+// Assigns a value to a name, without a look-up where the slot of its variable is noted.
 #[inline(always)]
 fn assign<U: Units>(
     alloc: Global,

@@ -136,7 +136,7 @@ fn answer<'a, R: Env + Files + Input + Print + AllocGlobal>(
     }
 }
 
-// Tells it, and gives the exit status.
+// Reports it, and returns the exit status.
 fn tell<W: Write>(told: &Told<'_>, errors: &mut W) -> io::Result<u8> {
     match told {
         Told::BadCommandLine => {
@@ -169,7 +169,7 @@ fn status<W: Write>(done: Result<u8, Told<'_>>, errors: &mut W) -> ExitCode {
     })
 }
 
-// What is told where the number of a standard stream can't be held.
+// What is reported where the number of a standard stream can't be held.
 fn not_held(stream: Stream) -> Told<'static> {
     match stream {
         Stream::Input => Told::CannotRead("standard input"),
@@ -191,8 +191,8 @@ fn perform_words<R: Env + Files + Input + Print + AllocGlobal, W: Write>(
     }
 }
 
-/// Does what the program's words ask for, tells what is to be told as lines of `errors`, and gives the exit status. The
-/// standard streams that are closed are held first.
+/// Does what the program's words ask for, reports what is to be reported as lines of `errors`, and returns the exit
+/// status. The standard streams that are closed are held first.
 pub fn run<R: Env + Files + Input + Print + AllocGlobal, I: AsFd, O: AsFd, W: Write + AsFd>(
     rt: &R,
     input: &I,

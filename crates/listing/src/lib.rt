@@ -1,8 +1,8 @@
 //! What the program `sno_list` does: lists decks, and explains the errors of runs.
 //!
 //! `run(runtime, input, output, errors)` holds the numbers of the standard streams that are closed, reads the words, does
-//! what they ask, tells what is wrong with files or words as a line of `errors`, and gives the exit status. `output_style`
-//! is how lines are written on standard output. docs/listing.md has the rules.
+//! what they ask, reports what is wrong with files or words as a line of `errors`, and returns the exit status.
+//! `output_style` is how lines are written on standard output. docs/listing.md has the rules.
 //!
 //!     let status = run(&runtime, &runtime.stdin(), &runtime.stdout(), &mut errors);
 //!

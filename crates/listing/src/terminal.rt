@@ -4,7 +4,7 @@ use deck_listing::Style;
 use std::env::Env;
 use std::fs::Files;
 
-/// The width where nothing tells it.
+/// The width where nothing says it.
 const USUAL: usize = 132;
 
 /// The most bytes of a variable of the environment that says a width.
@@ -24,7 +24,7 @@ fn number(digits: &[u8]) -> Option<usize> {
     Some(number)
 }
 
-/// How many columns a line has, if the environment tells it.
+/// How many columns a line has, if the environment says it.
 pub fn columns<R: Env>(rt: &R) -> Option<usize> {
     let mut buffer = [0_u8; LONGEST];
     let Ok(length) = rt.var("COLUMNS", &mut buffer) else {

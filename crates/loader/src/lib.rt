@@ -1,6 +1,6 @@
 //! From bytes to a checked module, as the machine reads it.
 //!
-//! `load(alloc, bytes)` gives a `Module` or the fault that is told: F1 to F7 of the bytes, W1 to W5 of the image. A
+//! `load(alloc, bytes)` gives a `Module` or the fault that is reported: F1 to F7 of the bytes, W1 to W5 of the image. A
 //! module is read by place (`at`), by number (`statement`, `card`, `string`, ..) and by name (`label`).
 //! `load_v1` gives the image of bytes that were written in version 1 of the format.
 //!
@@ -8,7 +8,7 @@
 //!     let first = module.entry();
 //!
 //! Promised: bytes are accepted exactly if they spell a well-formed image, want of memory aside; else the one defined
-//! fault is told. So a `Module` is well-formed by its type. CALLING.md has the clauses.
+//! fault is reported. So a `Module` is well-formed by its type. CALLING.md has the clauses.
 #![tactic(auto)]
 
 mod code;

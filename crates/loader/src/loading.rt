@@ -51,7 +51,7 @@ fn answer<'a>(alloc: Global, bytes: &'a [u8]) -> Result<Module<'a>, LoadFault>
 }
 
 /// The module that bytes spell, or why it is refused: the first format fault, or else the least fault of the
-/// conditions. Where a growth was refused that is told in place of any other answer. The module borrows the bytes.
+/// conditions. Where a growth was refused that is reported in place of any other result. The module borrows the bytes.
 pub fn load<'a>(alloc: Global, bytes: &'a [u8]) -> Result<Module<'a>, LoadFault>
     ensures exact { IsAnswer bytes.now result }
     ensures loaded { IfOk result (λ m. (read_image bytes.now ≡ Ok m) × IsLoaded m) }
@@ -91,8 +91,8 @@ fn older_answer(alloc: Global, bytes: &[u8]) -> Result<Image, LoadFault>
 }
 
 /// The image of level 1 that bytes of version 1 spell, or why they are refused: the first format fault, or else the
-/// least fault of the conditions, at its offset there. Where a growth was refused that is told in place of any other
-/// answer.
+/// least fault of the conditions, at its offset there. Where a growth was refused that is reported in place of any
+/// other answer.
 pub fn load_v1(alloc: Global, bytes: &[u8]) -> Result<Image, LoadFault>
     ensures exact { (result ≡ Err no_memory) ⊎ LoadsIn versions.One bytes.now result }
     ensures loaded { IfOk result (λ m.

@@ -12,7 +12,7 @@ use model::{Ending, Status, Stop};
 use statement_machine::Machine;
 use std::alloc::Global;
 
-/// How many steps a run makes at once.
+/// How many steps a run makes in one piece.
 #[derive(Clone, Copy)]
 pub struct Pieces {
     /// All of them, at most.

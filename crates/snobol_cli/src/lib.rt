@@ -1,7 +1,7 @@
 //! What the program `snobol` does, which is for people.
 //!
 //! `run(runtime, input, output, errors)` holds the numbers of the standard streams that are closed, reads the words, does
-//! what they ask by the calls of `driver` and `deck_listing`, writes messages to `errors`, and gives the exit status.
+//! what they ask by the calls of `driver` and `deck_listing`, writes messages to `errors`, and returns the exit status.
 //! docs/snobol.md has the rules.
 //!
 //!     let status = run(&runtime, &runtime.stdin(), &runtime.stdout(), &mut errors);
@@ -61,7 +61,7 @@ fn borrowed<'a, R: AllocGlobal>(
     Ok(words)
 }
 
-// Says why nothing is done, and gives the exit status.
+// Says why nothing is done, and returns the exit status.
 fn say<R: Print, W: Write>(rt: &R, why: &NoJob<'_>, errors: &mut W) -> io::Result<u8> {
     match why {
         NoJob::Said(error) if !error.use_stderr() => {
@@ -110,8 +110,8 @@ fn not_held<W: Write>(stream: Stream, errors: &mut W) -> u8 {
     FAILED
 }
 
-/// Does what the program's words ask for, writes messages to `errors`, and gives the exit status. The standard streams
-/// that are closed are held first.
+/// Does what the program's words ask for, writes messages to `errors`, and returns the exit status. The standard
+/// streams that are closed are held first.
 pub fn run<
     R: Env + Files + Input + Print + AllocGlobal,
     I: AsFd,

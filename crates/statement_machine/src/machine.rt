@@ -157,7 +157,7 @@ pub fn run_from_entry<U: Units>(
     // What was printed follows what was printed before.
     ensures served { Served U.Units (stop_of_run result) units.old units.new (λ io io'.
         IfRan result (IsRun program.now bound (ending_of result) io io')) }
-    // A run that stopped has printed a beginning of what the machine prints.
+    // A run that stopped has printed a prefix of what the machine prints.
     ensures printed { IfStop result
         (IfTold (U.told units.old) (U.told units.new) (IsStoppedRun program.now bound)) }
     // A run that a unit stopped did so where the machine asks that unit.

@@ -35,6 +35,6 @@ TellsNext result before after held now = (bytes : List ℕ) × Consumes before a
 
 -- ---- writing
 
--- a beginning of the bytes was appended
+-- a prefix of the bytes was appended
 abbrev pub AppendsBeginning : Option (List ℕ) → Option (List ℕ) → List ℕ → Type 0
 AppendsBeginning before after bytes = (n : ℕ) × Appends before after (take n bytes)

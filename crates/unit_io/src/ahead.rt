@@ -1,4 +1,4 @@
-//! The bytes that were read and aren't told yet.
+//! The bytes that were read and aren't returned yet.
 
 ghost use Rattle.std.specs.Prelude.{◌≡◌, ◌+◌, ◌-◌, ◌≤◌, [], length, take, drop};
 ghost use Rattle.std.specs.Prelude.{Ok, false, IfOk, IfErr, IfSome, ◌<◌, ◌^◌};
@@ -14,14 +14,14 @@ use std::io::{self, ErrorKind, Read};
 use std::marker::Model;
 use strings::Text;
 
-/// As many bytes are read at once, at least.
+/// As many bytes are asked for by one read, at least.
 const PIECE: usize = 16384;
 
-/// As many are read at once where a read gave all that was asked for.
+/// As many are asked for by one read where the last gave all that was asked for.
 const LARGE: usize = 65536;
 
-/// The bytes that were read and aren't told yet stand in `bytes` from `start` to `end`; none of them before `searched` is
-/// a line feed. Behind `end` is room for the next read. `filled` tells that the last read took all of it.
+/// The bytes that were read and aren't returned yet stand in `bytes` from `start` to `end`; none of them before
+/// `searched` is a line feed. Behind `end` is room for the next read. `filled` says that the last read took all of it.
 #[derive(Drop)]
 pub(crate) struct Ahead {
     bytes: Vec<u8>,
@@ -85,7 +85,7 @@ impl Ahead {
         }
     }
 
-    /// The first bytes, up to `end`. Those before `next` are told with them.
+    /// The first bytes, up to `end`. Those before `next` are returned with them.
     pub(crate) fn take(&mut self, alloc: Global, end: usize, next: usize) -> Result<Text, UnitFault>
         requires ordered { end ≤ next }
         requires within { next ≤ length self.old }
@@ -102,7 +102,7 @@ impl Ahead {
         Ok(text)
     }
 
-    // Moves the bytes to the front where at least as many were told. So no more bytes are moved than are told.
+    // Moves the bytes to the front where at least as many were returned. So no more bytes are moved than are returned.
     fn move_to_front(&mut self)
         ensures { self.new ≡ self.old }
     {

@@ -165,7 +165,7 @@ impl<'a, S: UnitSystem> GivenFile<'a, S> {
         self.read_on()
     }
 
-    /// Writes a record; the file is created or emptied at its first use. After a fault a beginning of it was written, and
+    /// Writes a record; the file is created or emptied at its first use. After a fault a prefix of it was written, and
     /// for want of memory nothing.
     pub(crate) fn write_record(&mut self, bytes: &[u8]) -> Result<(), UnitFault>
         ensures ok { OnOk result (Appends self.old.written self.new.written (bytes.now ++ 10 ∷ [])) }

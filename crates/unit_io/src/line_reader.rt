@@ -34,8 +34,8 @@ impl<R: Read> LineReader<R> {
         }
     }
 
-    /// Tells the next record, without its line feed; `None` at the end. After a fault nothing is told and nothing is
-    /// lost, and the next call goes on.
+    /// Returns the next record, without its line feed; `None` at the end. After a fault nothing is returned and nothing
+    /// is lost, and the next call goes on.
     pub fn next_record(&mut self) -> Result<Option<Text>, UnitFault>
         ensures told { TellsNext result (R.remaining self.old.source)
             (R.remaining self.new.source) self.old.held self.new.held }

@@ -32,7 +32,7 @@ impl<W: Write + Drop> LineWriter<W> {
         })
     }
 
-    /// Writes a record, and a line feed after it. After a fault a beginning of them was written.
+    /// Writes a record, and a line feed after it. After a fault a prefix of them was written.
     pub fn write_record(&mut self, bytes: &[u8]) -> Result<(), UnitFault>
         ensures ok { OnOk result
             (Appends (written_by W.contents self.old) (written_by W.contents self.new)

@@ -14,7 +14,7 @@ pub trait Units {
     ghost use Rattle.model.specs.Language.Io.{Io};
     ghost use Rattle.unit_io.specs.Ways.{Way};
 
-    /// The records left on each unit, and those written, in one order over all units; or that they aren't told.
+    /// The records left on each unit, and those written, in one order over all units; or that they aren't exposed.
     ghost told: { Self → Option Io };
 
     /// How often each unit has failed.
@@ -36,7 +36,7 @@ pub trait Units {
             fault ≢ UnitFault.Memory → IsTrue (may_fail self.old Reading unit)) }
         ensures no_more { FailsNoMore (may_fail self.old) (may_fail self.new) };
 
-    /// Writes a record, and a line feed after it. A record whose write is refused isn't told as written.
+    /// Writes a record, and a line feed after it. A record whose write is refused isn't counted as written.
     fn write_record(&mut self, unit: u8, bytes: &[u8]) -> Result<(), UnitFault>
         ensures ok { OnOk result (Writes unit bytes.now (told self.old) (told self.new)) }
         ensures err { OnErr result (told self.new ≡ told self.old) }

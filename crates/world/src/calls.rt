@@ -346,7 +346,7 @@ impl World {
         Ok(Some(Given::Name(name)))
     }
 
-    /// Ends a call: takes what it saved off the end of `saved`, and tells what it gives, or by `None` that it failed.
+    /// Ends a call: takes what it saved off the end of `saved`, and returns what it gives, or `None` if it failed.
     /// Where it should give a name and can't, nothing changes.
     pub fn leave(
         &mut self,
@@ -373,7 +373,7 @@ impl World {
         }
     }
 
-    /// Ends a call by RETURN, where a value is wanted, as `leave` does: tells what it gives.
+    /// Ends a call by RETURN, where a value is wanted, as `leave` does: returns what it gives.
     #[inline(always)]
     pub fn leave_with_value(
         &mut self,

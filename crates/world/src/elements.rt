@@ -234,7 +234,7 @@ impl World {
         })
     }
 
-    /// Gives an element, a field or a key another value, and tells whether it did; else nothing changed.
+    /// Gives an element, a field or a key another value, and returns whether it did; else nothing changed.
     #[inline]
     pub fn replace(&mut self, name: &Name, value: &Value) -> bool
         ensures set { result ≡ true → (io : Io)

@@ -9,7 +9,7 @@
 //!     let fetched = world.fetch(&mut units, &name)?;
 //!
 //! Promised: each is its definition in `model` (`Conversions`, `Operators`, `Io`), errors and failures included.
-//! CALLING.md tells how answers are stated.
+//! CALLING.md says how results are stated.
 #![tactic(auto)]
 
 mod arguments;

@@ -43,7 +43,7 @@ impl World {
         self.fetch_at(units, name, NO_SLOT)
     }
 
-    /// `fetch`, at once if the name is that of the variable in this slot.
+    /// `fetch`, without a look-up if the name is that of the variable in this slot.
     #[inline(always)]
     pub fn fetch_at<U: Units>(
         &mut self,
@@ -178,7 +178,7 @@ impl World {
         self.assign_at(alloc, units, name, NO_SLOT, value)
     }
 
-    /// `assign`, at once if the name is that of the variable in this slot.
+    /// `assign`, without a look-up if the name is that of the variable in this slot.
     #[inline(always)]
     pub fn assign_at<U: Units>(
         &mut self,
@@ -262,7 +262,7 @@ impl World {
         self.splice_at(alloc, units, name, NO_SLOT, span, value)
     }
 
-    /// `splice`, at once if the name is that of the variable in this slot.
+    /// `splice`, without a look-up if the name is that of the variable in this slot.
     pub fn splice_at<U: Units>(
         &mut self,
         alloc: Global,

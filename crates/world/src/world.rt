@@ -85,7 +85,7 @@ impl Variable {
         self.value = value;
     }
 
-    // Puts two texts behind the string that it holds, where it lies; whether that is made, or else nothing changes.
+    // Puts two texts behind the string that it holds, in place; whether that is made, or else nothing changes.
     #[inline(always)]
     fn lengthen(&mut self, alloc: Global, one: &Text, two: &Text) -> bool
         requires fits { (u : Bytes) → self.old.value ≡ String u → length u + length one.now + length two.now < 2 ^ 64 }
@@ -594,7 +594,7 @@ impl World {
         }
     }
 
-    /// Gives the variable in a slot another value, and tells no unit. What writes to no unit writes to none after it.
+    /// Gives the variable in a slot another value, and returns no unit. What writes to no unit writes to none after it.
     #[inline(always)]
     pub fn set_plain(&mut self, slot: u32, value: Value)
         ensures set { (name : target.Name) → IsPlain name slot self.old → (io : Io)
@@ -613,7 +613,7 @@ impl World {
         variable.set(value);
     }
 
-    /// Puts two texts behind the string of a variable that neither reads from a unit nor writes to one, where it lies in its
+    /// Puts two texts behind the string of a variable that neither reads from a unit nor writes to one, in place in its
     /// slot; whether that is made, or else nothing changes. Made in one string of so many bytes at most, and, where that is
     /// asked for, behind another one than the null string.
     #[inline(always)]
@@ -764,7 +764,7 @@ impl World {
         Ok(())
     }
 
-    /// Gives a variable another value, and tells the unit that it writes to.
+    /// Gives a variable another value, and returns the unit that it writes to.
     pub(crate) fn set(
         &mut self,
         name: &Text,
@@ -861,7 +861,7 @@ impl World {
         Ok(())
     }
 
-    /// Gives a variable another value, and tells the one that it had. Tells no unit.
+    /// Gives a variable another value, and returns the one that it had, and no unit.
     #[inline(always)]
     pub(crate) fn replace_value(
         &mut self,

@@ -10,7 +10,7 @@ world_in (Fails w) = w
 world_in (Ends e w) = w
 world_in (Open w) = w
 
--- what was printed is a beginning of what is printed then
+-- what was printed is a prefix of what is printed then
 pub record Before {P E : Type 0} (v w : World P E) : Type 0 where
   pub new : List (record { unit : ℕ; bytes : List ℕ })
   pub is : printed_of w ≡ printed_of v ++ new

@@ -4,7 +4,7 @@ use Rattle.model.specs.Pattern.Patterns.{Lit, Pat, Plain, Succeed, Abort, Fence,
 use Rattle.model.specs.Pattern.BasicEnds.{ends_at}
 use Rattle.model.specs.Pattern.Ends.{Item, End, Aborted, Deep, join, replaced, first_only, put_before, plain_ends, between, ends, IsOneOf, Permits}
 
--- xs without its Deep is a beginning of ys, and without a Deep it is ys
+-- xs without its Deep is a prefix of ys, and without a Deep it is ys
 abbrev pub Begins : List Item → List Item → Type 0
 Begins [] ys = ys ≡ []
 Begins (End e a ∷ xs) ys = (zs : List Item) × (ys ≡ End e a ∷ zs) × Begins xs zs

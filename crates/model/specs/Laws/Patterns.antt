@@ -8,7 +8,7 @@ use Rattle.model.specs.Pattern.Steps.{Code, Answers, match_steps, event_of, with
 use Rattle.model.specs.Pattern.Stands.{Stands, Alike, AlikeEvent}
 use Rattle.model.specs.Deck.Trees.{Expr}
 
--- xs without its Deep is a beginning of ys, and xs without a Deep is ys
+-- xs without its Deep is a prefix of ys, and xs without a Deep is ys
 abbrev pub Begins : List Item → List Item → Type 0
 Begins xs ys = (xs ≡ ys) ⊎ ((zs : List Item) × (more : List Item) × (xs ≡ zs ++ Deep ∷ []) × (ys ≡ zs ++ more))
 
