@@ -7,7 +7,7 @@ const MARKS: &[u8] = b"()<>,=:*/+-.$@?&|~";
 
 /// What a piece is.
 #[derive(Clone, Copy, Debug, PartialEq, Eq)]
-pub enum Kind {
+pub enum PieceKind {
     Blank,
     Word,
     Digits,
@@ -22,7 +22,7 @@ pub enum Kind {
 /// A piece of a text: what it is, its first byte, and where it stands.
 #[derive(Clone, Copy, Debug)]
 pub struct Piece {
-    pub kind: Kind,
+    pub kind: PieceKind,
     pub first: u8,
     pub start: usize,
     pub end: usize,
@@ -36,27 +36,31 @@ impl Piece {
 
     /// Whether it is this mark of one byte.
     pub fn is_mark(&self, mark: u8, text: &[u8]) -> bool {
-        self.kind == Kind::Mark && self.first == mark && self.bytes(text).len() == 1
+        self.kind == PieceKind::Mark && self.first == mark && self.bytes(text).len() == 1
     }
 
     // Whether a byte behind it belongs to it.
     fn takes(&self, byte: u8, at: usize) -> bool {
         match self.kind {
-            Kind::Blank => byte == b' ',
-            Kind::Word => byte.is_ascii_alphanumeric() || byte == b'.' || byte == b'_',
-            Kind::Digits => byte.is_ascii_digit(),
-            Kind::Unclosed => true,
-            Kind::Mark => {
+            PieceKind::Blank => byte == b' ',
+            PieceKind::Word => byte.is_ascii_alphanumeric() || byte == b'.' || byte == b'_',
+            PieceKind::Digits => byte.is_ascii_digit(),
+            PieceKind::Unclosed => true,
+            PieceKind::Mark => {
                 self.first == b'*' && byte == b'*' && at == self.start.saturating_add(1)
             }
-            Kind::Literal | Kind::Stray => false,
+            PieceKind::Literal | PieceKind::Stray => false,
         }
     }
 
     // The piece with one byte more.
     fn grown(self, byte: u8, at: usize) -> Piece {
-        let is_closed = self.kind == Kind::Unclosed && byte == self.first;
-        let kind = if is_closed { Kind::Literal } else { self.kind };
+        let is_closed = self.kind == PieceKind::Unclosed && byte == self.first;
+        let kind = if is_closed {
+            PieceKind::Literal
+        } else {
+            self.kind
+        };
         Piece {
             kind,
             end: at.saturating_add(1),
@@ -66,14 +70,14 @@ impl Piece {
 }
 
 // What a piece is that begins with this byte.
-fn kind_of(byte: u8) -> Kind {
+fn kind_of(byte: u8) -> PieceKind {
     match byte {
-        b' ' => Kind::Blank,
-        b'A'..=b'Z' | b'a'..=b'z' => Kind::Word,
-        b'0'..=b'9' => Kind::Digits,
-        b'\'' | b'"' => Kind::Unclosed,
-        _ if MARKS.contains(&byte) => Kind::Mark,
-        _ => Kind::Stray,
+        b' ' => PieceKind::Blank,
+        b'A'..=b'Z' | b'a'..=b'z' => PieceKind::Word,
+        b'0'..=b'9' => PieceKind::Digits,
+        b'\'' | b'"' => PieceKind::Unclosed,
+        _ if MARKS.contains(&byte) => PieceKind::Mark,
+        _ => PieceKind::Stray,
     }
 }
 

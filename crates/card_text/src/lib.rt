@@ -14,6 +14,6 @@ mod notes;
 mod places;
 mod walk;
 
-pub use cut::{Kind, Piece, cut_text};
-pub use notes::{Note, fault_notes, locate, notes_of};
+pub use cut::{Piece, PieceKind, cut_text};
+pub use notes::{FaultPlace, fault_notes, locate, notes_of};
 pub use walk::{Joined, Spot, Walk, columns, joining, next_line};

@@ -7,7 +7,7 @@ use std::alloc::{AllocError, Global};
 
 /// A faulty statement: the card under which it is reported, and the column of the token, from 0, where that is known.
 #[derive(Clone, Copy, Debug)]
-pub struct Note {
+pub struct FaultPlace {
     /// The statement's number, from 1.
     pub number: u32,
     pub cause: Cause,
@@ -19,7 +19,7 @@ pub struct Note {
 }
 
 // The note of a fault, reported under the card where the statement begins.
-fn note_of(alloc: Global, deck: &Deck, fault: StmtFault) -> Result<Note, AllocError> {
+fn note_of(alloc: Global, deck: &Deck, fault: StmtFault) -> Result<FaultPlace, AllocError> {
     let index = fault.number.saturating_sub(1) as usize;
     let (card, place) = match deck.statements.as_slice().get(index) {
         Some(statement) => (
@@ -28,7 +28,7 @@ fn note_of(alloc: Global, deck: &Deck, fault: StmtFault) -> Result<Note, AllocEr
         ),
         None => (0, None),
     };
-    Ok(Note {
+    Ok(FaultPlace {
         number: fault.number,
         cause: fault.cause,
         card,
@@ -38,7 +38,7 @@ fn note_of(alloc: Global, deck: &Deck, fault: StmtFault) -> Result<Note, AllocEr
 }
 
 // Looks whether a byte is where the next note's token begins; the index of the note that is looked for then.
-fn see(notes: &mut [Note], next: usize, spot: Spot, card: u32, column: usize) -> usize {
+fn see(notes: &mut [FaultPlace], next: usize, spot: Spot, card: u32, column: usize) -> usize {
     let next = match notes.get(next) {
         Some(note) if note.number < spot.number => next.saturating_add(1),
         _ => next,
@@ -53,7 +53,13 @@ fn see(notes: &mut [Note], next: usize, spot: Spot, card: u32, column: usize) ->
 }
 
 // Goes over a card.
-fn see_card(walk: &mut Walk, notes: &mut [Note], next: usize, card: u32, line: &[u8]) -> usize {
+fn see_card(
+    walk: &mut Walk,
+    notes: &mut [FaultPlace],
+    next: usize,
+    card: u32,
+    line: &[u8],
+) -> usize {
     let read = columns(line);
     let skipped = match joining(read) {
         Joined::Nothing => return next,
@@ -73,7 +79,7 @@ fn see_card(walk: &mut Walk, notes: &mut [Note], next: usize, card: u32, line: &
 }
 
 /// Puts the columns of notes of the deck with these cards, and the cards on which their places are.
-pub fn locate(bytes: &[u8], notes: &mut [Note]) {
+pub fn locate(bytes: &[u8], notes: &mut [FaultPlace]) {
     let mut walk = Walk::new();
     let mut rest = bytes;
     let mut next = 0;
@@ -89,7 +95,11 @@ pub fn locate(bytes: &[u8], notes: &mut [Note]) {
 }
 
 /// The notes of a deck's faults, in order, each on the card where its statement begins, and without a column.
-pub fn notes_of(alloc: Global, deck: &Deck, faults: &[StmtFault]) -> Result<Vec<Note>, AllocError> {
+pub fn notes_of(
+    alloc: Global,
+    deck: &Deck,
+    faults: &[StmtFault],
+) -> Result<Vec<FaultPlace>, AllocError> {
     let mut notes = Vec::new(alloc);
     for fault in faults.iter().copied() {
         notes.push(note_of(alloc, deck, fault)?)?;
@@ -103,7 +113,7 @@ pub fn fault_notes(
     bytes: &[u8],
     deck: &Deck,
     faults: &[StmtFault],
-) -> Result<Vec<Note>, AllocError> {
+) -> Result<Vec<FaultPlace>, AllocError> {
     let mut notes = notes_of(alloc, deck, faults)?;
     locate(bytes, notes.as_mut_slice());
     Ok(notes)

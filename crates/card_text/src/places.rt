@@ -1,6 +1,6 @@
 //! Where in a statement its fault stands.
 
-use crate::cut::{Kind, Piece, cut_text};
+use crate::cut::{Piece, PieceKind, cut_text};
 use model::{Cause, KeyId, PrimId};
 use std::alloc::{AllocError, Global};
 
@@ -13,7 +13,7 @@ const MOST_IN_A_ROW: u32 = 16;
 /// The greatest integer.
 const GREATEST: u64 = 9_223_372_036_854_775_807;
 
-fn first_of(pieces: &[Piece], kind: Kind) -> Option<usize> {
+fn first_of(pieces: &[Piece], kind: PieceKind) -> Option<usize> {
     for piece in pieces.iter().copied() {
         if piece.kind == kind {
             return Some(piece.start);
@@ -35,7 +35,7 @@ fn value(digits: &[u8]) -> Option<u64> {
 
 fn large_integer(pieces: &[Piece], text: &[u8]) -> Option<usize> {
     for piece in pieces.iter().copied() {
-        if piece.kind == Kind::Digits && value(piece.bytes(text)).is_none() {
+        if piece.kind == PieceKind::Digits && value(piece.bytes(text)).is_none() {
             return Some(piece.start);
         }
     }
@@ -45,8 +45,8 @@ fn large_integer(pieces: &[Piece], text: &[u8]) -> Option<usize> {
 // How many brackets are open behind a piece.
 fn open_behind(open: u32, piece: Piece) -> u32 {
     match (piece.kind, piece.first) {
-        (Kind::Mark, b'(' | b'<') => open.saturating_add(1),
-        (Kind::Mark, b')' | b'>') => open.saturating_sub(1),
+        (PieceKind::Mark, b'(' | b'<') => open.saturating_add(1),
+        (PieceKind::Mark, b')' | b'>') => open.saturating_sub(1),
         _ => open,
     }
 }
@@ -97,7 +97,7 @@ fn arguments(pieces: &[Piece]) -> usize {
         if open == 0 {
             return count;
         }
-        if open == 1 && piece.kind == Kind::Mark && piece.first == b',' {
+        if open == 1 && piece.kind == PieceKind::Mark && piece.first == b',' {
             count = count.saturating_add(1);
         }
     }
@@ -120,7 +120,7 @@ fn is_full_call(piece: Piece, behind: &[Piece], text: &[u8]) -> bool {
 fn full_call(pieces: &[Piece], text: &[u8]) -> Option<usize> {
     for (place, piece) in pieces.iter().copied().enumerate() {
         let behind = pieces.get(place.saturating_add(1)..).unwrap_or(&[]);
-        if piece.kind == Kind::Word && is_full_call(piece, behind, text) {
+        if piece.kind == PieceKind::Word && is_full_call(piece, behind, text) {
             return Some(piece.start);
         }
     }
@@ -130,7 +130,10 @@ fn full_call(pieces: &[Piece], text: &[u8]) -> Option<usize> {
 fn unknown_keyword(pieces: &[Piece], text: &[u8]) -> Option<usize> {
     let mut is_keyword = false;
     for piece in pieces.iter().copied() {
-        if is_keyword && piece.kind == Kind::Word && KeyId::named(piece.bytes(text)).is_none() {
+        if is_keyword
+            && piece.kind == PieceKind::Word
+            && KeyId::named(piece.bytes(text)).is_none()
+        {
             return Some(piece.start);
         }
         is_keyword = piece.is_mark(b'&', text);
@@ -140,7 +143,7 @@ fn unknown_keyword(pieces: &[Piece], text: &[u8]) -> Option<usize> {
 
 // The entry label of END.
 fn entry(pieces: &[Piece]) -> Option<usize> {
-    first_of(pieces.get(1..)?, Kind::Word)
+    first_of(pieces.get(1..)?, PieceKind::Word)
 }
 
 /// Where in a statement's text the token stands for which it has this cause, where that is known.
@@ -148,8 +151,8 @@ pub(crate) fn place(alloc: Global, cause: Cause, text: &[u8]) -> Result<Option<u
     let pieces = cut_text(alloc, text)?;
     let pieces = pieces.as_slice();
     Ok(match cause {
-        Cause::StrayByte => first_of(pieces, Kind::Stray),
-        Cause::UnclosedLiteral => first_of(pieces, Kind::Unclosed),
+        Cause::StrayByte => first_of(pieces, PieceKind::Stray),
+        Cause::UnclosedLiteral => first_of(pieces, PieceKind::Unclosed),
         Cause::IntegerTooLarge => large_integer(pieces, text),
         Cause::TooManyBrackets => deep_bracket(pieces),
         Cause::TooManyMarks => long_row(pieces, text),

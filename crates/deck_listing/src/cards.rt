@@ -2,7 +2,7 @@
 
 use crate::code::{Reached, statement};
 use crate::lines::{Style, caret, loud, sentence, text};
-use card_text::{Note, next_line};
+use card_text::{FaultPlace, next_line};
 use codes::{card_code, cause_code};
 use model::{CardFault, Image, Statement};
 use std::io::{self, Write};
@@ -14,7 +14,7 @@ const INDENT: usize = 16;
 #[derive(Clone, Copy)]
 pub(crate) struct Known<'a> {
     pub(crate) statements: &'a [Statement],
-    pub(crate) notes: &'a [Note],
+    pub(crate) notes: &'a [FaultPlace],
     pub(crate) fault: Option<CardFault>,
     pub(crate) image: Option<&'a Image>,
 }
@@ -32,7 +32,7 @@ fn begin_at(statements: &[Statement], card: u32) -> usize {
 }
 
 // How many of the notes are of a card, which are the first of these.
-fn noted_at(notes: &[Note], card: u32) -> usize {
+fn noted_at(notes: &[FaultPlace], card: u32) -> usize {
     let mut count: usize = 0;
     for note in notes {
         if note.card != card {
@@ -71,7 +71,7 @@ fn card_fault<W: Write>(
     sentence(style, INDENT, card_code(fault.rule).help, out)
 }
 
-fn write_note<W: Write>(style: Style, note: Note, out: &mut W) -> io::Result<()> {
+fn write_note<W: Write>(style: Style, note: FaultPlace, out: &mut W) -> io::Result<()> {
     loud(style, true, out)?;
     if let Some(column) = note.column {
         caret(style, column, out)?;
@@ -84,10 +84,10 @@ fn write_note<W: Write>(style: Style, note: Note, out: &mut W) -> io::Result<()>
 // Writes the notes of a card, which are the first of these, and gives the others.
 fn notes_of<'a, W: Write>(
     style: Style,
-    notes: &'a [Note],
+    notes: &'a [FaultPlace],
     card: u32,
     out: &mut W,
-) -> io::Result<&'a [Note]> {
+) -> io::Result<&'a [FaultPlace]> {
     let count = noted_at(notes, card);
     for here in notes.get(..count).unwrap_or(&[]) {
         write_note(style, *here, out)?;

@@ -10,8 +10,8 @@ use Rattle.model.specs.declared.run.Status.{Status}
 use Rattle.model.specs.declared.run.Status.TheVariants as status
 use Rattle.driver.specs.declared.refusal.Refusal.{Refusal}
 use Rattle.driver.specs.declared.refusal.Refusal.TheVariants as refusal
-use Rattle.driver.specs.declared.telling.Told.{Told}
-use Rattle.driver.specs.declared.telling.Told.TheVariants as told
+use Rattle.driver.specs.declared.telling.FinalReport.{FinalReport}
+use Rattle.driver.specs.declared.telling.FinalReport.TheVariants as told
 use Rattle.driver.specs.declared.words.Job.{Job}
 use Rattle.driver.specs.declared.words.Job.TheVariants as job
 
@@ -42,7 +42,7 @@ abbrev pub exit_of_fault : LoadFault → ℕ
 exit_of_fault (load.Format fault) = exit_of_rule fault.rule
 exit_of_fault (load.Module fault) = 4
 
-abbrev pub exit_of : Told → ℕ
+abbrev pub exit_of : FinalReport → ℕ
 exit_of told.BadCommandLine = 2
 exit_of (told.Refused refusal) = exit_of_refusal refusal
 exit_of (told.BadModule fault) = exit_of_fault fault
@@ -52,7 +52,7 @@ exit_of (told.CannotWrite file) = 6
 exit_of told.NoMemory = 6
 
 -- of what the program has to report, if anything
-abbrev pub exit_of_outcome : Option Told → ℕ
+abbrev pub exit_of_outcome : Option FinalReport → ℕ
 exit_of_outcome (Some told) = exit_of told
 exit_of_outcome None = 0
 

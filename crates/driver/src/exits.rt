@@ -4,7 +4,7 @@ ghost use Rattle.std.specs.Prelude.{◌≡◌};
 ghost use Rattle.driver.specs.Exits.{exit_of, exit_of_ending, exit_of_fault, exit_of_refusal, exit_of_rule, exit_of_status};
 
 use crate::refusal::Refusal;
-use crate::telling::Told;
+use crate::telling::FinalReport;
 use model::{Ending, FormatRule, LoadFault, Status};
 
 fn of_ending(ending: Ending) -> u8
@@ -61,16 +61,16 @@ fn of_fault(fault: LoadFault) -> u8
 }
 
 /// The exit status for what is reported.
-pub fn exit_status(told: &Told<'_>) -> u8
+pub fn exit_status(told: &FinalReport<'_>) -> u8
     ensures { result ≡ exit_of told.now }
 {
     match told {
-        Told::BadCommandLine => 2,
-        Told::Refused(refusal) => of_refusal(refusal),
-        Told::BadModule(fault) => of_fault(*fault),
-        Told::Ran(ran) => of_status(ran.status),
-        Told::CannotRead(_) => 6,
-        Told::CannotWrite(_) => 6,
-        Told::NoMemory => 6,
+        FinalReport::BadCommandLine => 2,
+        FinalReport::Refused(refusal) => of_refusal(refusal),
+        FinalReport::BadModule(fault) => of_fault(*fault),
+        FinalReport::Ran(ran) => of_status(ran.status),
+        FinalReport::CannotRead(_) => 6,
+        FinalReport::CannotWrite(_) => 6,
+        FinalReport::NoMemory => 6,
     }
 }

@@ -33,7 +33,7 @@ pub use on_files::{finished, run_deck_on_files, run_module_on_files};
 pub use refusal::Refusal;
 pub use running::{Ran, run_module, run_with_card};
 pub use showing::{ShowFault, check_module, instruction_name, show};
-pub use telling::{Told, WriteFault, report};
+pub use telling::{FinalReport, WriteFault, report};
 pub use upgrading::upgrade;
 pub use watching::watch_deck;
 pub use whole::run_deck;

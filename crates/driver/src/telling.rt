@@ -14,7 +14,7 @@ use std::io::{self, Write};
 
 /// What the program has to report at its end.
 #[derive(Debug, Drop)]
-pub enum Told<'a> {
+pub enum FinalReport<'a> {
     BadCommandLine,
     Refused(Refusal),
     BadModule(LoadFault),
@@ -160,22 +160,22 @@ fn tell_refusal<W: Write>(refusal: &Refusal, out: &mut W) -> io::Result<()>
     }
 }
 
-fn tell<W: Write>(told: &Told<'_>, out: &mut W) -> io::Result<()>
+fn tell<W: Write>(told: &FinalReport<'_>, out: &mut W) -> io::Result<()>
     ensures { OnOk result (IfSome (lines_of told.now) (Appends (W.contents out.old) (W.contents out.new))) }
 {
     match told {
-        Told::BadCommandLine => writeln!(out, "bad command line"),
-        Told::Refused(refusal) => tell_refusal(refusal, out),
-        Told::BadModule(fault) => tell_bad_module(*fault, out),
-        Told::Ran(ran) => tell_run(*ran, out),
-        Told::CannotRead(file) => writeln!(out, "cannot read {file}"),
-        Told::CannotWrite(file) => writeln!(out, "cannot write {file}"),
-        Told::NoMemory => tell_no_memory(out),
+        FinalReport::BadCommandLine => writeln!(out, "bad command line"),
+        FinalReport::Refused(refusal) => tell_refusal(refusal, out),
+        FinalReport::BadModule(fault) => tell_bad_module(*fault, out),
+        FinalReport::Ran(ran) => tell_run(*ran, out),
+        FinalReport::CannotRead(file) => writeln!(out, "cannot read {file}"),
+        FinalReport::CannotWrite(file) => writeln!(out, "cannot write {file}"),
+        FinalReport::NoMemory => tell_no_memory(out),
     }
 }
 
 /// Writes the lines that report it, and returns the exit status. After a failure nothing is said of what was written.
-pub fn report<W: Write>(told: &Told<'_>, out: &mut W) -> Result<u8, WriteFault>
+pub fn report<W: Write>(told: &FinalReport<'_>, out: &mut W) -> Result<u8, WriteFault>
     ensures exit { IfOk result (λ exit. exit ≡ exit_of told.now) }
     // These lines, where the library says what it writes for all that they show.
     ensures lines { OnOk result (IfSome (lines_of told.now)

@@ -1,6 +1,6 @@
 //! The words of the program `sno`.
 
-use crate::telling::Told;
+use crate::telling::FinalReport;
 use clap::error::ErrorKind;
 use clap::{Arg, ArgAction, ArgMatches, Command, Error};
 use std::alloc::{AllocError, Global};
@@ -160,15 +160,18 @@ fn unit_file<'a>(word: &'a str) -> Option<UnitFile<'a>> {
 }
 
 // The files that words give for units, at most one for each.
-fn unit_files<'a>(alloc: Global, words: &[&'a str]) -> Result<Vec<UnitFile<'a>>, Told<'static>> {
+fn unit_files<'a>(
+    alloc: Global,
+    words: &[&'a str],
+) -> Result<Vec<UnitFile<'a>>, FinalReport<'static>> {
     let mut files: Vec<UnitFile<'a>> = Vec::new(alloc);
     for word in words {
-        let given = unit_file(word).ok_or(Told::BadCommandLine)?;
+        let given = unit_file(word).ok_or(FinalReport::BadCommandLine)?;
         if files.iter().any(|file| file.unit == given.unit) {
-            return Err(Told::BadCommandLine);
+            return Err(FinalReport::BadCommandLine);
         }
         if files.push(given).is_err() {
-            return Err(Told::NoMemory);
+            return Err(FinalReport::NoMemory);
         }
     }
     Ok(files)
@@ -179,8 +182,8 @@ fn run_job<'a>(
     alloc: Global,
     module: &'a str,
     matches: &ArgMatches<'a>,
-) -> Result<Job<'a>, Told<'static>> {
-    let steps = steps(matches).ok_or(Told::BadCommandLine)?;
+) -> Result<Job<'a>, FinalReport<'static>> {
+    let steps = steps(matches).ok_or(FinalReport::BadCommandLine)?;
     let files = unit_files(alloc, matches.get_strs("UNIT=FILE").unwrap_or(&[]))?;
     Ok(Job::Run {
         module,
@@ -190,17 +193,17 @@ fn run_job<'a>(
 }
 
 // What the words of `go` ask for.
-fn go_job<'a>(alloc: Global, matches: &ArgMatches<'a>) -> Result<Job<'a>, Told<'static>> {
-    let deck = matches.get_str("DECK").ok_or(Told::BadCommandLine)?;
-    let steps = steps(matches).ok_or(Told::BadCommandLine)?;
+fn go_job<'a>(alloc: Global, matches: &ArgMatches<'a>) -> Result<Job<'a>, FinalReport<'static>> {
+    let deck = matches.get_str("DECK").ok_or(FinalReport::BadCommandLine)?;
+    let steps = steps(matches).ok_or(FinalReport::BadCommandLine)?;
     let files = unit_files(alloc, matches.get_strs("UNIT=FILE").unwrap_or(&[]))?;
     Ok(Job::Go { deck, steps, files })
 }
 
 // What the words of `upgrade` ask for.
-fn upgrade_job<'a>(matches: &ArgMatches<'a>) -> Result<Job<'a>, Told<'static>> {
-    let old = matches.get_str("OLD").ok_or(Told::BadCommandLine)?;
-    let new = matches.get_str("NEW").ok_or(Told::BadCommandLine)?;
+fn upgrade_job<'a>(matches: &ArgMatches<'a>) -> Result<Job<'a>, FinalReport<'static>> {
+    let old = matches.get_str("OLD").ok_or(FinalReport::BadCommandLine)?;
+    let new = matches.get_str("NEW").ok_or(FinalReport::BadCommandLine)?;
     Ok(Job::Upgrade { old, new })
 }
 
@@ -209,37 +212,39 @@ fn subcommand_job<'a>(
     alloc: Global,
     name: &str,
     matches: &ArgMatches<'a>,
-) -> Result<Job<'a>, Told<'static>> {
+) -> Result<Job<'a>, FinalReport<'static>> {
     if name == "upgrade" {
         return upgrade_job(matches);
     }
     if name == "go" {
         return go_job(alloc, matches);
     }
-    let module = matches.get_str("MODULE").ok_or(Told::BadCommandLine)?;
+    let module = matches
+        .get_str("MODULE")
+        .ok_or(FinalReport::BadCommandLine)?;
     match name {
         "compile" => {
-            let deck = matches.get_str("DECK").ok_or(Told::BadCommandLine)?;
+            let deck = matches.get_str("DECK").ok_or(FinalReport::BadCommandLine)?;
             Ok(Job::Compile { deck, module })
         }
         "check" => Ok(Job::Check { module }),
         "show" => Ok(Job::Show { module }),
         "run" => run_job(alloc, module, matches),
-        _ => Err(Told::BadCommandLine),
+        _ => Err(FinalReport::BadCommandLine),
     }
 }
 
-fn told(error: &Error) -> Told<'static> {
+fn told(error: &Error) -> FinalReport<'static> {
     match error.kind() {
-        ErrorKind::OutOfMemory => Told::NoMemory,
-        _ => Told::BadCommandLine,
+        ErrorKind::OutOfMemory => FinalReport::NoMemory,
+        _ => FinalReport::BadCommandLine,
     }
 }
 
 /// What the words after the program's name ask for; every other command line is a bad one.
-pub fn read_words<'a>(alloc: Global, words: &'a [&'a str]) -> Result<Job<'a>, Told<'a>> {
+pub fn read_words<'a>(alloc: Global, words: &'a [&'a str]) -> Result<Job<'a>, FinalReport<'a>> {
     let Ok(command) = command(alloc) else {
-        return Err(Told::NoMemory);
+        return Err(FinalReport::NoMemory);
     };
     let matches = match command.try_get_matches_from(words) {
         Ok(matches) => matches,

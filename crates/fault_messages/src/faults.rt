@@ -2,10 +2,10 @@
 
 use crate::mistakes::{Mistake, mistake_in};
 use card_reader::read_deck;
-use card_text::{Note, columns, cut_text, locate, notes_of};
+use card_text::{FaultPlace, columns, cut_text, locate, notes_of};
 use codes::{Code, MEMORY_CODE, card_code, cause_code, format_code, rule_code};
 use driver::Refusal;
-use messages::{Cards, Message, Place, Sources};
+use messages::{CardPlace, Cards, Message, Sources};
 use model::{CardFault, CardRule, Cause, Deck, FormatRule, LoadFault, StmtFault};
 use std::alloc::{AllocError, Global};
 
@@ -17,7 +17,7 @@ pub(crate) fn of_whole(
     text: String,
 ) -> Result<Message, AllocError> {
     let file = String::from_str(alloc, file)?;
-    Ok(Message::new(file, Place::whole(), code, text))
+    Ok(Message::new(file, CardPlace::whole(), code, text))
 }
 
 /// A message of want of memory.
@@ -89,7 +89,7 @@ fn token_length(alloc: Global, card: &[u8], column: usize) -> Result<usize, Allo
 }
 
 // The byte of a card that begins no token, where a note is of one.
-fn stray_byte(cards: &Cards<'_>, note: Note) -> Option<u8> {
+fn stray_byte(cards: &Cards<'_>, note: FaultPlace) -> Option<u8> {
     if note.cause != Cause::StrayByte {
         return None;
     }
@@ -100,7 +100,7 @@ fn stray_byte(cards: &Cards<'_>, note: Note) -> Option<u8> {
 fn note_text(
     alloc: Global,
     cards: &Cards<'_>,
-    note: Note,
+    note: FaultPlace,
     mistake: Option<Mistake>,
 ) -> Result<String, AllocError> {
     let text = cause_code(note.cause).text;
@@ -116,7 +116,7 @@ fn of_note(
     alloc: Global,
     sources: &Sources<'_>,
     cards: &Cards<'_>,
-    note: Note,
+    note: FaultPlace,
     mistake: Option<Mistake>,
 ) -> Result<Message, AllocError> {
     let code = cause_code(note.cause);
@@ -133,7 +133,7 @@ fn of_note(
 fn of_notes(
     alloc: Global,
     sources: &Sources<'_>,
-    notes: &[Note],
+    notes: &[FaultPlace],
     mistakes: &[Option<Mistake>],
 ) -> Result<Vec<Message>, AllocError> {
     let cards = Cards::of(alloc, sources.bytes())?;
@@ -148,7 +148,7 @@ fn of_notes(
 fn mistake_of(
     alloc: Global,
     deck: &Deck,
-    note: Note,
+    note: FaultPlace,
 ) -> Result<Option<(Mistake, usize)>, AllocError> {
     let index = note.number.saturating_sub(1) as usize;
     match deck.statements.as_slice().get(index) {
@@ -163,7 +163,7 @@ fn mistake_of(
 fn mistakes_of(
     alloc: Global,
     deck: &Deck,
-    notes: &mut [Note],
+    notes: &mut [FaultPlace],
 ) -> Result<Vec<Option<Mistake>>, AllocError> {
     let mut mistakes = Vec::new(alloc);
     for note in notes {

@@ -1,6 +1,6 @@
 //! Why a statement has no form that is permitted, as far as its pieces show it.
 
-use card_text::{Kind, Piece, cut_text};
+use card_text::{Piece, PieceKind, cut_text};
 use std::alloc::{AllocError, Global};
 
 /// A mistake for which a statement has no tree.
@@ -56,38 +56,38 @@ impl Mistake {
 type Found = (Mistake, usize);
 
 fn is_blank(piece: Option<&Piece>) -> bool {
-    piece.is_some_and(|piece| piece.kind == Kind::Blank)
+    piece.is_some_and(|piece| piece.kind == PieceKind::Blank)
 }
 
-fn is_kind(piece: Option<&Piece>, kind: Kind) -> bool {
+fn is_kind(piece: Option<&Piece>, kind: PieceKind) -> bool {
     piece.is_some_and(|piece| piece.kind == kind)
 }
 
 // Whether a piece is a mark that begins with this byte.
 fn is_mark(piece: Piece, mark: u8) -> bool {
-    piece.kind == Kind::Mark && piece.first == mark
+    piece.kind == PieceKind::Mark && piece.first == mark
 }
 
 // Whether a value may end with a piece.
 fn ends_value(piece: Piece) -> bool {
     match piece.kind {
-        Kind::Word | Kind::Digits | Kind::Literal => true,
-        Kind::Mark => matches!(piece.first, b')' | b'>'),
-        Kind::Blank | Kind::Unclosed | Kind::Stray => false,
+        PieceKind::Word | PieceKind::Digits | PieceKind::Literal => true,
+        PieceKind::Mark => matches!(piece.first, b')' | b'>'),
+        PieceKind::Blank | PieceKind::Unclosed | PieceKind::Stray => false,
     }
 }
 
 // Whether a value, or what belongs to one, may begin with a piece.
 fn begins_value(piece: Piece) -> bool {
     match piece.kind {
-        Kind::Word | Kind::Digits | Kind::Literal => true,
-        Kind::Mark => matches!(piece.first, b'(' | b'<'),
-        Kind::Blank | Kind::Unclosed | Kind::Stray => false,
+        PieceKind::Word | PieceKind::Digits | PieceKind::Literal => true,
+        PieceKind::Mark => matches!(piece.first, b'(' | b'<'),
+        PieceKind::Blank | PieceKind::Unclosed | PieceKind::Stray => false,
     }
 }
 
 fn is_operator(piece: Piece) -> bool {
-    piece.kind == Kind::Mark && !matches!(piece.first, b'(' | b')' | b'<' | b'>' | b',')
+    piece.kind == PieceKind::Mark && !matches!(piece.first, b'(' | b')' | b'<' | b'>' | b',')
 }
 
 // Whether a piece is an operator that is never unary.
@@ -101,11 +101,14 @@ fn behind_another(before: Piece, piece: Piece, next: Option<&Piece>) -> Option<M
     if !ends_value(before) {
         return None;
     }
-    let is_call = before.kind == Kind::Word && matches!(piece.first, b'(' | b'<');
+    let is_call = before.kind == PieceKind::Word && matches!(piece.first, b'(' | b'<');
     if begins_value(piece) {
         return (!is_call).then_some(Mistake::TwoValues);
     }
-    if before.kind == Kind::Digits && is_mark(piece, b'.') && is_kind(next, Kind::Digits) {
+    if before.kind == PieceKind::Digits
+        && is_mark(piece, b'.')
+        && is_kind(next, PieceKind::Digits)
+    {
         return Some(Mistake::RealNumber);
     }
     is_operator(piece).then_some(Mistake::NoBlanks)
@@ -153,7 +156,7 @@ fn closing(opening: u8) -> u8 {
 fn of_brackets(alloc: Global, pieces: &[Piece]) -> Result<Option<Found>, AllocError> {
     let mut open: Vec<Piece> = Vec::new(alloc);
     for piece in pieces.iter().copied() {
-        if piece.kind != Kind::Mark {
+        if piece.kind != PieceKind::Mark {
             continue;
         }
         match piece.first {
@@ -181,8 +184,8 @@ struct Reached {
 // What is wrong with a piece of a goto that stands in no bracket.
 fn outside(reached: Reached, piece: Piece, next: Option<&Piece>, text: &[u8]) -> Option<Mistake> {
     let is_part = match piece.kind {
-        Kind::Blank => return None,
-        Kind::Word => {
+        PieceKind::Blank => return None,
+        PieceKind::Word => {
             matches!(piece.bytes(text), b"S" | b"F")
                 && next.is_some_and(|next| is_mark(*next, b'('))
         }
@@ -219,11 +222,11 @@ fn of_goto(pieces: &[Piece], text: &[u8]) -> Option<Found> {
 // The pieces behind a label and the blanks that follow it.
 fn behind_label(pieces: &[Piece]) -> &[Piece] {
     let pieces = match pieces {
-        [label, rest @ ..] if label.kind == Kind::Word => rest,
+        [label, rest @ ..] if label.kind == PieceKind::Word => rest,
         pieces => pieces,
     };
     match pieces {
-        [blank, rest @ ..] if blank.kind == Kind::Blank => rest,
+        [blank, rest @ ..] if blank.kind == PieceKind::Blank => rest,
         pieces => pieces,
     }
 }
@@ -232,7 +235,7 @@ fn behind_label(pieces: &[Piece]) -> &[Piece] {
 fn behind_element(pieces: &[Piece]) -> &[Piece] {
     let mut open: u32 = 0;
     for (at, piece) in pieces.iter().copied().enumerate() {
-        if piece.kind == Kind::Blank && open == 0 {
+        if piece.kind == PieceKind::Blank && open == 0 {
             return pieces.get(at..).unwrap_or(&[]);
         }
         if is_mark(piece, b'(') || is_mark(piece, b'<') {
@@ -263,8 +266,8 @@ fn of_subject(pieces: &[Piece]) -> Option<Found> {
 fn of_first(pieces: &[Piece]) -> Option<Found> {
     let piece = pieces.first()?;
     match piece.kind {
-        Kind::Blank | Kind::Word => None,
-        Kind::Mark if piece.first == b'*' => Some((Mistake::CommentInside, piece.start)),
+        PieceKind::Blank | PieceKind::Word => None,
+        PieceKind::Mark if piece.first == b'*' => Some((Mistake::CommentInside, piece.start)),
         _ => Some((Mistake::NoLabel, piece.start)),
     }
 }

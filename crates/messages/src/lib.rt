@@ -13,6 +13,6 @@ mod message;
 mod sources;
 mod writing;
 
-pub use message::{Message, Place, Severity};
+pub use message::{CardPlace, Message, Severity};
 pub use sources::{Cards, Sources};
 pub use writing::{Form, write_messages};

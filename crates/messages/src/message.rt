@@ -24,7 +24,7 @@ impl Severity {
 
 /// Where something is wrong on a card.
 #[derive(Clone, Copy, Debug)]
-pub struct Place {
+pub struct CardPlace {
     /// The card's number in its file, from 1.
     pub card: Option<u32>,
     /// From 0.
@@ -35,10 +35,10 @@ pub struct Place {
     pub whole_card: u32,
 }
 
-impl Place {
+impl CardPlace {
     /// A file as a whole.
-    pub fn whole() -> Place {
-        Place {
+    pub fn whole() -> CardPlace {
+        CardPlace {
             card: None,
             column: None,
             length: 0,
@@ -47,8 +47,8 @@ impl Place {
     }
 
     /// The same card with a column, if there is one, and how many.
-    pub fn at(self, column: Option<usize>, length: usize) -> Place {
-        Place {
+    pub fn at(self, column: Option<usize>, length: usize) -> CardPlace {
+        CardPlace {
             card: self.card,
             column,
             length,
@@ -61,7 +61,7 @@ impl Place {
 #[derive(Debug, Drop)]
 pub struct Message {
     pub file: String,
-    pub place: Place,
+    pub place: CardPlace,
     pub statement: Option<i64>,
     pub severity: Severity,
     pub code: Code,
@@ -70,7 +70,7 @@ pub struct Message {
 
 impl Message {
     /// An error that no statement has.
-    pub fn new(file: String, place: Place, code: Code, text: String) -> Message {
+    pub fn new(file: String, place: CardPlace, code: Code, text: String) -> Message {
         Message {
             file,
             place,
@@ -84,7 +84,7 @@ impl Message {
     /// An error that a statement has.
     pub fn of_statement(
         file: String,
-        place: Place,
+        place: CardPlace,
         statement: i64,
         code: Code,
         text: String,

@@ -1,6 +1,6 @@
 //! Decks that are read as one, and where their cards are.
 
-use crate::message::Place;
+use crate::message::CardPlace;
 use memchr::memchr_iter;
 use std::alloc::{AllocError, Global};
 
@@ -105,9 +105,9 @@ impl<'a> Sources<'a> {
 
 impl Sources<'_> {
     /// The file in which a card of the decks stood before they were written anew, and its place there.
-    pub fn old_place(&self, alloc: Global, card: u32) -> Result<(String, Place), AllocError> {
+    pub fn old_place(&self, alloc: Global, card: u32) -> Result<(String, CardPlace), AllocError> {
         let (file, number) = self.place(card);
-        let place = Place {
+        let place = CardPlace {
             card: (card > 0).then_some(number),
             column: None,
             length: 0,
@@ -117,10 +117,14 @@ impl Sources<'_> {
     }
 
     /// The file in which a card stands, and its place there; of card 0 the last deck as a whole.
-    pub fn message_place(&self, alloc: Global, card: u32) -> Result<(String, Place), AllocError> {
+    pub fn message_place(
+        &self,
+        alloc: Global,
+        card: u32,
+    ) -> Result<(String, CardPlace), AllocError> {
         let origin = self.origin(card);
         let (file, number) = self.place(origin);
-        let place = Place {
+        let place = CardPlace {
             card: (origin > 0).then_some(number),
             column: None,
             length: 0,

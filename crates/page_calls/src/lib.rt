@@ -24,7 +24,7 @@ use crate::pieces::run_in_pieces;
 use crate::putting::put;
 use crate::running::{exit_status, run};
 use deck_listing::{Style, list};
-use driver::{Refusal, Told, report};
+use driver::{FinalReport, Refusal, report};
 pub use given::GivenUnit;
 pub use hooks::{page_went, page_wrote};
 use model::Status;
@@ -47,7 +47,7 @@ pub struct Shown {
 }
 
 // What `sno` would write on standard error, and its exit status.
-fn lines_of(alloc: Global, told: &Told<'_>) -> (Vec<u8>, u8) {
+fn lines_of(alloc: Global, told: &FinalReport<'_>) -> (Vec<u8>, u8) {
     let mut lines = Vec::new(alloc);
     let status = report(told, &mut lines).unwrap_or(NOTHING_TOLD);
     (lines, status)
@@ -69,13 +69,13 @@ pub fn hand_run(
     match run(alloc, deck, input, steps) {
         Ok(run) => {
             let ran = run.ran;
-            let (lines, status) = lines_of(alloc, &Told::Ran(ran));
+            let (lines, status) = lines_of(alloc, &FinalReport::Ran(ran));
             shown.status = u64::from(exit_status(ran.status, status));
             shown.printed = put(&run.printed, printed);
             shown.told = put(&lines, told);
         }
         Err(refusal) => {
-            let (lines, status) = lines_of(alloc, &Told::Refused(refusal));
+            let (lines, status) = lines_of(alloc, &FinalReport::Refused(refusal));
             shown.status = u64::from(exit_status(Status::Running, status));
             shown.printed = put(b"", printed);
             shown.told = put(&lines, told);
@@ -101,11 +101,11 @@ pub fn watch_run(
     };
     let (lines, status, made) = match outcome {
         Ok(outcome) => {
-            let (lines, status) = lines_of(alloc, &Told::Ran(outcome.ran));
+            let (lines, status) = lines_of(alloc, &FinalReport::Ran(outcome.ran));
             (lines, status, outcome.made)
         }
         Err(refusal) => {
-            let (lines, status) = lines_of(alloc, &Told::Refused(refusal));
+            let (lines, status) = lines_of(alloc, &FinalReport::Refused(refusal));
             (lines, status, 0)
         }
     };

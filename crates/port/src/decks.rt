@@ -2,7 +2,7 @@
 
 use crate::cards::{COLUMNS, Cards, include_of};
 use crate::characters::{begins_with_word, cut_name, is_printable, without_blanks};
-use crate::notes::{Change, Note};
+use crate::notes::{Change, PortNote};
 use crate::texts::Text;
 use card_text::next_line;
 use std::alloc::{AllocError, Global};
@@ -13,7 +13,7 @@ use std::alloc::{AllocError, Global};
 pub struct Ported {
     pub deck: Vec<u8>,
     pub origins: Vec<u32>,
-    pub notes: Vec<Note>,
+    pub notes: Vec<PortNote>,
     pub files: Vec<u8>,
 }
 

@@ -18,4 +18,4 @@ mod units;
 
 pub use cards::include_of;
 pub use decks::{Ported, port};
-pub use notes::{Change, Note};
+pub use notes::{Change, PortNote};

@@ -53,7 +53,7 @@ impl Change {
 
 /// A change, and the first card of the old deck where it was made, from 1; 0 where it is of the deck as a whole.
 #[derive(Clone, Copy, Debug)]
-pub struct Note {
+pub struct PortNote {
     pub change: Change,
     pub card: u32,
 }
@@ -62,7 +62,7 @@ pub struct Note {
 #[derive(Drop)]
 pub(crate) struct Notes {
     card: u32,
-    notes: Vec<Note>,
+    notes: Vec<PortNote>,
 }
 
 impl Notes {
@@ -88,14 +88,14 @@ impl Notes {
         if self.notes.iter().any(|note| note.change == change) {
             return Ok(());
         }
-        self.notes.push(Note {
+        self.notes.push(PortNote {
             change,
             card: self.card,
         })?;
         Ok(())
     }
 
-    pub(crate) fn into_notes(self) -> Vec<Note> {
+    pub(crate) fn into_notes(self) -> Vec<PortNote> {
         self.notes
     }
 }

@@ -16,8 +16,8 @@ use Rattle.driver.specs.Lines.{lines_of}
 use Rattle.driver.specs.Upgraded.{IsUpgradeOf}
 use Rattle.driver.specs.declared.refusal.Refusal.{Refusal}
 use Rattle.driver.specs.declared.running.Ran.{Ran}
-use Rattle.driver.specs.declared.telling.Told.{Told}
-use Rattle.driver.specs.declared.telling.Told.TheVariants as told
+use Rattle.driver.specs.declared.telling.FinalReport.{FinalReport}
+use Rattle.driver.specs.declared.telling.FinalReport.TheVariants as told
 use Rattle.driver.specs.declared.words.Job.{Job}
 use Rattle.driver.specs.declared.words.Job.TheVariants as job
 
@@ -37,17 +37,17 @@ IsTaken bytes = (m : Image) × (read_image bytes ≡ Ok m) × IsLoaded m
 
 -- ---- what is reported
 
-abbrev pub told_of_run : Result Ran Told → Option Told
+abbrev pub told_of_run : Result Ran FinalReport → Option FinalReport
 told_of_run (Ok ran) = Some (told.Ran ran)
 told_of_run (Err t) = Some t
 
-abbrev pub told_of_work : Result (Unit {0}) Told → Option Told
+abbrev pub told_of_work : Result (Unit {0}) FinalReport → Option FinalReport
 told_of_work (Ok done) = None
 told_of_work (Err t) = Some t
 
 -- what is reported stands on standard error, of which these are the bytes before and after, and this is the exit status; 6 where
 -- standard error took no line
-abbrev pub IsReported : Option Told → (status : ℕ) → (before after : Option (List ℕ)) → Type 0
+abbrev pub IsReported : Option FinalReport → (status : ℕ) → (before after : Option (List ℕ)) → Type 0
 IsReported (Some t) status before after = ((status ≡ exit_of t) × IfSome (lines_of t) (Appends before after)) ⊎ (status ≡ 6)
 IsReported None status before after = (status ≡ 0) × (after ≡ before)
 
@@ -57,7 +57,7 @@ IsNamed None file = ⊥
 
 -- of a word that came to nothing: it was refused so, or the file with this name was not read, or that one not written, or
 -- memory was refused
-abbrev pub IsFailure : (refused : Refusal → Type 0) → (bad : LoadFault → Type 0) → (read written : Option (List ℕ)) → Told → Type 0
+abbrev pub IsFailure : (refused : Refusal → Type 0) → (bad : LoadFault → Type 0) → (read written : Option (List ℕ)) → FinalReport → Type 0
 IsFailure refused bad read written (told.Refused refusal) = refused refusal
 IsFailure refused bad read written (told.BadModule fault) = bad fault
 IsFailure refused bad read written (told.CannotRead file) = IsNamed read file.now
@@ -66,23 +66,23 @@ IsFailure refused bad read written told.NoMemory = Unit {0}
 IsFailure refused bad read written told.BadCommandLine = ⊥
 IsFailure refused bad read written (told.Ran ran) = ⊥
 
-abbrev pub IsNotDone : (read written : Option (List ℕ)) → Told → Type 0
+abbrev pub IsNotDone : (read written : Option (List ℕ)) → FinalReport → Type 0
 IsNotDone read written = IsFailure (λ _. ⊥) (λ _. ⊥) read written
 
 -- the deck that was read is refused by exactly its faults
-abbrev pub IsDeckFailure : (holds : List ℕ → Type 0) → (read written : Option (List ℕ)) → Told → Type 0
+abbrev pub IsDeckFailure : (holds : List ℕ → Type 0) → (read written : Option (List ℕ)) → FinalReport → Type 0
 IsDeckFailure holds read written = IsFailure (λ refusal. OfBytesIn holds (λ deck. IsRefusalOf deck refusal)) (λ _. ⊥) read written
 
 -- the module that was read is refused by its own fault
-abbrev pub IsModuleFailure : (holds : List ℕ → Type 0) → (read written : Option (List ℕ)) → Told → Type 0
+abbrev pub IsModuleFailure : (holds : List ℕ → Type 0) → (read written : Option (List ℕ)) → FinalReport → Type 0
 IsModuleFailure holds read written = IsFailure (λ _. ⊥) (λ fault. OfBytesIn holds (λ bytes. IsAnswer bytes (Err fault))) read written
 
 -- the same by the rules of version 1 of the format
-abbrev pub IsOldFailure : (holds : List ℕ → Type 0) → (read written : Option (List ℕ)) → Told → Type 0
+abbrev pub IsOldFailure : (holds : List ℕ → Type 0) → (read written : Option (List ℕ)) → FinalReport → Type 0
 IsOldFailure holds read written = IsFailure (λ _. ⊥) (λ fault. OfBytesIn holds (λ bytes. (fault ≡ no_memory) ⊎ LoadsIn versions.One bytes (Err fault))) read written
 
 -- P holds, unless a write failed, or memory was refused
-abbrev pub UnlessWriting : Told → Type 0 → Type 0
+abbrev pub UnlessWriting : FinalReport → Type 0 → Type 0
 UnlessWriting (told.CannotWrite file) P = Unit {0}
 UnlessWriting told.NoMemory P = Unit {0}
 UnlessWriting other P = P
@@ -90,13 +90,13 @@ UnlessWriting other P = P
 -- ---- all words
 
 -- of a word that leads to a run: what was read is accepted, or the word came to nothing
-abbrev pub OfRun : (accepted : Type 0) → (failed : Told → Type 0) → Option Told → Type 0
+abbrev pub OfRun : (accepted : Type 0) → (failed : FinalReport → Type 0) → Option FinalReport → Type 0
 OfRun accepted failed (Some (told.Ran ran)) = accepted
 OfRun accepted failed (Some t) = failed t
 OfRun accepted failed None = ⊥
 
 -- of another word: its work is done and nothing is reported, or the word came to nothing
-abbrev pub OfWork : (done : Type 0) → (failed : Told → Type 0) → Option Told → Type 0
+abbrev pub OfWork : (done : Type 0) → (failed : FinalReport → Type 0) → Option FinalReport → Type 0
 OfWork done failed None = done
 OfWork done failed (Some t) = failed t
 
@@ -106,7 +106,7 @@ module _ {F : Type 0} (holds : F → List ℕ → List ℕ → Type 0) (input : 
   abbrev pub HasWritten : (old new : F) → List ℕ → (List ℕ → Type 0) → Type 0
   HasWritten old new name P = (bytes : List ℕ) × P bytes × writes old new name bytes
 
-  abbrev pub HasDone : Job → (old new : F) → Option Told → Type 0
+  abbrev pub HasDone : Job → (old new : F) → Option FinalReport → Type 0
   HasDone (job.CompileAndRun steps) old new t = OfRun (OfBytesIn (input old) IsAccepted) (IsDeckFailure (input old) (Some (codes "standard input")) None) t
   HasDone (job.Go deck steps files) old new t = OfRun (OfBytesIn (holds old deck.now) IsAccepted) (IsDeckFailure (holds old deck.now) (Some deck.now) None) t
   HasDone (job.Run module' steps files) old new t = OfRun (OfBytesIn (holds old module'.now) IsTaken) (IsModuleFailure (holds old module'.now) (Some module'.now) None) t

@@ -3,7 +3,7 @@
 ghost use Rattle.std.specs.Prelude.{None, Some, codes, IfErr, IfOk, OnOk};
 ghost use Rattle.program.specs.Words.{IsNotDone};
 
-use driver::Told;
+use driver::FinalReport;
 use std::fs::{self, Files, OpenFile, OpenOptions, Permissions};
 use std::io::{self, ErrorKind, Input, Read, Write};
 use std::path::{Path, PathBuf};
@@ -75,17 +75,17 @@ impl<R: Files + Input + AllocGlobal> WholeFiles for SystemFiles<'_, R> {
 }
 
 /// Why a file was not read.
-fn not_read<'a>(error: &io::Error, file: &'a str) -> Told<'a>
+fn not_read<'a>(error: &io::Error, file: &'a str) -> FinalReport<'a>
     ensures { IsNotDone (Some file.now) None result }
 {
     match error.kind() {
-        ErrorKind::OutOfMemory => Told::NoMemory,
-        _ => Told::CannotRead(file),
+        ErrorKind::OutOfMemory => FinalReport::NoMemory,
+        _ => FinalReport::CannotRead(file),
     }
 }
 
 /// All of standard input.
-pub(crate) fn read_input<F: WholeFiles>(files: &F) -> Result<Vec<u8>, Told<'static>>
+pub(crate) fn read_input<F: WholeFiles>(files: &F) -> Result<Vec<u8>, FinalReport<'static>>
     ensures read { IfOk result (λ bytes. F.input_holds files.now bytes.items) }
     ensures err { IfErr result (IsNotDone (Some (codes "standard input")) None) }
 {
@@ -96,7 +96,10 @@ pub(crate) fn read_input<F: WholeFiles>(files: &F) -> Result<Vec<u8>, Told<'stat
 }
 
 /// All of a file.
-pub(crate) fn read_file<'a, F: WholeFiles>(files: &F, file: &'a str) -> Result<Vec<u8>, Told<'a>>
+pub(crate) fn read_file<'a, F: WholeFiles>(
+    files: &F,
+    file: &'a str,
+) -> Result<Vec<u8>, FinalReport<'a>>
     ensures read { IfOk result (λ bytes. F.holds files.now file.now bytes.items) }
     ensures err { IfErr result (IsNotDone (Some file.now) None) }
 {
@@ -192,15 +195,15 @@ pub(crate) fn write_file<'a, F: WholeFiles>(
     files: &mut F,
     file: &'a str,
     bytes: &[u8],
-) -> Result<(), Told<'a>>
+) -> Result<(), FinalReport<'a>>
     ensures written { OnOk result (F.writes files.old files.new file.now bytes.now) }
     ensures err { IfErr result (IsNotDone None (Some file.now)) }
 {
     match files.write_whole(file, bytes) {
         Ok(()) => Ok(()),
         Err(error) => match error.kind() {
-            ErrorKind::OutOfMemory => Err(Told::NoMemory),
-            _ => Err(Told::CannotWrite(file)),
+            ErrorKind::OutOfMemory => Err(FinalReport::NoMemory),
+            _ => Err(FinalReport::CannotWrite(file)),
         },
     }
 }

@@ -15,7 +15,7 @@ ghost use Rattle.program.specs.Words.{HasDone, HasWritten, IsAccepted, IsDeckFai
 use crate::files::{WholeFiles, read_file, read_input, write_file};
 use crate::system::RunSystem;
 use driver::{
-    Job, Ran, ShowFault, Told, UnitFile, check_module, compile_deck, run_deck_on_files,
+    FinalReport, Job, Ran, ShowFault, UnitFile, check_module, compile_deck, run_deck_on_files,
     run_module_on_files, show, upgrade,
 };
 use std::alloc::Global;
@@ -27,12 +27,12 @@ use unit_io::{FileUnits, UnitSystem};
 pub fn system_of<'a, R: Files + AllocGlobal>(
     rt: &'a R,
     files: &[UnitFile<'_>],
-) -> Result<RunSystem<'a, R>, Told<'static>>
-    ensures { IfErr result (λ told. told ≡ Told.NoMemory) }
+) -> Result<RunSystem<'a, R>, FinalReport<'static>>
+    ensures { IfErr result (λ told. told ≡ FinalReport.NoMemory) }
 {
     match RunSystem::new(rt, files) {
         Ok(system) => Ok(system),
-        Err(_) => Err(Told::NoMemory),
+        Err(_) => Err(FinalReport::NoMemory),
     }
 }
 
@@ -41,17 +41,17 @@ pub fn units_of<'a, 'f: 'a, S: UnitSystem>(
     alloc: Global,
     system: &'a S,
     files: &[UnitFile<'f>],
-) -> Result<FileUnits<'a, S>, Told<'static>>
+) -> Result<FileUnits<'a, S>, FinalReport<'static>>
     ensures fresh { IfOk result
         (AreFresh S.exposes S.input_bytes S.source_bytes system.now files.now) }
-    ensures memory { IfErr result (λ told. told ≡ Told.NoMemory) }
+    ensures memory { IfErr result (λ told. told ≡ FinalReport.NoMemory) }
 {
     let Ok(mut units) = FileUnits::new(alloc, system) else {
-        return Err(Told::NoMemory);
+        return Err(FinalReport::NoMemory);
     };
     'files: for given in files {
         if units.give(given.unit, given.file).is_err() {
-            return Err(Told::NoMemory);
+            return Err(FinalReport::NoMemory);
         }
     }
     Ok(units)
@@ -72,7 +72,7 @@ fn run_on<'a, 'f: 'a, S: UnitSystem>(
     bytes: &[u8],
     steps: u64,
     files: &[UnitFile<'f>],
-) -> Result<RunOnUnits<'a, S>, Told<'static>>
+) -> Result<RunOnUnits<'a, S>, FinalReport<'static>>
     // In bytes, of a module that compile_deck wrote: the run writes what its deck means.
     ensures meaning { IfOk result (λ done. (deck : List ℕ) → IsModuleOf deck bytes.now
         → (fresh : FilesView S) × AreFresh S.exposes S.input_bytes S.source_bytes system.now files.now fresh
@@ -86,7 +86,7 @@ fn run_on<'a, 'f: 'a, S: UnitSystem>(
     let mut units = units_of(alloc, system, files)?;
     match run_module_on_files(alloc, bytes, &mut units, steps) {
         Ok(ran) => Ok(RunOnUnits { ran, units }),
-        Err(fault) => Err(Told::BadModule(fault)),
+        Err(fault) => Err(FinalReport::BadModule(fault)),
     }
 }
 
@@ -98,7 +98,7 @@ fn run_deck_on<'a, 'f: 'a, S: UnitSystem>(
     deck: &[u8],
     steps: u64,
     files: &[UnitFile<'f>],
-) -> Result<RunOnUnits<'a, S>, Told<'static>>
+) -> Result<RunOnUnits<'a, S>, FinalReport<'static>>
     // In the deck's own words, and in bytes: the deck has no fault, and the run writes what it means.
     ensures meaning { IfOk result (λ done.
         (fresh : FilesView S) × AreFresh S.exposes S.input_bytes S.source_bytes system.now files.now fresh
@@ -112,7 +112,7 @@ fn run_deck_on<'a, 'f: 'a, S: UnitSystem>(
     let mut units = units_of(alloc, system, files)?;
     match run_deck_on_files(alloc, deck, &mut units, steps) {
         Ok(ran) => Ok(RunOnUnits { ran, units }),
-        Err(refusal) => Err(Told::Refused(refusal)),
+        Err(refusal) => Err(FinalReport::Refused(refusal)),
     }
 }
 
@@ -123,7 +123,7 @@ fn run<R: Files + Input + Print + AllocGlobal>(
     bytes: &[u8],
     steps: u64,
     files: &[UnitFile<'_>],
-) -> Result<Ran, Told<'static>>
+) -> Result<Ran, FinalReport<'static>>
     ensures accepted { OnOk result (IsTaken bytes.now) }
     ensures refused { IfErr result
         (IsFailure (λ _. ⊥) (λ fault. IsAnswer bytes.now (Err fault)) None None) }
@@ -140,7 +140,7 @@ fn compile_and_run<R: Files + Input + Print + AllocGlobal>(
     deck: &[u8],
     steps: u64,
     files: &[UnitFile<'_>],
-) -> Result<Ran, Told<'static>>
+) -> Result<Ran, FinalReport<'static>>
     // A deck that is run has no fault; one that is refused is refused by exactly its faults.
     ensures accepted { OnOk result (IsAccepted deck.now) }
     ensures refused { IfErr result
@@ -156,7 +156,7 @@ fn run_input<R: Files + Input + Print + AllocGlobal, F: WholeFiles>(
     rt: &R,
     whole: &F,
     steps: u64,
-) -> Result<Ran, Told<'static>>
+) -> Result<Ran, FinalReport<'static>>
     ensures accepted { OnOk result (OfBytesIn (F.input_holds whole.now) IsAccepted) }
     ensures failure { IfErr result
         (IsDeckFailure (F.input_holds whole.now) (Some (codes "standard input")) None) }
@@ -172,7 +172,7 @@ fn run_deck_file<'a, R: Files + Input + Print + AllocGlobal, F: WholeFiles>(
     deck: &'a str,
     steps: u64,
     files: &[UnitFile<'_>],
-) -> Result<Ran, Told<'a>>
+) -> Result<Ran, FinalReport<'a>>
     ensures accepted { OnOk result (OfBytesIn (F.holds whole.now deck.now) IsAccepted) }
     ensures failure { IfErr result
         (IsDeckFailure (F.holds whole.now deck.now) (Some deck.now) None) }
@@ -187,7 +187,7 @@ fn compile<'a, F: WholeFiles>(
     whole: &mut F,
     deck: &'a str,
     file: &'a str,
-) -> Result<(), Told<'a>>
+) -> Result<(), FinalReport<'a>>
     // The module of the deck that the one file holds is written to the other.
     ensures written { OnOk result (OfBytesIn (F.holds whole.old deck.now) (λ text.
         HasWritten F.holds F.input_holds F.writes whole.old whole.new file.now (IsModuleOf text))) }
@@ -198,7 +198,7 @@ fn compile<'a, F: WholeFiles>(
     let text = read_file(whole, deck)?;
     match compile_deck(alloc, &text) {
         Ok(spelling) => write_file(whole, file, &spelling),
-        Err(refusal) => Err(Told::Refused(refusal)),
+        Err(refusal) => Err(FinalReport::Refused(refusal)),
     }
 }
 
@@ -208,7 +208,7 @@ fn upgrade_file<'a, F: WholeFiles>(
     whole: &mut F,
     old: &'a str,
     new: &'a str,
-) -> Result<(), Told<'a>>
+) -> Result<(), FinalReport<'a>>
     // The module that the one file holds is written to the other in version 2.
     ensures written { OnOk result (OfBytesIn (F.holds whole.old old.now) (λ older.
         HasWritten F.holds F.input_holds F.writes whole.old whole.new new.now (IsUpgradeOf older))) }
@@ -219,17 +219,17 @@ fn upgrade_file<'a, F: WholeFiles>(
     let bytes = read_file(whole, old)?;
     match upgrade(alloc, &bytes) {
         Ok(newer) => write_file(whole, new, &newer),
-        Err(fault) => Err(Told::BadModule(fault)),
+        Err(fault) => Err(FinalReport::BadModule(fault)),
     }
 }
 
-fn print_ok<R: Print>(rt: &R) -> Result<(), Told<'static>>
+fn print_ok<R: Print>(rt: &R) -> Result<(), FinalReport<'static>>
     ensures { IfErr result
         (IsNotDone None (Some (codes "standard output"))) }
 {
     match println!(rt; "ok") {
         Ok(()) => Ok(()),
-        Err(_) => Err(Told::CannotWrite("standard output")),
+        Err(_) => Err(FinalReport::CannotWrite("standard output")),
     }
 }
 
@@ -238,7 +238,7 @@ fn check<'a, R: Print + AllocGlobal, F: WholeFiles>(
     rt: &R,
     whole: &F,
     file: &'a str,
-) -> Result<(), Told<'a>>
+) -> Result<(), FinalReport<'a>>
     ensures accepted { OnOk result (OfBytesIn (F.holds whole.now file.now) IsTaken) }
     ensures failure { IfErr result (IsModuleFailure
         (F.holds whole.now file.now) (Some file.now) (Some (codes "standard output"))) }
@@ -246,7 +246,7 @@ fn check<'a, R: Print + AllocGlobal, F: WholeFiles>(
     let bytes = read_file(whole, file)?;
     match check_module(rt.alloc(), &bytes) {
         Ok(()) => print_ok(rt),
-        Err(fault) => Err(Told::BadModule(fault)),
+        Err(fault) => Err(FinalReport::BadModule(fault)),
     }
 }
 
@@ -255,23 +255,23 @@ fn show_module<'a, R: Print + AllocGlobal, F: WholeFiles>(
     rt: &R,
     whole: &F,
     file: &'a str,
-) -> Result<(), Told<'a>>
+) -> Result<(), FinalReport<'a>>
     ensures accepted { OnOk result (OfBytesIn (F.holds whole.now file.now) IsTaken) }
     ensures failure { IfErr result (IsModuleFailure
         (F.holds whole.now file.now) (Some file.now) (Some (codes "standard output"))) }
 {
     let bytes = read_file(whole, file)?;
     let Ok(mut out) = BufWriter::new(rt.alloc(), io::writer(rt)) else {
-        return Err(Told::NoMemory);
+        return Err(FinalReport::NoMemory);
     };
     match show(rt.alloc(), &bytes, &mut out) {
         Ok(()) => (),
-        Err(ShowFault::Module(fault)) => return Err(Told::BadModule(fault)),
-        Err(ShowFault::Write(_)) => return Err(Told::CannotWrite("standard output")),
+        Err(ShowFault::Module(fault)) => return Err(FinalReport::BadModule(fault)),
+        Err(ShowFault::Write(_)) => return Err(FinalReport::CannotWrite("standard output")),
     }
     match out.flush() {
         Ok(()) => Ok(()),
-        Err(_) => Err(Told::CannotWrite("standard output")),
+        Err(_) => Err(FinalReport::CannotWrite("standard output")),
     }
 }
 
@@ -282,7 +282,7 @@ fn run_file<'a, R: Files + Input + Print + AllocGlobal, F: WholeFiles>(
     file: &'a str,
     steps: u64,
     files: &[UnitFile<'_>],
-) -> Result<Ran, Told<'a>>
+) -> Result<Ran, FinalReport<'a>>
     ensures accepted { OnOk result (OfBytesIn (F.holds whole.now file.now) IsTaken) }
     ensures failure { IfErr result
         (IsModuleFailure (F.holds whole.now file.now) (Some file.now) None) }
@@ -292,17 +292,17 @@ fn run_file<'a, R: Files + Input + Print + AllocGlobal, F: WholeFiles>(
 }
 
 /// What is reported of a job that leads to a run, or fails.
-fn told_of<'a>(done: Result<Ran, Told<'a>>) -> Option<Told<'a>>
+fn told_of<'a>(done: Result<Ran, FinalReport<'a>>) -> Option<FinalReport<'a>>
     ensures { result ≡ told_of_run done.entry }
 {
     match done {
-        Ok(ran) => Some(Told::Ran(ran)),
+        Ok(ran) => Some(FinalReport::Ran(ran)),
         Err(told) => Some(told),
     }
 }
 
 /// What is reported of work that leads to no run.
-fn failure_of<'a>(done: Result<(), Told<'a>>) -> Option<Told<'a>>
+fn failure_of<'a>(done: Result<(), FinalReport<'a>>) -> Option<FinalReport<'a>>
     ensures { result ≡ told_of_work done.entry }
 {
     match done {
@@ -317,7 +317,7 @@ pub(crate) fn perform<'a, R: Files + Input + Print + AllocGlobal, F: WholeFiles>
     rt: &R,
     whole: &mut F,
     job: Job<'a>,
-) -> Option<Told<'a>>
+) -> Option<FinalReport<'a>>
     ensures exit { IsOneOf (exit_of_outcome result) (exits_of job.entry) }
     // What the word was to do is done, or what is told says why it is not.
     ensures done { HasDone F.holds F.input_holds F.writes job.entry whole.old whole.new result }

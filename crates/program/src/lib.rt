@@ -15,7 +15,7 @@
 
 ghost use Rattle.std.specs.Prelude.{Option, Some};
 ghost use Rattle.std.specs.Process.{exit_status};
-ghost use Rattle.driver.specs.declared.telling.Told.{Told as AnyTold};
+ghost use Rattle.driver.specs.declared.telling.FinalReport.{FinalReport as AnyTold};
 ghost use Rattle.program.specs.Words.{IsReported};
 
 mod files;
@@ -25,7 +25,7 @@ mod system;
 
 use crate::files::SystemFiles;
 use crate::jobs::perform;
-use driver::{Told, read_words, report};
+use driver::{FinalReport, read_words, report};
 pub use files::write_whole;
 pub use jobs::{system_of, units_of};
 use std::alloc::AllocError;
@@ -41,16 +41,16 @@ pub use system::RunSystem;
 const NOTHING_TOLD: u8 = 6;
 
 /// The words after the program's name. One that isn't UTF-8 makes the command line a bad one.
-fn read_arguments<R: Env + AllocGlobal>(rt: &R) -> Result<Vec<String>, Told<'static>> {
+fn read_arguments<R: Env + AllocGlobal>(rt: &R) -> Result<Vec<String>, FinalReport<'static>> {
     let arguments = match env::args(rt) {
         Ok(arguments) => arguments,
-        Err(error) if error.kind() == ErrorKind::OutOfMemory => return Err(Told::NoMemory),
-        Err(_) => return Err(Told::BadCommandLine),
+        Err(error) if error.kind() == ErrorKind::OutOfMemory => return Err(FinalReport::NoMemory),
+        Err(_) => return Err(FinalReport::BadCommandLine),
     };
     let mut words = Vec::new(rt.alloc());
     for argument in arguments.skip(1) {
         if words.push(argument).is_err() {
-            return Err(Told::NoMemory);
+            return Err(FinalReport::NoMemory);
         }
     }
     Ok(words)
@@ -70,7 +70,7 @@ fn borrowed<'a, R: AllocGlobal>(
 fn answer<'a, R: Files + Input + Print + AllocGlobal>(
     rt: &R,
     words: &'a [&'a str],
-) -> Option<Told<'a>> {
+) -> Option<FinalReport<'a>> {
     let mut whole = SystemFiles::new(rt);
     match read_words(rt.alloc(), words) {
         Ok(job) => perform(rt, &mut whole, job),
@@ -79,7 +79,7 @@ fn answer<'a, R: Files + Input + Print + AllocGlobal>(
 }
 
 /// Reports it, and returns the exit status, which is `NOTHING_TOLD` where standard error took no line.
-fn tell<W: Write>(told: &Told<'_>, errors: &mut W) -> ExitCode
+fn tell<W: Write>(told: &FinalReport<'_>, errors: &mut W) -> ExitCode
     ensures { IsReported (Some told.now) (exit_status result) (W.contents errors.old) (W.contents errors.new) }
 {
     match report(told, errors) {
@@ -89,16 +89,16 @@ fn tell<W: Write>(told: &Told<'_>, errors: &mut W) -> ExitCode
 }
 
 /// What is reported where the number of a standard stream can't be held.
-fn not_held(stream: Stream) -> Told<'static> {
+fn not_held(stream: Stream) -> FinalReport<'static> {
     match stream {
-        Stream::Input => Told::CannotRead("standard input"),
-        Stream::Output => Told::CannotWrite("standard output"),
-        Stream::Error => Told::CannotWrite("standard error"),
+        Stream::Input => FinalReport::CannotRead("standard input"),
+        Stream::Output => FinalReport::CannotWrite("standard output"),
+        Stream::Error => FinalReport::CannotWrite("standard error"),
     }
 }
 
 /// Reports what is to be reported, if anything, and returns the exit status.
-fn finish<W: Write>(outcome: Option<Told<'_>>, errors: &mut W) -> ExitCode
+fn finish<W: Write>(outcome: Option<FinalReport<'_>>, errors: &mut W) -> ExitCode
     ensures { IsReported outcome.entry (exit_status result) (W.contents errors.old) (W.contents errors.new) }
 {
     match outcome {
@@ -118,7 +118,7 @@ fn perform_words<R: Env + Files + Input + Print + AllocGlobal, W: Write>(
         Err(told) => return tell(&told, errors),
     };
     let Ok(words) = borrowed(rt, &arguments) else {
-        return tell(&Told::NoMemory, errors);
+        return tell(&FinalReport::NoMemory, errors);
     };
     finish(answer(rt, &words), errors)
 }

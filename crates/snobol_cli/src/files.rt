@@ -1,6 +1,6 @@
 //! Files, and why they can't be read or written.
 
-use driver::{Told, UnitFile};
+use driver::{FinalReport, UnitFile};
 use messages::Sources;
 use program::write_whole;
 use std::fs::{self, Files, OpenOptions};
@@ -12,21 +12,21 @@ const STANDARD_INPUT: &str = "-";
 /// What is reported at the end, and the system's reason, if there is one.
 #[derive(Debug, Drop)]
 pub(crate) struct Outcome<'a> {
-    pub(crate) told: Told<'a>,
+    pub(crate) told: FinalReport<'a>,
     pub(crate) reason: Option<io::Error>,
 }
 
-impl<'a> From<Told<'a>> for Outcome<'a> {
-    fn from(told: Told<'a>) -> Self {
+impl<'a> From<FinalReport<'a>> for Outcome<'a> {
+    fn from(told: FinalReport<'a>) -> Self {
         Outcome { told, reason: None }
     }
 }
 
 fn not_read<'a>(error: io::Error, file: &'a str) -> Outcome<'a> {
     match error.kind() {
-        ErrorKind::OutOfMemory => Outcome::from(Told::NoMemory),
+        ErrorKind::OutOfMemory => Outcome::from(FinalReport::NoMemory),
         _ => Outcome {
-            told: Told::CannotRead(file),
+            told: FinalReport::CannotRead(file),
             reason: Some(error),
         },
     }
@@ -34,9 +34,9 @@ fn not_read<'a>(error: io::Error, file: &'a str) -> Outcome<'a> {
 
 pub(crate) fn not_written<'a>(error: io::Error, file: &'a str) -> Outcome<'a> {
     match error.kind() {
-        ErrorKind::OutOfMemory => Outcome::from(Told::NoMemory),
+        ErrorKind::OutOfMemory => Outcome::from(FinalReport::NoMemory),
         _ => Outcome {
-            told: Told::CannotWrite(file),
+            told: FinalReport::CannotWrite(file),
             reason: Some(error),
         },
     }
@@ -69,7 +69,7 @@ pub(crate) fn read_decks<'a, R: Files + Input + AllocGlobal>(
     for deck in decks.iter().copied() {
         let bytes = read_file(rt, deck)?;
         if sources.add(deck, &bytes).is_err() {
-            return Err(Outcome::from(Told::NoMemory));
+            return Err(Outcome::from(FinalReport::NoMemory));
         }
     }
     Ok(sources)

@@ -5,7 +5,7 @@ use crate::reporting::{no_memory, report_alone};
 use crate::statuses::FAILED;
 use card_text::next_line;
 use codes::{Topic, topic_code};
-use driver::{Told, report};
+use driver::{FinalReport, report};
 use messages::{Form, Message, Sources, write_messages};
 use port::include_of;
 use std::alloc::{AllocError, Global};
@@ -250,7 +250,7 @@ fn report_missing<W: Write>(
     errors: &mut W,
 ) -> u8 {
     if form == Form::Codes {
-        return report(&Told::CannotRead(name), errors).unwrap_or(FAILED);
+        return report(&FinalReport::CannotRead(name), errors).unwrap_or(FAILED);
     }
     if let Ok(message) = missing_message(alloc, sources, card, name, reason) {
         let _ = write_messages(alloc, form, &[message], sources.bytes(), errors);

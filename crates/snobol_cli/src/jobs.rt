@@ -9,9 +9,9 @@ use crate::running::{Asked, run_decks};
 use crate::showing::{show_module, show_with_cards};
 use crate::statuses::{BAD_WORDS, DONE, FAILED};
 use codes::{Code, code_named};
-use driver::{Told, compile_deck};
+use driver::{FinalReport, compile_deck};
 use messages::Form;
-use snobol_words::Job;
+use snobol_words::Request;
 use std::env::Env;
 use std::fs::Files;
 use std::io::{self, Input, IsTerminal, Print, Write};
@@ -60,7 +60,7 @@ fn compile<R: Env + Files + Input + AllocGlobal, W: Write>(
             Err(outcome) => report_alone(alloc, form, &outcome, module, errors),
         },
         Err(refusal) => {
-            let outcome = Outcome::from(Told::Refused(refusal));
+            let outcome = Outcome::from(FinalReport::Refused(refusal));
             report_outcome(alloc, form, &outcome, &sources, &[], module, errors)
         }
     }
@@ -69,11 +69,11 @@ fn compile<R: Env + Files + Input + AllocGlobal, W: Write>(
 /// Does what it is asked to do, writes messages to `errors`, and returns the exit status.
 pub(crate) fn perform<R: Env + Files + Input + Print + AllocGlobal, W: Write + IsTerminal>(
     rt: &R,
-    job: Job<'_>,
+    job: Request<'_>,
     errors: &mut W,
 ) -> u8 {
     match job {
-        Job::Run {
+        Request::Run {
             given,
             records,
             steps,
@@ -90,11 +90,11 @@ pub(crate) fn perform<R: Env + Files + Input + Print + AllocGlobal, W: Write + I
             };
             run_decks(rt, &given, asked, errors)
         }
-        Job::Check { decks, reporting } => {
+        Request::Check { decks, reporting } => {
             let how = how_for(rt, reporting, &*errors);
             check(rt, &decks, how, errors)
         }
-        Job::List {
+        Request::List {
             decks,
             has_code,
             reporting,
@@ -102,16 +102,16 @@ pub(crate) fn perform<R: Env + Files + Input + Print + AllocGlobal, W: Write + I
             let how = how_for(rt, reporting, &*errors);
             list_decks(rt, &decks, has_code, how, errors)
         }
-        Job::Explain { code } => explain(rt, code, errors),
-        Job::Compile { deck, module, form } => {
+        Request::Explain { code } => explain(rt, code, errors),
+        Request::Compile { deck, module, form } => {
             let form = form_for(rt, form, &*errors);
             compile(rt, deck, module, form, errors)
         }
-        Job::Port { deck, folds, form } => {
+        Request::Port { deck, folds, form } => {
             let form = form_for(rt, form, &*errors);
             port_deck(rt, deck, folds, form, errors)
         }
-        Job::Show {
+        Request::Show {
             module,
             source,
             form,

@@ -5,7 +5,7 @@ use crate::included::read_whole;
 use crate::reporting::{form_for, no_memory, report_outcome, unwritten};
 use crate::statuses::{DONE, FAILED, REFUSED};
 use deck_listing::{Trouble, list};
-use driver::{Refusal, Told, compile_deck};
+use driver::{FinalReport, Refusal, compile_deck};
 use listing::output_style;
 use messages::{Form, Severity, Sources, write_messages};
 use model::StmtFault;
@@ -64,14 +64,14 @@ fn report_refusal<W: Write>(
     how: How,
     errors: &mut W,
 ) -> u8 {
-    let outcome = Outcome::from(Told::Refused(refusal));
+    let outcome = Outcome::from(FinalReport::Refused(refusal));
     let status = if is_listed {
         REFUSED
     } else {
         report_outcome(alloc, how.form, &outcome, sources, &[], "", errors)
     };
     match &outcome.told {
-        Told::Refused(Refusal::Statements(faults)) => {
+        FinalReport::Refused(Refusal::Statements(faults)) => {
             warn(alloc, sources, faults.as_slice(), how, status, errors)
         }
         _ => status,

@@ -5,9 +5,9 @@ use crate::included::read_whole;
 use crate::reporting::{no_memory, report_outcome, unwritten};
 use crate::statuses::{DONE, FAILED};
 use codes::{Topic, topic_code};
-use driver::{Refusal, Told, compile_deck};
+use driver::{FinalReport, Refusal, compile_deck};
 use messages::{Form, Message, Severity, Sources, write_messages};
-use port::{Change, Note, port};
+use port::{Change, PortNote, port};
 use std::alloc::{AllocError, Global};
 use std::env::Env;
 use std::fs::Files;
@@ -19,7 +19,7 @@ use std::io::{Input, Print, Write};
 pub(crate) struct Written {
     deck: Vec<u8>,
     origins: Vec<u32>,
-    notes: Vec<Note>,
+    notes: Vec<PortNote>,
     files: String,
 }
 
@@ -49,7 +49,7 @@ pub(crate) fn written_anew(
     }
     let mut notes = Vec::new(alloc);
     for note in ported.notes.iter().copied() {
-        notes.push(Note {
+        notes.push(PortNote {
             change: note.change,
             card: sources.origin(note.card),
         })?;
@@ -65,7 +65,7 @@ pub(crate) fn written_anew(
 /// What was changed, and the words that give units the files which the decks named.
 #[derive(Drop)]
 struct Made {
-    notes: Vec<Note>,
+    notes: Vec<PortNote>,
     files: String,
 }
 
@@ -129,7 +129,7 @@ fn report_faults<W: Write>(alloc: Global, form: Form, sources: &Sources<'_>, err
     match compile_deck(alloc, sources.bytes()) {
         Ok(_) => DONE,
         Err(refusal) => {
-            let outcome = Outcome::from(Told::Refused(refusal));
+            let outcome = Outcome::from(FinalReport::Refused(refusal));
             report_outcome(alloc, form, &outcome, sources, &[], "", errors)
         }
     }
@@ -163,10 +163,10 @@ pub(crate) fn port_deck<R: Env + Files + Input + Print + AllocGlobal, W: Write>(
 }
 
 /// Whether a deck is refused for what may be written anew.
-pub(crate) fn is_foreign(told: &Told<'_>) -> bool {
+pub(crate) fn is_foreign(told: &FinalReport<'_>) -> bool {
     matches!(
         told,
-        Told::Refused(Refusal::Card(_) | Refusal::Statements(_))
+        FinalReport::Refused(Refusal::Card(_) | Refusal::Statements(_))
     )
 }
 
@@ -189,14 +189,14 @@ pub(crate) fn use_written<W: Write>(
     written: Written,
     form: Form,
     errors: &mut W,
-) -> Result<(), Told<'static>> {
+) -> Result<(), FinalReport<'static>> {
     let _ = put_written(sources, written);
     let text = topic_code(Topic::Ported).text;
     let Ok(message) = ported_message(alloc, sources, 0, text) else {
-        return Err(Told::NoMemory);
+        return Err(FinalReport::NoMemory);
     };
     match write_messages(alloc, form, &[message], &[], errors) {
         Ok(()) => Ok(()),
-        Err(_) => Err(Told::CannotWrite("standard error")),
+        Err(_) => Err(FinalReport::CannotWrite("standard error")),
     }
 }

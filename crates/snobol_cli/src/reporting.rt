@@ -3,7 +3,7 @@
 use crate::files::{Outcome, is_output_piped};
 use crate::statuses::{BAD_MODULE, BAD_WORDS, FAILED, REFUSED, status_of};
 use codes::Topic;
-use driver::{Refusal, Told, UnitFile, report};
+use driver::{FinalReport, Refusal, UnitFile, report};
 use fault_messages::{of_file, of_memory, of_module, of_refusal, of_run};
 use listing::columns;
 use messages::{Form, Message, Sources, write_messages};
@@ -34,12 +34,15 @@ fn messages_of(
 ) -> Result<Vec<Message>, AllocError> {
     let reason = outcome.reason.as_ref();
     let message = match &outcome.told {
-        Told::Refused(refusal) => return of_refusal(alloc, sources, refusal),
-        Told::BadModule(fault) => Some(of_module(alloc, module, *fault)?),
-        Told::Ran(ran) => of_run(alloc, sources, *ran, files, reason)?,
-        Told::CannotRead(file) => Some(of_file(alloc, file, Topic::CannotRead, reason)?),
-        Told::CannotWrite(file) => Some(of_file(alloc, file, Topic::CannotWrite, reason)?),
-        Told::NoMemory | Told::BadCommandLine => Some(of_memory(alloc, sources.last_name())?),
+        FinalReport::Refused(refusal) => return of_refusal(alloc, sources, refusal),
+        FinalReport::BadModule(fault) => Some(of_module(alloc, module, *fault)?),
+        FinalReport::Ran(ran) => of_run(alloc, sources, *ran, files, reason)?,
+        FinalReport::CannotRead(file) => Some(of_file(alloc, file, Topic::CannotRead, reason)?),
+        FinalReport::CannotWrite(file) => Some(of_file(alloc, file, Topic::CannotWrite, reason)?),
+        FinalReport::NoMemory | FinalReport::BadCommandLine => Some(of_memory(
+            alloc,
+            sources.last_name(),
+        )?),
     };
     let mut messages = Vec::new(alloc);
     if let Some(message) = message {
@@ -49,12 +52,12 @@ fn messages_of(
 }
 
 // The exit status of what is reported.
-fn exit_status(told: &Told<'_>) -> u8 {
+fn exit_status(told: &FinalReport<'_>) -> u8 {
     match told {
-        Told::BadCommandLine => BAD_WORDS,
-        Told::Refused(Refusal::Memory) => FAILED,
-        Told::Refused(_) => REFUSED,
-        Told::BadModule(
+        FinalReport::BadCommandLine => BAD_WORDS,
+        FinalReport::Refused(Refusal::Memory) => FAILED,
+        FinalReport::Refused(_) => REFUSED,
+        FinalReport::BadModule(
             LoadFault::Format(
                 FormatFault {
                     rule: FormatRule::Memory,
@@ -62,9 +65,9 @@ fn exit_status(told: &Told<'_>) -> u8 {
                 },
             ),
         ) => FAILED,
-        Told::BadModule(_) => BAD_MODULE,
-        Told::Ran(ran) => status_of(ran.status),
-        Told::CannotRead(_) | Told::CannotWrite(_) | Told::NoMemory => FAILED,
+        FinalReport::BadModule(_) => BAD_MODULE,
+        FinalReport::Ran(ran) => status_of(ran.status),
+        FinalReport::CannotRead(_) | FinalReport::CannotWrite(_) | FinalReport::NoMemory => FAILED,
     }
 }
 
@@ -82,7 +85,7 @@ pub(crate) fn report_outcome<W: Write>(
         return report(&outcome.told, errors).unwrap_or(FAILED);
     }
     let Ok(messages) = messages_of(alloc, outcome, sources, files, module) else {
-        return report(&Told::NoMemory, errors).unwrap_or(FAILED);
+        return report(&FinalReport::NoMemory, errors).unwrap_or(FAILED);
     };
     match write_messages(alloc, form, &messages, sources.bytes(), errors) {
         Ok(()) => exit_status(&outcome.told),
@@ -112,13 +115,13 @@ pub(crate) fn unwritten<R: Files + AllocGlobal, W: Write>(
         return FAILED;
     }
     let alloc = rt.alloc();
-    let outcome = Outcome::from(Told::CannotWrite("standard output"));
+    let outcome = Outcome::from(FinalReport::CannotWrite("standard output"));
     report_alone(alloc, form, &outcome, "", errors)
 }
 
 /// What is reported where memory was refused.
 pub(crate) fn no_memory<R: AllocGlobal, W: Write>(rt: &R, form: Form, errors: &mut W) -> u8 {
     let alloc = rt.alloc();
-    let outcome = Outcome::from(Told::NoMemory);
+    let outcome = Outcome::from(FinalReport::NoMemory);
     report_alone(alloc, form, &outcome, "", errors)
 }

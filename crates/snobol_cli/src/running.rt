@@ -9,11 +9,11 @@ use crate::reporting::{report_alone, report_outcome};
 use crate::statuses::FAILED;
 use crate::watching::{Watched, run_watched, write_seen};
 use crate::words_unit::WordsUnit;
-use driver::{Ran, Told, UnitFile, finished, run_deck};
+use driver::{FinalReport, Ran, UnitFile, finished, run_deck};
 use messages::{Form, Sources};
 use model::{Status, Stop, UnitFault};
 use program::{system_of, units_of};
-use snobol_words::{Given, Port, ReportFiles};
+use snobol_words::{GivenFiles, Port, ReportFiles};
 use std::env::Env;
 use std::fs::Files;
 use std::io::{self, Input, Print, Write};
@@ -23,7 +23,7 @@ use unit_io::Units;
 fn unread(unit: u8, reason: io::Error) -> Outcome<'static> {
     let cause = UnitFault::ReadFailed;
     Outcome {
-        told: Told::Ran(Ran {
+        told: FinalReport::Ran(Ran {
             status: Status::Stopped(Stop::Unit { unit, cause }),
             card: 0,
         }),
@@ -59,7 +59,7 @@ fn run_unwatched<'a, R: AllocGlobal, U: Units>(
 ) -> Result<Watched<'a>, Outcome<'a>> {
     match run_deck(rt.alloc(), sources.bytes(), units, steps) {
         Ok(ran) => Ok(Watched::unseen(ran)),
-        Err(refusal) => Err(Outcome::from(Told::Refused(refusal))),
+        Err(refusal) => Err(Outcome::from(FinalReport::Refused(refusal))),
     }
 }
 
@@ -91,15 +91,19 @@ fn run_sources<'a, R: Files + Input + Print + AllocGlobal, W: Write>(
     let ran = finished(watched.ran, units.into_units().flush());
     write_seen(rt, asked.reports, &watched.seen?, errors)?;
     Ok(Outcome {
-        told: Told::Ran(ran),
+        told: FinalReport::Ran(ran),
         reason: reason_of(rt, ran, files),
     })
 }
 
 // Whether a run was stopped since nobody reads what it prints.
-fn is_unread<R: Files + AllocGlobal>(rt: &R, told: &Told<'_>, files: &[UnitFile<'_>]) -> bool {
+fn is_unread<R: Files + AllocGlobal>(
+    rt: &R,
+    told: &FinalReport<'_>,
+    files: &[UnitFile<'_>],
+) -> bool {
     match told {
-        Told::Ran(
+        FinalReport::Ran(
             Ran {
                 status: Status::Stopped(
                     Stop::Unit {
@@ -119,7 +123,7 @@ fn is_unread<R: Files + AllocGlobal>(rt: &R, told: &Told<'_>, files: &[UnitFile<
 fn run_as_asked<'a, R: Files + Input + Print + AllocGlobal, W: Write>(
     rt: &R,
     sources: &mut Sources<'_>,
-    given: &Given<'_>,
+    given: &GivenFiles<'_>,
     asked: Asked<'a>,
     errors: &mut W,
 ) -> Result<Outcome<'a>, Outcome<'a>> {
@@ -127,7 +131,7 @@ fn run_as_asked<'a, R: Files + Input + Print + AllocGlobal, W: Write>(
         return run_sources(rt, sources, &given.files, asked, errors);
     };
     let Ok(written) = written_anew(rt.alloc(), sources, folds) else {
-        return Err(Outcome::from(Told::NoMemory));
+        return Err(Outcome::from(FinalReport::NoMemory));
     };
     if !(written.is_needed() || folds && written.is_changed()) {
         let ran = run_sources(rt, sources, &given.files, asked, errors);
@@ -158,7 +162,7 @@ pub(crate) struct Asked<'a> {
 /// Compiles decks as one, runs the module, and returns the exit status.
 pub(crate) fn run_decks<R: Env + Files + Input + Print + AllocGlobal, W: Write>(
     rt: &R,
-    given: &Given<'_>,
+    given: &GivenFiles<'_>,
     asked: Asked<'_>,
     errors: &mut W,
 ) -> u8 {

@@ -7,8 +7,8 @@ use crate::reporting::{no_memory, report_alone, report_outcome, unwritten};
 use crate::statuses::{BAD_MODULE, DONE, FAILED};
 use codes::{Topic, topic_code};
 use deck_listing::Trouble;
-use driver::{ShowFault, Told, check_module, compile_deck, show};
-use messages::{Form, Message, Place, Sources, write_messages};
+use driver::{FinalReport, ShowFault, check_module, compile_deck, show};
+use messages::{CardPlace, Form, Message, Sources, write_messages};
 use std::alloc::{AllocError, Global};
 use std::env::Env;
 use std::fs::Files;
@@ -39,7 +39,7 @@ pub(crate) fn show_module<R: Files + Input + Print + AllocGlobal, W: Write>(
     match write_module(alloc, &bytes, &mut out) {
         Ok(()) => DONE,
         Err(ShowFault::Module(fault)) => {
-            let outcome = Outcome::from(Told::BadModule(fault));
+            let outcome = Outcome::from(FinalReport::BadModule(fault));
             report_alone(alloc, form, &outcome, module, errors)
         }
         Err(ShowFault::Write(_)) => unwritten(rt, form, errors),
@@ -52,7 +52,7 @@ fn other_deck(alloc: Global, module: &str, deck: &str) -> Result<Message, AllocE
     let said = code.text;
     let text = format!(in alloc; "{said}: {deck}")?;
     let file = String::from_str(alloc, module)?;
-    Ok(Message::new(file, Place::whole(), code, text))
+    Ok(Message::new(file, CardPlace::whole(), code, text))
 }
 
 // Reports a module that isn't the one of a deck.
@@ -105,7 +105,7 @@ pub(crate) fn show_with_cards<R: Env + Files + Input + Print + AllocGlobal, W: W
         Err(outcome) => return report_alone(alloc, form, &outcome, module, errors),
     };
     if let Err(fault) = check_module(alloc, &bytes) {
-        let outcome = Outcome::from(Told::BadModule(fault));
+        let outcome = Outcome::from(FinalReport::BadModule(fault));
         return report_alone(alloc, form, &outcome, module, errors);
     }
     let sources = match read_whole(rt, &[deck], form, errors) {
@@ -118,7 +118,7 @@ pub(crate) fn show_with_cards<R: Env + Files + Input + Print + AllocGlobal, W: W
         }
         Ok(_) => report_other(alloc, module, deck, form, errors),
         Err(refusal) => {
-            let outcome = Outcome::from(Told::Refused(refusal));
+            let outcome = Outcome::from(FinalReport::Refused(refusal));
             report_outcome(alloc, form, &outcome, &sources, &[], module, errors)
         }
     }

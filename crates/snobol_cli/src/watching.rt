@@ -1,7 +1,7 @@
 //! Runs with a trace, a profile or a dump.
 
 use crate::files::{Outcome, not_written, write_file};
-use driver::{Ran, Refusal, Told, watch_deck};
+use driver::{FinalReport, Ran, Refusal, watch_deck};
 use messages::Sources;
 use run_reports::{Dump, Profile, Reports, Statements, Trace, put_profile};
 use snobol_words::ReportFiles;
@@ -127,7 +127,7 @@ fn seen_of<'a, W: Write>(
     }
     match lines_of(alloc, profile, dump, statements) {
         Ok(seen) => Ok(seen),
-        Err(_) => Err(Outcome::from(Told::NoMemory)),
+        Err(_) => Err(Outcome::from(FinalReport::NoMemory)),
     }
 }
 
@@ -187,7 +187,7 @@ fn run_traced<'a, U: Units, W: Write>(
     let seen = seen_of(alloc, reports, statements, file);
     match ran {
         Ok(ran) => Ok(Watched { ran, seen }),
-        Err(refusal) => Err(Outcome::from(Told::Refused(refusal))),
+        Err(refusal) => Err(Outcome::from(FinalReport::Refused(refusal))),
     }
 }
 
@@ -235,7 +235,7 @@ fn write_lines<'a, R: Files + AllocGlobal, W: Write>(
     }
     match errors.write_all(lines.as_bytes()) {
         Ok(()) => Ok(()),
-        Err(_) => Err(Outcome::from(Told::CannotWrite("standard error"))),
+        Err(_) => Err(Outcome::from(FinalReport::CannotWrite("standard error"))),
     }
 }
 

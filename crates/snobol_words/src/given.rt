@@ -12,7 +12,7 @@ pub const WORDS_UNIT: u8 = 4;
 
 /// The decks in order, and the files of units, at most one for each.
 #[derive(Debug, Drop)]
-pub struct Given<'a> {
+pub struct GivenFiles<'a> {
     pub decks: Vec<&'a str>,
     pub files: Vec<UnitFile<'a>>,
 }
@@ -98,7 +98,7 @@ pub(crate) fn sorted<'a>(
     alloc: Global,
     words: &[&'a str],
     records: &[&str],
-) -> Result<Given<'a>, Unsorted<'a>> {
+) -> Result<GivenFiles<'a>, Unsorted<'a>> {
     let mut decks = Vec::new(alloc);
     let mut files: Vec<UnitFile<'a>> = Vec::new(alloc);
     for word in words.iter().copied() {
@@ -118,5 +118,5 @@ pub(crate) fn sorted<'a>(
     if decks.is_empty() {
         return Err(Unsorted::Bad(BadWord::NoDeck));
     }
-    Ok(Given { decks, files })
+    Ok(GivenFiles { decks, files })
 }

@@ -1,6 +1,6 @@
 //! What the program is asked to do.
 
-use crate::given::{BadWord, Given, Unsorted};
+use crate::given::{BadWord, GivenFiles, Unsorted};
 use clap::Error;
 use messages::Form;
 use std::alloc::AllocError;
@@ -50,10 +50,10 @@ pub struct Reporting {
 
 /// What the program is asked to do.
 #[derive(Debug, Drop)]
-pub enum Job<'a> {
+pub enum Request<'a> {
     /// Compile decks as one and run the module.
     Run {
-        given: Given<'a>,
+        given: GivenFiles<'a>,
         records: Vec<&'a str>,
         steps: u64,
         port: Port,

@@ -12,6 +12,6 @@ mod given;
 mod jobs;
 mod words;
 
-pub use given::{BadWord, Given, WORDS_UNIT};
-pub use jobs::{Job, NoJob, Port, ReportFiles, Reporting, Warnings};
+pub use given::{BadWord, GivenFiles, WORDS_UNIT};
+pub use jobs::{NoJob, Port, ReportFiles, Reporting, Request, Warnings};
 pub use words::{COLUMNS, VERSION, read_words};

@@ -2,7 +2,7 @@
 
 use crate::commands::command;
 use crate::given::sorted;
-use crate::jobs::{Job, NoJob, Port, ReportFiles, Reporting, Warnings};
+use crate::jobs::{NoJob, Port, ReportFiles, Reporting, Request, Warnings};
 use clap::error::ErrorKind;
 use clap::{ArgMatches, Error};
 use messages::Form;
@@ -69,10 +69,10 @@ fn there<'a>(matches: &ArgMatches<'a>, name: &str) -> &'a str {
     matches.get_str(name).unwrap_or("")
 }
 
-fn run_job<'a>(alloc: Global, matches: &ArgMatches<'a>) -> Result<Job<'a>, NoJob<'a>> {
+fn run_job<'a>(alloc: Global, matches: &ArgMatches<'a>) -> Result<Request<'a>, NoJob<'a>> {
     let records = copied(alloc, matches, "WORD")?;
     let given = sorted(alloc, matches.get_strs("DECK").unwrap_or(&[]), &records)?;
-    Ok(Job::Run {
+    Ok(Request::Run {
         given,
         records,
         steps: matches.get_one::<u64>("steps").unwrap_or(u64::MAX),
@@ -86,33 +86,33 @@ fn subcommand_job<'a>(
     alloc: Global,
     name: &str,
     matches: &ArgMatches<'a>,
-) -> Result<Job<'a>, NoJob<'a>> {
+) -> Result<Request<'a>, NoJob<'a>> {
     match name {
-        "check" => Ok(Job::Check {
+        "check" => Ok(Request::Check {
             decks: copied(alloc, matches, "DECK")?,
             reporting: reporting_asked(matches),
         }),
-        "list" => Ok(Job::List {
+        "list" => Ok(Request::List {
             decks: copied(alloc, matches, "DECK")?,
             has_code: matches.get_flag("code"),
             reporting: reporting_asked(matches),
         }),
-        "compile" => Ok(Job::Compile {
+        "compile" => Ok(Request::Compile {
             deck: there(matches, "DECK"),
             module: there(matches, "MODULE"),
             form: form_asked(matches),
         }),
-        "port" => Ok(Job::Port {
+        "port" => Ok(Request::Port {
             deck: there(matches, "DECK"),
             folds: matches.get_flag("fold"),
             form: form_asked(matches),
         }),
-        "show" => Ok(Job::Show {
+        "show" => Ok(Request::Show {
             module: there(matches, "MODULE"),
             source: matches.get_str("source"),
             form: form_asked(matches),
         }),
-        _ => Ok(Job::Explain {
+        _ => Ok(Request::Explain {
             code: there(matches, "CODE"),
         }),
     }
@@ -126,7 +126,7 @@ fn said<'a>(error: Error) -> NoJob<'a> {
 }
 
 /// What the words after the program's name ask for.
-pub fn read_words<'a>(alloc: Global, words: &'a [&'a str]) -> Result<Job<'a>, NoJob<'a>> {
+pub fn read_words<'a>(alloc: Global, words: &'a [&'a str]) -> Result<Request<'a>, NoJob<'a>> {
     let command = command(alloc)?;
     let matches = match command.try_get_matches_from(words) {
         Ok(matches) => matches,

@@ -17,7 +17,7 @@ use Rattle.unit_io.proofs.Serving.{told_then}
 use Rattle.instruction_steps.specs.Held.{handlers_in, state_of, waiting}
 use Rattle.statement_machine.specs.Runs.{LacksNothing, TaskStands, left_at, run_of, state_at}
 use Rattle.statement_machine.specs.Collecting.{IsInCalls, IsSameRun, StateLives}
-use Rattle.statement_machine.specs.declared.collecting.Pace.{Pace}
+use Rattle.statement_machine.specs.declared.collecting.CollectionSchedule.{CollectionSchedule}
 use Rattle.statement_machine.specs.declared.run.Run.{Run}
 use Rattle.statement_machine.specs.declared.run.Task.{Task}
 use Rattle.statement_machine.specs.declared.run.Task.TheVariants as task
@@ -172,5 +172,5 @@ same_on a b c h k = record {
   collected = λ im io. collected_on _ _ _ (h.collected im io) (k.collected im io);
 }
 
-pub given_world : (old : Run) (pace : Pace) (w : WorldView) (marks : MarksView) → IsInCalls old → StateLives old.state marks → w ≡ without_unmarked old.state.world marks → IsSameRun old (record old { state = record old.state { world = w }; pace = pace })
+pub given_world : (old : Run) (pace : CollectionSchedule) (w : WorldView) (marks : MarksView) → IsInCalls old → StateLives old.state marks → w ≡ without_unmarked old.state.world marks → IsSameRun old (record old { state = record old.state { world = w }; pace = pace })
 given_world old pace w marks calls lives e = given_back old _ marks calls lives (ap (λ v. record old { state = record old.state { world = v }; pace = pace }) e)

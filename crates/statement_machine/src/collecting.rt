@@ -22,7 +22,7 @@ const EACH_NUMBER: usize = 3;
 /// When objects are given back: once as much was made as stayed the last time. It counts objects and the values that they
 /// held when they were made.
 #[derive(Clone, Copy)]
-pub(crate) struct Pace {
+pub(crate) struct CollectionSchedule {
     // How many objects were counted.
     counted: usize,
     // How much was made since objects were given back.
@@ -31,10 +31,10 @@ pub(crate) struct Pace {
     due: usize,
 }
 
-impl Pace {
+impl CollectionSchedule {
     /// Nothing was made.
-    pub(crate) fn new() -> Pace {
-        Pace {
+    pub(crate) fn new() -> CollectionSchedule {
+        CollectionSchedule {
             counted: 0,
             made: 0,
             due: LEAST,

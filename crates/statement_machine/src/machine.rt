@@ -16,7 +16,7 @@ ghost use Rattle.unit_io.specs.Service.{Served};
 ghost use Rattle.instruction_steps.specs.declared.status.Halt.{Halt as RustHalt};
 
 use crate::run::Run;
-use crate::watching::{Heard, watch_from_entry};
+use crate::watching::{WatchProgress, watch_from_entry};
 use instruction_steps::Halt;
 use joined_steps::WatchRun;
 use loader::Module;
@@ -124,7 +124,7 @@ impl<'m, 'a> Machine<'m, 'a> {
         if let Some(halt) = self.halt {
             return halt.status();
         }
-        let mut heard = Heard::of(&self.run.state.world);
+        let mut heard = WatchProgress::of(&self.run.state.world);
         match self.run.make_steps(
             self.program,
             &mut self.form,

@@ -1,7 +1,7 @@
 //! Runs each module of a file, and reports of each what `sno run` reports.
 
 use code_format::read_u32;
-use driver::{Told, report, run_with_card};
+use driver::{FinalReport, report, run_with_card};
 use model::UnitFault;
 use std::alloc::Global;
 use std::fs::{self, Files};
@@ -27,28 +27,31 @@ fn units(alloc: Global) -> Result<MemUnits, UnitFault> {
 }
 
 /// What there is to report of a module.
-fn told_of(alloc: Global, module: &[u8]) -> Told<'static> {
+fn told_of(alloc: Global, module: &[u8]) -> FinalReport<'static> {
     let Ok(mut units) = units(alloc) else {
-        return Told::NoMemory;
+        return FinalReport::NoMemory;
     };
     match run_with_card(alloc, module, &mut units, STEPS) {
-        Ok(ran) => Told::Ran(ran),
-        Err(fault) => Told::BadModule(fault),
+        Ok(ran) => FinalReport::Ran(ran),
+        Err(fault) => FinalReport::BadModule(fault),
     }
 }
 
 /// Prints what is reported of a module, and the exit status as a line of its own.
-fn print<R: Print + AllocGlobal>(rt: &R, told: &Told<'_>) -> Result<(), Told<'static>> {
+fn print<R: Print + AllocGlobal>(
+    rt: &R,
+    told: &FinalReport<'_>,
+) -> Result<(), FinalReport<'static>> {
     let mut lines = Vec::new(rt.alloc());
     let Ok(status) = report(told, &mut lines) else {
-        return Err(Told::NoMemory);
+        return Err(FinalReport::NoMemory);
     };
     if writeln!(lines, "{status}").is_err() {
-        return Err(Told::NoMemory);
+        return Err(FinalReport::NoMemory);
     }
     match rt.write_all(&lines) {
         Ok(()) => Ok(()),
-        Err(_) => Err(Told::CannotWrite("a unit")),
+        Err(_) => Err(FinalReport::CannotWrite("a unit")),
     }
 }
 
@@ -56,9 +59,9 @@ fn print<R: Print + AllocGlobal>(rt: &R, told: &Told<'_>) -> Result<(), Told<'st
 pub(crate) fn run_each<R: Files + Print + AllocGlobal>(
     rt: &R,
     file: &str,
-) -> Result<(), Told<'static>> {
+) -> Result<(), FinalReport<'static>> {
     let Ok(bytes) = fs::read(rt, file) else {
-        return Err(Told::CannotRead("the modules"));
+        return Err(FinalReport::CannotRead("the modules"));
     };
     let mut rest = bytes.as_slice();
     for _ in 0..bytes.len() {

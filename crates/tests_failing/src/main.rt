@@ -12,7 +12,7 @@ mod plain;
 
 use crate::each::run_each;
 use crate::plain::Plain;
-use driver::{Ran, Told, compile_deck, report};
+use driver::{FinalReport, Ran, compile_deck, report};
 use loader::{Module, load};
 use model::{Ending, Status};
 use statement_machine::Machine;
@@ -51,19 +51,19 @@ enum Words {
     Each { file: String },
 }
 
-fn read_words<R: Env + AllocGlobal>(rt: &R) -> Result<Words, Told<'static>> {
+fn read_words<R: Env + AllocGlobal>(rt: &R) -> Result<Words, FinalReport<'static>> {
     let Ok(mut words) = env::args(rt) else {
-        return Err(Told::NoMemory);
+        return Err(FinalReport::NoMemory);
     };
     let (Some(number), Some(deck)) = (words.nth(1), words.next()) else {
-        return Err(Told::BadCommandLine);
+        return Err(FinalReport::BadCommandLine);
     };
     if number.as_str() == "each" {
         return Ok(Words::Each { file: deck });
     }
     match number.parse::<u64>() {
         Ok(k) => Ok(Words::Failing { k, deck }),
-        Err(_) => Err(Told::BadCommandLine),
+        Err(_) => Err(FinalReport::BadCommandLine),
     }
 }
 
@@ -71,35 +71,35 @@ fn read_words<R: Env + AllocGlobal>(rt: &R) -> Result<Words, Told<'static>> {
 fn units_of<'a, R: Files + Input + Print>(
     alloc: Global,
     system: &'a Plain<'a, R>,
-) -> Result<FileUnits<'a, Plain<'a, R>>, Told<'static>> {
+) -> Result<FileUnits<'a, Plain<'a, R>>, FinalReport<'static>> {
     let Ok(mut units) = FileUnits::new(alloc, system) else {
-        return Err(Told::NoMemory);
+        return Err(FinalReport::NoMemory);
     };
     'files: for (unit, file) in [(7, "7"), (8, "8"), (9, "9")] {
         if units.give(unit, file).is_err() {
-            return Err(Told::NoMemory);
+            return Err(FinalReport::NoMemory);
         }
     }
     Ok(units)
 }
 
 /// Why the deck was not read.
-fn not_read(error: &io::Error) -> Told<'static> {
+fn not_read(error: &io::Error) -> FinalReport<'static> {
     match error.kind() {
-        ErrorKind::OutOfMemory => Told::NoMemory,
-        _ => Told::CannotRead("the deck"),
+        ErrorKind::OutOfMemory => FinalReport::NoMemory,
+        _ => FinalReport::CannotRead("the deck"),
     }
 }
 
 /// The module of a deck, as bytes.
-fn compiled<R: Files + AllocGlobal>(rt: &R, deck: &str) -> Result<Vec<u8>, Told<'static>> {
+fn compiled<R: Files + AllocGlobal>(rt: &R, deck: &str) -> Result<Vec<u8>, FinalReport<'static>> {
     let deck = match fs::read(rt, deck) {
         Ok(deck) => deck,
         Err(error) => return Err(not_read(&error)),
     };
     match compile_deck(rt.alloc(), &deck) {
         Ok(bytes) => Ok(bytes),
-        Err(refusal) => Err(Told::Refused(refusal)),
+        Err(refusal) => Err(FinalReport::Refused(refusal)),
     }
 }
 
@@ -108,27 +108,29 @@ fn run_twice<R: Files + Input + Print + AllocGlobal>(
     rt: &R,
     module: &Module,
     k: u64,
-) -> Result<Answers, Told<'static>> {
+) -> Result<Answers, FinalReport<'static>> {
     let system = Plain::new(rt);
     let mut units = FailAt::new(units_of(rt.alloc(), &system)?, k);
     let Ok(mut machine) = Machine::new(rt.alloc(), module) else {
-        return Err(Told::NoMemory);
+        return Err(FinalReport::NoMemory);
     };
     let first = machine.run(&mut units, STEPS);
     let again = machine.run(&mut units, 1);
     if units.into_inner().flush().is_err() {
-        return Err(Told::CannotWrite("a unit"));
+        return Err(FinalReport::CannotWrite("a unit"));
     }
     Ok(Answers { first, again })
 }
 
-fn run<R: Env + Files + Input + Print + AllocGlobal>(rt: &R) -> Result<Answers, Told<'static>> {
+fn run<R: Env + Files + Input + Print + AllocGlobal>(
+    rt: &R,
+) -> Result<Answers, FinalReport<'static>> {
     match read_words(rt)? {
         Words::Failing { k, deck } => {
             let bytes = compiled(rt, &deck)?;
             match load(rt.alloc(), &bytes) {
                 Ok(module) => run_twice(rt, &module, k),
-                Err(fault) => Err(Told::BadModule(fault)),
+                Err(fault) => Err(FinalReport::BadModule(fault)),
             }
         }
         Words::Each { file } => {
@@ -139,7 +141,7 @@ fn run<R: Env + Files + Input + Print + AllocGlobal>(rt: &R) -> Result<Answers, 
 }
 
 /// What is reported of the answers, if they are the same.
-fn told_of(done: Result<Answers, Told<'static>>) -> Option<Told<'static>> {
+fn told_of(done: Result<Answers, FinalReport<'static>>) -> Option<FinalReport<'static>> {
     let answers = match done {
         Ok(answers) => answers,
         Err(told) => return Some(told),
@@ -147,7 +149,7 @@ fn told_of(done: Result<Answers, Told<'static>>) -> Option<Told<'static>> {
     if answers.first != answers.again {
         return None;
     }
-    Some(Told::Ran(Ran {
+    Some(FinalReport::Ran(Ran {
         status: answers.first,
         card: 0,
     }))

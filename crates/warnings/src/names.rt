@@ -1,6 +1,6 @@
 //! The names that a deck gives: labels, and functions in the texts of DEFINE and DATA.
 
-use card_text::{Kind, Piece, cut_text};
+use card_text::{Piece, PieceKind, cut_text};
 use indexmap::{IndexMap, IndexSet};
 use model::Statement;
 use std::alloc::{AllocError, Global};
@@ -31,13 +31,13 @@ fn inside<'a>(piece: Piece, text: &'a [u8]) -> &'a [u8] {
 }
 
 fn is_mark(piece: Option<&Piece>, mark: u8) -> bool {
-    piece.is_some_and(|piece| piece.kind == Kind::Mark && piece.first == mark)
+    piece.is_some_and(|piece| piece.kind == PieceKind::Mark && piece.first == mark)
 }
 
 // Whether a piece is a call of DEFINE or DATA.
 fn is_definition(piece: Piece, behind: &[Piece], text: &[u8]) -> bool {
     let is_name = matches!(piece.bytes(text), b"DEFINE" | b"DATA");
-    is_name && piece.kind == Kind::Word && is_mark(behind.first(), b'(')
+    is_name && piece.kind == PieceKind::Word && is_mark(behind.first(), b'(')
 }
 
 // Whether the first argument of a call begins with a literal.
@@ -45,8 +45,8 @@ fn has_literal(behind: &[Piece]) -> bool {
     let argument = behind
         .iter()
         .skip(1)
-        .find(|piece| piece.kind != Kind::Blank);
-    argument.is_some_and(|piece| piece.kind == Kind::Literal)
+        .find(|piece| piece.kind != PieceKind::Blank);
+    argument.is_some_and(|piece| piece.kind == PieceKind::Literal)
 }
 
 impl<'a> Names<'a> {
@@ -84,7 +84,7 @@ impl<'a> Names<'a> {
         defines: bool,
     ) -> Result<(), AllocError> {
         for piece in pieces.iter().copied() {
-            if piece.kind != Kind::Literal {
+            if piece.kind != PieceKind::Literal {
                 continue;
             }
             if defines {

@@ -3,7 +3,7 @@
 use crate::names::{Names, Spellings};
 use crate::uses::{Place, Use, use_of};
 use crate::warning::Warning;
-use card_text::{Kind, Piece, cut_text};
+use card_text::{Piece, PieceKind, cut_text};
 use codes::Topic;
 use model::{PrimId, Statement, StmtFault};
 use std::alloc::{AllocError, Global};
@@ -40,15 +40,15 @@ fn third_argument(pieces: &[Piece]) -> Option<Piece> {
     let mut open: u32 = 0;
     let mut commas: u32 = 0;
     for piece in pieces.iter().copied() {
-        if commas == 2 && piece.kind != Kind::Blank {
-            let is_absent = piece.kind == Kind::Mark && matches!(piece.first, b')' | b',');
+        if commas == 2 && piece.kind != PieceKind::Blank {
+            let is_absent = piece.kind == PieceKind::Mark && matches!(piece.first, b')' | b',');
             return (!is_absent).then_some(piece);
         }
         match (piece.kind, piece.first) {
-            (Kind::Mark, b'(' | b'<') => open = open.saturating_add(1),
-            (Kind::Mark, b')' | b'>') if open <= 1 => return None,
-            (Kind::Mark, b')' | b'>') => open = open.saturating_sub(1),
-            (Kind::Mark, b',') if open == 1 => commas = commas.saturating_add(1),
+            (PieceKind::Mark, b'(' | b'<') => open = open.saturating_add(1),
+            (PieceKind::Mark, b')' | b'>') if open <= 1 => return None,
+            (PieceKind::Mark, b')' | b'>') => open = open.saturating_sub(1),
+            (PieceKind::Mark, b',') if open == 1 => commas = commas.saturating_add(1),
             _ => (),
         }
     }

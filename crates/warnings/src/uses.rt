@@ -1,6 +1,6 @@
 //! What names stand for in a statement, by its pieces.
 
-use card_text::{Kind, Piece};
+use card_text::{Piece, PieceKind};
 
 /// What a name stands for.
 #[derive(Clone, Copy, Debug, PartialEq, Eq)]
@@ -31,15 +31,15 @@ impl Place {
     /// Behind a piece.
     pub(crate) fn past(self, piece: Piece) -> Place {
         match (piece.kind, piece.first) {
-            (Kind::Mark, b':') => Place {
+            (PieceKind::Mark, b':') => Place {
                 in_goto: true,
                 open: 0,
             },
-            (Kind::Mark, b'(') => Place {
+            (PieceKind::Mark, b'(') => Place {
                 open: self.open.saturating_add(1),
                 ..self
             },
-            (Kind::Mark, b')') => Place {
+            (PieceKind::Mark, b')') => Place {
                 open: self.open.saturating_sub(1),
                 ..self
             },
@@ -49,23 +49,23 @@ impl Place {
 }
 
 fn is_mark(piece: Option<&Piece>, mark: u8) -> bool {
-    piece.is_some_and(|piece| piece.kind == Kind::Mark && piece.first == mark)
+    piece.is_some_and(|piece| piece.kind == PieceKind::Mark && piece.first == mark)
 }
 
 // The last of some pieces that is no blank.
 fn last_shown(before: &[Piece]) -> Option<&Piece> {
-    before.iter().rfind(|piece| piece.kind != Kind::Blank)
+    before.iter().rfind(|piece| piece.kind != PieceKind::Blank)
 }
 
 // The first of some pieces that is no blank.
 fn first_shown(behind: &[Piece]) -> Option<&Piece> {
-    behind.iter().find(|piece| piece.kind != Kind::Blank)
+    behind.iter().find(|piece| piece.kind != PieceKind::Blank)
 }
 
 /// What a piece that is a name stands for between those before and behind it; nothing where it is a label, a keyword, or
 /// the S or F of a goto.
 pub(crate) fn use_of(place: Place, before: &[Piece], name: Piece, behind: &[Piece]) -> Option<Use> {
-    if name.kind != Kind::Word || name.start == 0 || is_mark(before.last(), b'&') {
+    if name.kind != PieceKind::Word || name.start == 0 || is_mark(before.last(), b'&') {
         return None;
     }
     if place.in_goto && place.open == 0 {

@@ -1,5 +1,5 @@
 use Rattle.std.proofs.Common.{Some}
-use Rattle.driver.specs.declared.telling.Told.TheVariants as told
+use Rattle.driver.specs.declared.telling.FinalReport.TheVariants as told
 use Rattle.program.proofs.perform_words.Goals as goal
 
 pub returns-in-Err : goal.returns-in-Err
