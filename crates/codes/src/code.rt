@@ -1,9 +1,9 @@
 //! A code, and the code of a name.
 
-use crate::deck_faults::{CARDS, CAUSES};
-use crate::errors::{ERRORS, UNITS};
-use crate::module_faults::{FORMATS, MODULES};
-use crate::topics::TOPICS;
+use crate::deck_faults::{card_codes, cause_codes};
+use crate::errors::{error_codes, unit_codes};
+use crate::module_faults::{format_codes, module_codes};
+use crate::topics::topic_codes;
 
 /// What is known of a code.
 #[derive(Clone, Copy, Debug)]
@@ -40,16 +40,16 @@ pub fn code_named(name: &str) -> Option<Code> {
     if name == MEMORY_CODE.name {
         return Some(MEMORY_CODE);
     }
-    find(&CARDS, name)
-        .or(find(&CAUSES, name))
-        .or(find(&ERRORS, name))
-        .or(find(&UNITS, name))
-        .or(find(&FORMATS, name))
-        .or(find(&MODULES, name))
-        .or(find(&TOPICS, name))
+    find(card_codes(), name)
+        .or(find(cause_codes(), name))
+        .or(find(error_codes(), name))
+        .or(find(unit_codes(), name))
+        .or(find(format_codes(), name))
+        .or(find(module_codes(), name))
+        .or(find(topic_codes(), name))
 }
 
 /// The code of the error of runs of this name, if there is one.
 pub fn run_code_named(name: &str) -> Option<Code> {
-    find(&ERRORS, name)
+    find(error_codes(), name)
 }

@@ -1,12 +1,12 @@
 //! Codes of faults of decks.
 
-ghost use Rattle.std.specs.Prelude.{◌<◌, IfSome};
+ghost use Rattle.std.specs.Prelude.{◌<◌, ◌≡◌, IfSome, length};
 
 use crate::code::{Code, MEMORY, MEMORY_CODE};
 use model::{CardRule, Cause};
 
 /// The codes of rules of cards.
-pub(crate) const CARDS: [Code; 7] = [
+static CARDS: [Code; 7] = [
     Code {
         name: "C1",
         text: "a byte that is neither a blank nor printable",
@@ -55,8 +55,15 @@ pub(crate) const CARDS: [Code; 7] = [
     },
 ];
 
+/// The codes of rules of cards, in order.
+pub(crate) fn card_codes() -> &'static [Code]
+    ensures { length result.now ≡ 7 }
+{
+    &CARDS
+}
+
 /// The codes of causes of faulty statements.
-pub(crate) const CAUSES: [Code; 11] = [
+static CAUSES: [Code; 11] = [
     Code {
         name: "L1",
         text: "a byte that begins no token",
@@ -133,6 +140,13 @@ pub(crate) const CAUSES: [Code; 11] = [
     },
 ];
 
+/// The codes of causes of faulty statements, in order.
+pub(crate) fn cause_codes() -> &'static [Code]
+    ensures { length result.now ≡ 11 }
+{
+    &CAUSES
+}
+
 // Where the code of a rule stands.
 fn card_place(rule: CardRule) -> usize
     ensures { result < 7 }
@@ -150,7 +164,7 @@ fn card_place(rule: CardRule) -> usize
 
 /// The code of a rule of cards.
 pub fn card_code(rule: CardRule) -> Code {
-    CARDS[card_place(rule)]
+    card_codes()[card_place(rule)]
 }
 
 // Where the code of a cause stands, but for want of memory.
@@ -176,7 +190,7 @@ fn cause_place(cause: Cause) -> Option<usize>
 /// The code of a cause of a faulty statement.
 pub fn cause_code(cause: Cause) -> Code {
     match cause_place(cause) {
-        Some(place) => CAUSES[place],
+        Some(place) => cause_codes()[place],
         None => MEMORY_CODE,
     }
 }

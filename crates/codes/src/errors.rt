@@ -1,12 +1,12 @@
 //! Codes of errors of runs, and of faults of units.
 
-ghost use Rattle.std.specs.Prelude.{◌<◌};
+ghost use Rattle.std.specs.Prelude.{◌<◌, ◌≡◌, length};
 
 use crate::code::{Code, MEMORY};
 use model::{ErrorCode, UnitFault};
 
 /// The codes of errors, each with when it comes.
-pub(crate) const ERRORS: [Code; 16] = [
+static ERRORS: [Code; 16] = [
     Code {
         name: "E1",
         text: "a value of a type that the operation doesn't take",
@@ -114,8 +114,15 @@ pub(crate) const ERRORS: [Code; 16] = [
     },
 ];
 
+/// The codes of errors, in order.
+pub(crate) fn error_codes() -> &'static [Code]
+    ensures { length result.now ≡ 16 }
+{
+    &ERRORS
+}
+
 /// The codes of faults of units.
-pub(crate) const UNITS: [Code; 4] = [
+static UNITS: [Code; 4] = [
     Code {
         name: "U1",
         text: "a unit that isn't open that way",
@@ -141,6 +148,13 @@ pub(crate) const UNITS: [Code; 4] = [
         deck: "",
     },
 ];
+
+/// The codes of faults of units, in order.
+pub(crate) fn unit_codes() -> &'static [Code]
+    ensures { length result.now ≡ 4 }
+{
+    &UNITS
+}
 
 // Where the code of an error stands.
 fn error_place(error: ErrorCode) -> usize
@@ -168,7 +182,7 @@ fn error_place(error: ErrorCode) -> usize
 
 /// The code of an error.
 pub fn error_code(error: ErrorCode) -> Code {
-    ERRORS[error_place(error)]
+    error_codes()[error_place(error)]
 }
 
 // Where the code of a unit's fault stands.
@@ -185,5 +199,5 @@ fn unit_place(fault: UnitFault) -> usize
 
 /// The code of a unit's fault.
 pub fn unit_code(fault: UnitFault) -> Code {
-    UNITS[unit_place(fault)]
+    unit_codes()[unit_place(fault)]
 }

@@ -1,6 +1,6 @@
 //! Codes of faults of modules.
 
-ghost use Rattle.std.specs.Prelude.{◌<◌};
+ghost use Rattle.std.specs.Prelude.{◌<◌, ◌≡◌, length};
 
 use crate::code::{Code, MEMORY};
 use model::{FormatRule, ModuleRule};
@@ -10,7 +10,7 @@ const AGAIN: &str =
     "The file was changed since snobol compile wrote it, or it is no module; compile its deck again.";
 
 /// The codes of rules of the format.
-pub(crate) const FORMATS: [Code; 7] = [
+static FORMATS: [Code; 7] = [
     Code {
         name: "F1",
         text: "bytes that aren't a module's",
@@ -55,8 +55,15 @@ pub(crate) const FORMATS: [Code; 7] = [
     },
 ];
 
+/// The codes of rules of the format, in order.
+pub(crate) fn format_codes() -> &'static [Code]
+    ensures { length result.now ≡ 7 }
+{
+    &FORMATS
+}
+
 /// The codes of rules of modules.
-pub(crate) const MODULES: [Code; 5] = [
+static MODULES: [Code; 5] = [
     Code {
         name: "W1",
         text: "an index, name or number that isn't there or isn't permitted",
@@ -89,6 +96,13 @@ pub(crate) const MODULES: [Code; 5] = [
     },
 ];
 
+/// The codes of rules of modules, in order.
+pub(crate) fn module_codes() -> &'static [Code]
+    ensures { length result.now ≡ 5 }
+{
+    &MODULES
+}
+
 // Where the code of a rule of the format stands.
 fn format_place(rule: FormatRule) -> usize
     ensures { result < 7 }
@@ -106,7 +120,7 @@ fn format_place(rule: FormatRule) -> usize
 
 /// The code of a rule of the format.
 pub fn format_code(rule: FormatRule) -> Code {
-    FORMATS[format_place(rule)]
+    format_codes()[format_place(rule)]
 }
 
 // Where the code of a rule of modules stands.
@@ -124,5 +138,5 @@ fn module_place(rule: ModuleRule) -> usize
 
 /// The code of a rule of modules.
 pub fn rule_code(rule: ModuleRule) -> Code {
-    MODULES[module_place(rule)]
+    module_codes()[module_place(rule)]
 }

@@ -1,6 +1,6 @@
 //! Codes of what has no letter and number: files, bounds, and warnings.
 
-ghost use Rattle.std.specs.Prelude.{◌<◌};
+ghost use Rattle.std.specs.Prelude.{◌<◌, ◌≡◌, length};
 
 use crate::code::Code;
 
@@ -34,7 +34,7 @@ pub enum Topic {
 }
 
 /// The codes of topics.
-pub(crate) const TOPICS: [Code; 12] = [
+static TOPICS: [Code; 12] = [
     Code {
         name: "read",
         text: "a file that can't be read",
@@ -112,6 +112,13 @@ pub(crate) const TOPICS: [Code; 12] = [
     },
 ];
 
+/// The codes of topics, in order.
+pub(crate) fn topic_codes() -> &'static [Code]
+    ensures { length result.now ≡ 12 }
+{
+    &TOPICS
+}
+
 // Where the code of a topic stands.
 fn topic_place(topic: Topic) -> usize
     ensures { result < 12 }
@@ -134,5 +141,5 @@ fn topic_place(topic: Topic) -> usize
 
 /// The code of a topic.
 pub fn topic_code(topic: Topic) -> Code {
-    TOPICS[topic_place(topic)]
+    topic_codes()[topic_place(topic)]
 }

@@ -5,7 +5,7 @@ use Rattle.std.proofs.lemmas.Bool.{cases_eq}
 use Rattle.std.proofs.lemmas.Bool.Decides.{nat_tests}
 use Rattle.std.proofs.lemmas.List.{append-nil, map-append}
 use Rattle.model.specs.Language.Units.{first_of, rest_of, bytes_on, after_read, after_write, Reads, Writes}
-use Rattle.unit_io.specs.Held.{UnitsView, IsKept, IsRead, IsWritten, is_shut, may_fail_of, side_at, place_of, with_side, left_by, output_of, printed_of, io_of}
+use Rattle.unit_io.specs.Held.{UnitsView, IsKept, IsRead, IsWritten, is_shut, may_fail_of, side_at, place_of, with_side, left_by, output_of, records_printed, io_of}
 use Rattle.unit_io.specs.declared.mem.OpenUnit.{OpenUnit}
 use Rattle.unit_io.specs.declared.mem.Side.{Side}
 use Rattle.unit_io.specs.declared.mem.Side.TheVariants.{Input, Output}
@@ -62,7 +62,7 @@ module _ (unit : ℕ) (got : Option (List ℕ)) (h h' : UnitsView) (read : IsRea
 
   pub read_told : Reads unit got (Some (io_of h)) (Some (io_of h'))
   read_told =
-      let told : io_of h' ≡ after_read unit (io_of h) = ap io_of read.3 ∙ (λ j. record { left = λ u. told_less u j; printed = printed_of h.printed }) in
+      let told : io_of h' ≡ after_read unit (io_of h) = ap io_of read.3 ∙ (λ j. record { left = λ u. told_less u j; printed = records_printed h.printed }) in
       (io_of h, (refl, ap Some told), read.2 ∙ ap (λ s. first_of (left_by s)) (sym read.1))
 
 -- ---- what is told after a write, and what is kept
@@ -72,10 +72,10 @@ bytes_on_or true r line rest more h = ap (λ x. r ++ 10 ∷ x) h ∙ sym (append
 bytes_on_or false r line rest more h = h
 
 -- one more record
-bytes_on_snoc : (u unit : ℕ) (bytes : List ℕ) (ps : List Written) → bytes_on u (printed_of (ps ++ record { unit = unit; bytes = bytes } ∷ [])) ≡ bytes_on u (printed_of ps) ++ (if nat_eq u unit then bytes ++ 10 ∷ [] else [])
+bytes_on_snoc : (u unit : ℕ) (bytes : List ℕ) (ps : List Written) → bytes_on u (records_printed (ps ++ record { unit = unit; bytes = bytes } ∷ [])) ≡ bytes_on u (records_printed ps) ++ (if nat_eq u unit then bytes ++ 10 ∷ [] else [])
 bytes_on_snoc u unit bytes [] = refl
 bytes_on_snoc u unit bytes (p ∷ ps) =
-    bytes_on_or (nat_eq u p.unit) p.bytes (bytes_on u (printed_of ps)) (bytes_on u (printed_of (ps ++ record { unit = unit; bytes = bytes } ∷ []))) (if nat_eq u unit then bytes ++ 10 ∷ [] else []) (bytes_on_snoc u unit bytes ps)
+    bytes_on_or (nat_eq u p.unit) p.bytes (bytes_on u (records_printed ps)) (bytes_on u (records_printed (ps ++ record { unit = unit; bytes = bytes } ∷ []))) (if nat_eq u unit then bytes ++ 10 ∷ [] else []) (bytes_on_snoc u unit bytes ps)
 
 itself : (unit : ℕ) (line : List ℕ) → line ≡ (if nat_eq unit unit then line else [])
 itself unit line = grind (arith, nat_tests)
@@ -99,21 +99,21 @@ module _ (unit : ℕ) (bytes : List ℕ) (h h' : UnitsView) (wrote : IsWritten u
       ap io_of wrote.2 ∙ (λ j. record { left = λ u. left u j; printed = map-append (λ (w : Written). record { unit = w.unit; bytes = w.bytes }) h.printed (one ∷ []) j }) in
       (io_of h, (refl, ap Some told))
 
-  kept_at : (u : ℕ) → output_of (side_at unit h.opened) ≡ bytes_on unit (printed_of h.printed) → output_of (side_at u h.opened) ≡ bytes_on u (printed_of h.printed) → output_of (side_at u (with_side unit (Output after) h.opened)) ≡ bytes_on u (printed_of (h.printed ++ one ∷ []))
+  kept_at : (u : ℕ) → output_of (side_at unit h.opened) ≡ bytes_on unit (records_printed h.printed) → output_of (side_at u h.opened) ≡ bytes_on u (records_printed h.printed) → output_of (side_at u (with_side unit (Output after) h.opened)) ≡ bytes_on u (records_printed (h.printed ++ one ∷ []))
   unfolding after one
   kept_at u here at_u = elim (cases_eq unit u) [
-    | inl e ↦ subst (λ v. output_of (side_at v (with_side unit (Output after) h.opened)) ≡ bytes_on v (printed_of (h.printed ++ one ∷ []))) e (
+    | inl e ↦ subst (λ v. output_of (side_at v (with_side unit (Output after) h.opened)) ≡ bytes_on v (records_printed (h.printed ++ one ∷ []))) e (
         ap output_of (side_of_same unit (Output after) (Output wrote.0) h.opened wrote.1)
         ∙ ap (λ x. x ++ bytes ++ 10 ∷ []) (ap output_of (sym wrote.1) ∙ here)
-        ∙ append_assoc (bytes_on unit (printed_of h.printed)) bytes (10 ∷ [])
-        ∙ ap (λ x. bytes_on unit (printed_of h.printed) ++ x) (itself unit (bytes ++ 10 ∷ []))
+        ∙ append_assoc (bytes_on unit (records_printed h.printed)) bytes (10 ∷ [])
+        ∙ ap (λ x. bytes_on unit (records_printed h.printed) ++ x) (itself unit (bytes ++ 10 ∷ []))
         ∙ sym (bytes_on_snoc unit unit bytes h.printed)
         )
     | inr n ↦
         ap output_of (side_of_other unit u (Output after) (Output wrote.0) h.opened wrote.1 n)
         ∙ at_u
-        ∙ sym (append-nil (bytes_on u (printed_of h.printed)))
-        ∙ ap (λ x. bytes_on u (printed_of h.printed) ++ x) (another unit u (bytes ++ 10 ∷ []) n)
+        ∙ sym (append-nil (bytes_on u (records_printed h.printed)))
+        ∙ ap (λ x. bytes_on u (records_printed h.printed) ++ x) (another unit u (bytes ++ 10 ∷ []) n)
         ∙ sym (bytes_on_snoc u unit bytes h.printed)
   ]
 

@@ -26,12 +26,12 @@ abbrev pub left_by : Option Side → List (List ℕ)
 left_by (Some (Input records)) = records
 left_by _ = []
 
-abbrev pub printed_of : List Written → List (record { unit : ℕ; bytes : List ℕ })
-printed_of ws = map (λ w. record { unit = w.unit; bytes = w.bytes }) ws
+abbrev pub records_printed : List Written → List (record { unit : ℕ; bytes : List ℕ })
+records_printed ws = map (λ w. record { unit = w.unit; bytes = w.bytes }) ws
 
 -- what they tell
 abbrev pub io_of : UnitsView → Io
-io_of h = record { left = λ unit. left_by (side_at unit h.opened); printed = printed_of h.printed }
+io_of h = record { left = λ unit. left_by (side_at unit h.opened); printed = records_printed h.printed }
 
 abbrev pub failures_of : UnitsView → ℕ → ℕ
 failures_of h unit = failures_at h.failures unit
@@ -100,9 +100,9 @@ written_by (Some (Output bytes)) written = Some written
 written_by _ written = None
 
 abbrev pub written_to : ℕ → UnitsView → Option (List ℕ)
-written_to unit h = written_by (side_at unit h.opened) (bytes_on unit (printed_of h.printed))
+written_to unit h = written_by (side_at unit h.opened) (bytes_on unit (records_printed h.printed))
 
 -- each unit keeps just what was printed to it
 pub record IsKept (h : UnitsView) : Type 0 where
   pub long : length h.failures ≡ 256
-  pub kept : (unit : ℕ) → output_of (side_at unit h.opened) ≡ bytes_on unit (printed_of h.printed)
+  pub kept : (unit : ℕ) → output_of (side_at unit h.opened) ≡ bytes_on unit (records_printed h.printed)
