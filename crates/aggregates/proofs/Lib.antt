@@ -1,4 +1,5 @@
 pub mod Lists
+pub mod Paging
 pub mod Objects
 pub mod Clearing
 pub mod Marking

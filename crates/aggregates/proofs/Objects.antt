@@ -25,6 +25,16 @@ module _ {V : Type 0} where
   objects_past (x ∷ xs) zero le = absurd (omega arith)
   objects_past (x ∷ xs) (suc i) le = objects_past xs i (omega arith)
 
+  pub objects_set : (xs : List (held.Object V)) (n : ℕ) (o : held.Object V) → objects_of (slice_set xs n o) ≡ slice_set (objects_of xs) n (object_of o)
+  objects_set [] n o = refl
+  objects_set (x ∷ xs) zero o = refl
+  objects_set (x ∷ xs) (suc n) o = ap (λ ys. object_of x ∷ ys) (objects_set xs n o)
+
+  pub objects_long : (xs : List (held.Object V)) (n : ℕ) (o : held.Object V) → length (objects_of (slice_set xs n o)) ≡ length (objects_of xs)
+  objects_long [] n o = refl
+  objects_long (x ∷ xs) zero o = refl
+  objects_long (x ∷ xs) (suc n) o = ap suc (objects_long xs n o)
+
   -- another object in the place of one
   pub objects_put : (xs : List (held.Object V)) (i : ℕ) (o : held.Object V) → i < length xs → with_item i (object_of o) (objects_of xs) ≡ Some (objects_of (slice_set xs i o))
   objects_put [] i o lt = absurd (omega arith)

@@ -4,5 +4,6 @@ pub mod Keys
 pub mod Objects
 pub mod Made
 pub mod Marked
+pub mod Paged
 pub mod Wanted
 pub mod Parts

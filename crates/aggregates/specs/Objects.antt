@@ -41,6 +41,15 @@ module _ {V : Type 0} where
   place_in zs (Some (ArrayOf bs vs)) = place_from 0 bs zs
   place_in zs _ = None
 
+  -- the element at a place
+  abbrev pub element_at : Option ℕ → Option (Object V) → Option V
+  element_at None o = None
+  element_at (Some i) o = element_of o i
+
+  -- an array's element, by its subscripts
+  abbrev pub element_in : List ℤ → Option (Object V) → Option V
+  element_in zs o = element_at (place_in zs o) o
+
   -- how many dimensions an array has
   abbrev pub dimensions_in : Option (Object V) → ℕ
   dimensions_in (Some (ArrayOf bs vs)) = length bs

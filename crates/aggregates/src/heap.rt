@@ -10,36 +10,48 @@ ghost use Rattle.model.specs.Language.Prototypes.{elements_in};
 ghost use Rattle.aggregates.specs.Keys.{key_of};
 ghost use Rattle.aggregates.specs.Objects.{held_at, stored_at, put_at, if_stored, place_in};
 ghost use Rattle.aggregates.specs.Objects.{index_in, value_in};
-ghost use Rattle.aggregates.specs.Objects.{dimensions_in, field_in, record_type};
-ghost use Rattle.aggregates.specs.Made.{kind_of, filled, copied, rows_in, rows_array, number, with_object, object_of, marked_by, values_in, StandBelow};
+ghost use Rattle.aggregates.specs.Objects.{element_in, dimensions_in, field_in, record_type};
+ghost use Rattle.aggregates.specs.Made.{kind_of, filled, copied, rows_in, rows_array, number, with_object, object_of, values_in, StandBelow};
+ghost use Rattle.aggregates.specs.Marked.{marks_in};
 ghost use Rattle.model.specs.Machine.Living.{cleared};
 
 use crate::array::Array;
 use crate::bounds::{Bounds, are_bounds};
 use crate::element::Element;
+use crate::marks::Marks;
 use crate::names::Names;
 use crate::object::{Kind, Object, Record, place_among};
+use crate::page::Page;
+use crate::pages::Pages;
 use crate::place::{Key, Place};
 use crate::table::Table;
 use std::alloc::{AllocError, Global};
 use std::marker::Model;
 use strings::Text;
 
+/// How many objects have a place without a page.
+const FIRST: usize = 4096;
+
 /// The objects of a run. Contracts see the list of them in the order of making; an object's number is its place there.
 #[derive(Drop)]
 pub struct Heap<V> {
-    objects: Vec<Object<V>>,
+    // Those that were made first: one look finds them.
+    first: Page<V>,
+    // The others.
+    rest: Pages<V>,
+    // How many were made.
+    count: usize,
 }
 
 impl<V> Model for Heap<V> {
-    ghost use Rattle.std.specs.Prelude.{List};
+    ghost use Rattle.std.specs.Prelude.{List, ◌≡◌, ◌+◌, ◌++◌, length};
     ghost use Rattle.model.specs.Language.Values as values;
 
     ghost Value = { List (values.Object V) };
 
-    ghost use Rattle.aggregates.specs.Made.{objects_of};
+    ghost view = { λ h. h.first ++ h.rest };
 
-    ghost view = { λ h. objects_of h.objects.items };
+    ghost invariant = { λ h. h.count ≡ length h.first + length h.rest };
 }
 
 impl<V: Element> Heap<V> {
@@ -48,16 +60,18 @@ impl<V: Element> Heap<V> {
         ensures { result ≡ [] }
     {
         Heap {
-            objects: Vec::new(alloc),
+            first: Page::new(alloc),
+            rest: Pages::new(alloc),
+            count: 0,
         }
     }
 
     /// How many objects there are.
-    #[tactic(auto, using(crate::proofs::Objects::objects_length))]
+    #[inline(always)]
     pub fn count(&self) -> usize
         ensures { result ≡ length self.now }
     {
-        self.objects.len()
+        self.count
     }
 
     /// How many values an object holds.
@@ -147,6 +161,17 @@ impl<V: Element> Heap<V> {
         }
     }
 
+    /// What an array holds for its only subscript, if it has such an element. Takes no memory.
+    #[inline(always)]
+    pub fn element(&self, object: usize, subscript: i64) -> Option<&V>
+        ensures { option_copied result ≡ element_in (subscript ∷ []) (slice_get self.now object) }
+    {
+        match self.object(object) {
+            Some(Object::Array(array)) => array.get(array.place_of_one(subscript)?),
+            _ => None,
+        }
+    }
+
     /// Where the entry of a table's key stands, if that key was ever assigned; what isn't a table has none. Takes no memory.
     #[inline(always)]
     pub fn index_of(&self, object: usize, key: &Key) -> Option<usize>
@@ -181,11 +206,11 @@ impl<V: Element> Heap<V> {
             ≡ put_at object (with_value_for key value (slice_get self.old object)) self.old }
         ensures nowhere { result ≡ false → self.new ≡ self.old }
     {
-        if object >= self.objects.len() {
-            return false;
+        if object < self.first.count() {
+            return self.first.put_entry(object, index, value);
         }
-        let stored = self.objects[object].put_entry(index, value);
-        stored
+        self.rest
+            .put_entry(object - self.first.count(), index, value)
     }
 
     /// Stores a value in an element of an array that is written, if one is there. Takes no memory.
@@ -195,11 +220,11 @@ impl<V: Element> Heap<V> {
             → put_at object (with_element index value (slice_get self.old object)) self.old ≡ Some self.new }
         ensures nowhere { result ≡ false → self.new ≡ self.old }
     {
-        if object >= self.objects.len() {
-            return false;
+        if object < self.first.count() {
+            return self.first.put_written(object, index, value);
         }
-        let stored = self.objects[object].put_written(index, value);
-        stored
+        self.rest
+            .put_written(object - self.first.count(), index, value)
     }
 
     /// The place of a record's field, by its name. Takes no memory.
@@ -232,11 +257,10 @@ impl<V: Element> Heap<V> {
         ensures nowhere { IfOk result (λ stored. stored ≡ false → self.new ≡ self.old) }
         ensures refused { OnErr result (self.new ≡ self.old) }
     {
-        if object >= self.objects.len() {
-            return Ok(false);
+        if object < self.first.count() {
+            return self.first.set(object, place, value);
         }
-        let stored = self.objects[object].set(place, value)?;
-        Ok(stored)
+        self.rest.set(object - self.first.count(), place, value)
     }
 
     /// A new array with this value everywhere; its number. Bounds that no array may have are refused by `None`.
@@ -328,37 +352,46 @@ impl<V: Element> Heap<V> {
 
     /// Gives back each object without a mark: an empty table stands in its place. Numbers past the marks have one. Takes
     /// no memory.
-    pub fn clear(&mut self, alloc: Global, marks: &[bool])
-        ensures { self.new ≡ cleared (marked_by marks.now) self.old }
+    pub fn clear(&mut self, alloc: Global, marks: &Marks)
+        ensures { self.new ≡ cleared (marks_in marks.now) self.old }
     {
-        for i in 0..self.objects.len() {
-            if i < marks.len() && !marks[i] {
-                self.objects[i].clear(alloc);
-            }
-        }
+        self.first.clear(alloc, marks, 0);
+        self.rest.clear(alloc, marks, self.first.count());
+    }
+
+    /// How much is held, told in values: what objects hold, and the room for objects. No contract speaks of it.
+    pub fn held_size(&self) -> usize {
+        self.rest.held_size().saturating_add(self.first.held_size())
     }
 
     /// The object of this number.
     #[inline(always)]
-    #[tactic(auto, using(crate::proofs::Objects::objects_at, crate::proofs::Objects::objects_past))]
     pub(crate) fn object(&self, number: usize) -> Option<&Object<V>>
         ensures { option_map object_of (option_copied result) ≡ slice_get self.now number }
     {
-        if number >= self.objects.len() {
-            return None;
+        if number < self.first.count() {
+            return self.first.object(number);
         }
-        Some(&self.objects[number])
+        self.rest.object(number - self.first.count())
     }
 
     // One more object; its number.
-    #[tactic(auto, using(crate::proofs::Objects::objects_push, crate::proofs::Objects::objects_length))]
     fn add(&mut self, object: Object<V>) -> Result<usize, AllocError>
         ensures number { IfOk result (λ made. made ≡ length self.old) }
         ensures made { OnOk result (self.new ≡ self.old ++ object_of object ∷ []) }
         ensures refused { OnErr result (self.new ≡ self.old) }
     {
-        let number = self.objects.len();
-        self.objects.push(object)?;
+        let number = self.count;
+        let Some(next) = number.checked_add(1) else {
+            return Err(AllocError);
+        };
+        if number < FIRST && number == self.first.count() {
+            self.first.push(object)?;
+            self.count = next;
+            return Ok(number);
+        }
+        self.rest.push(object)?;
+        self.count = next;
         Ok(number)
     }
 }

@@ -1,53 +1,64 @@
 //! Marks of objects.
 
-ghost use Rattle.std.specs.Prelude.{◌≡◌, ◌∷◌, ◌++◌, [], true, IfOk, OnOk, MatchOption};
+ghost use Rattle.std.specs.Prelude.{◌≡◌, ℕ, ◌+◌, ◌*◌, ◌<◌, ◌∷◌, ◌++◌, [], true, false, IfOk, OnOk, MatchOption};
 ghost use Rattle.aggregates.specs.Marked.{HasMarked, marks_in, unmarked};
 
+use crate::flags::{Flags, PAGE};
 use std::alloc::{AllocError, Global};
 use std::marker::Model;
 
 /// Which objects are marked, and which of those wait to be looked into.
 #[derive(Drop)]
 pub struct Marks {
-    marked: Vec<bool>,
+    // The marks, in pages. Where none of a page is set nothing is held.
+    pages: Vec<Flags>,
+    // How many objects there are.
+    count: usize,
+    // What waits.
     waiting: Vec<usize>,
 }
 
 impl Model for Marks {
     ghost use Rattle.aggregates.specs.Marked.{MarksView};
+    ghost use Rattle.aggregates.specs.Paged.{paged};
+    ghost use Rattle.std.specs.Prelude.{take, false, ◌≤◌, ◌*◌, length};
 
     ghost Value = { MarksView };
 
-    ghost view = { λ m. record { marked = m.marked.items; waiting = m.waiting.items } };
+    ghost view = { λ m. record { marked = take m.count (paged false 512 m.pages.items); waiting = m.waiting.items } };
+
+    ghost invariant = { λ m. m.count ≤ 512 * length m.pages.items };
 }
 
 impl Marks {
     /// No mark on any of so many objects.
-    #[tactic(auto, using(crate::proofs::Marking::one_more))]
     pub fn none(alloc: Global, count: usize) -> Result<Marks, AllocError>
         ensures { IfOk result (λ marks. marks ≡ unmarked count) }
     {
-        let mut marked = Vec::with_capacity(alloc, count)?;
-        for _number in 0..count {
-            marked.push(false)?;
+        let mut pages = Vec::with_capacity(alloc, count / PAGE + 1)?;
+        for _page in 0..count / PAGE + 1 {
+            pages.push(Flags::new(alloc))?;
         }
         Ok(Marks {
-            marked,
+            pages,
+            count,
             waiting: Vec::new(alloc),
         })
     }
 
-    /// Marks an object, which waits from then on if it had no mark. A number past the marks has one.
-    #[inline(always)]
+    /// Marks an object, which waits from then on if it had no mark. A number past the objects has no mark of its own.
     pub fn mark(&mut self, number: usize) -> Result<(), AllocError>
         ensures marked { OnOk result (marks_in self.new number ≡ true) }
         ensures grown { OnOk result (HasMarked self.old self.new) }
     {
-        if number >= self.marked.len() || self.marked[number] {
+        if number >= self.count {
+            return Ok(());
+        }
+        if self.pages[number / PAGE].is_set(number % PAGE) {
             return Ok(());
         }
         self.waiting.push(number)?;
-        self.marked[number] = true;
+        self.pages[number / PAGE].set(number % PAGE)?;
         Ok(())
     }
 
@@ -59,10 +70,36 @@ impl Marks {
         self.waiting.pop()
     }
 
-    /// The marks, by the numbers of the objects.
-    pub fn as_slice(&self) -> &[bool]
-        ensures { result.now ≡ self.now.marked }
+    /// Whether an object has a mark. A number past the objects has one.
+    pub fn has(&self, number: usize) -> bool
+        ensures { result ≡ marks_in self.now number }
     {
-        self.marked.as_slice()
+        self.is_marked(number, 0)
+    }
+
+    /// Whether the object of the number `first + index` has a mark. A number past the marks has one.
+    #[inline(always)]
+    pub(crate) fn is_marked(&self, first: usize, index: usize) -> bool
+        ensures { result ≡ marks_in self.now (first + index) }
+    {
+        let count = self.count;
+        let Some(number) = first.checked_add(index) else {
+            return true;
+        };
+        if number >= count {
+            return true;
+        }
+        self.pages[number / PAGE].is_set(number % PAGE)
+    }
+
+    /// Whether no object of a page has a mark and each might have one, if a page begins with this number.
+    pub(crate) fn has_none(&self, first: usize) -> bool
+        ensures { result ≡ true → (j : ℕ) → j < 512 → marks_in self.now (first + j) ≡ false }
+    {
+        let page = first / PAGE;
+        if first % PAGE != 0 || page >= self.count / PAGE {
+            return false;
+        }
+        self.pages[page].is_empty()
     }
 }

@@ -22,8 +22,8 @@ pub(crate) fn put_marked(
     objects: &Heap<Value>,
     marks: &Marks,
 ) -> Result<(), AllocError> {
-    for (object, marked) in marks.as_slice().iter().copied().enumerate() {
-        if marked {
+    for object in 0..objects.count() {
+        if marks.has(object) {
             put_whole(out, objects, object)?;
         }
     }

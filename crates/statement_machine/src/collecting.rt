@@ -15,10 +15,6 @@ use world::{World, mark_values};
 /// How much objects hold that are made before any is given back.
 const LEAST: usize = 1 << 16;
 
-/// Each number counts as so many values among what stays. All numbers are gone through when objects are given back, so the
-/// work stays a fixed part of what is made.
-const EACH_NUMBER: usize = 3;
-
 /// When objects are given back: once as much was made as stayed the last time. It counts objects and the values that they
 /// held when they were made.
 #[derive(Clone, Copy)]
@@ -58,17 +54,6 @@ impl CollectionSchedule {
         self.made = 0;
         self.due = stayed.max(LEAST);
     }
-}
-
-// How much stays: the numbers of all objects, and what those hold that have a mark.
-fn marked_size(world: &World, marks: &Marks) -> usize {
-    let mut size = world.object_count().saturating_mul(EACH_NUMBER);
-    for (object, marked) in marks.as_slice().iter().enumerate() {
-        if *marked {
-            size = size.saturating_add(world.object_size(object));
-        }
-    }
-    size
 }
 
 // The marks of the objects that a state reaches, if there is room for marks.
@@ -112,7 +97,7 @@ impl Run {
             return;
         };
         self.state.world.drop_unmarked(self.state.alloc, &marks);
-        let stayed = marked_size(&self.state.world, &marks);
+        let stayed = self.state.world.held_size();
         self.pace.begin(stayed);
     }
 

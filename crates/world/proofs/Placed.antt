@@ -1,6 +1,7 @@
 -- Elements by their places, and values of tables by their keys.
 use Rattle.std.proofs.Common.{◌≡◌, ℕ, ℤ, List, [], ◌∷◌, Option, None, Some, Bool, true, refl, sym, ap, ◌∙◌}
 use Rattle.std.specs.Prelude.{slice_get, option_map}
+use Rattle.std.proofs.lemmas.Option.{none-some}
 use Rattle.model.specs.Deck.Target as target
 use Rattle.model.specs.Deck.Target.{Element, IntegerKey, StringKey}
 use Rattle.model.specs.Deck.Trees.{Bytes}
@@ -13,7 +14,7 @@ use Rattle.model.specs.Language.Values.{ArrayOf, Int, IntegerAt, Key, Obj, Objec
 use Rattle.model.specs.Language.Operators.{assign_op, element_of, entry_of, fetch_op, there, with_value_for}
 use Rattle.model.specs.Machine.Steps.{MVal, MW}
 use Rattle.aggregates.specs.Made.{kind_of}
-use Rattle.aggregates.specs.Objects.{if_stored, index_in, place_in, put_at, value_in}
+use Rattle.aggregates.specs.Objects.{element_at, element_in, if_stored, index_in, place_in, put_at, value_in}
 use Rattle.aggregates.specs.declared.place.Key.TheVariants as held
 use Rattle.aggregates.specs.declared.place.Place.TheVariants as place
 use Rattle.aggregates.specs.declared.object.Kind.{Kind}
@@ -46,9 +47,13 @@ module _ (h : WorldView) (os : List (Object Value)) (same : os ≡ h.objects) (k
       ∙ ap (λ x. element_op (Obj k) (value_of x ∷ []) (world_of h io)) subscript
       ∙ placed_item h os io k same z i (ap (λ y. place_in (y ∷ []) (slice_get os k)) (sym number) ∙ sym place)
 
-  -- an array has it for its only subscript
-  pub array_holds : (b s v : Value) (z z' : ℤ) → b ≡ value.Object k → s ≡ value.Integer z → z' ≡ z → Some i ≡ place_in (z' ∷ []) (slice_get os k) → Some v ≡ element_of (slice_get os k) i → HoldsAt (value_of b) (value_of s) (value_of v) h
-  array_holds b s v z z' base subscript number place is = (Element k i, λ io. (array_named b s z z' base subscript number place io, element_held io v is))
+-- an array has it for its only subscript
+pub element_holds : (h : WorldView) (os : List (Object Value)) → os ≡ h.objects → (k : ℕ) (z z' : ℤ) (v : Value) → z' ≡ z → Some v ≡ element_in (z' ∷ []) (slice_get os k) → HoldsAt (Obj k) (Int z) (value_of v) h
+element_holds h os same k z z' v number e = by (place_in (z' ∷ []) (slice_get os k)) refl e
+  where
+    by : (r : Option ℕ) → place_in (z' ∷ []) (slice_get os k) ≡ r → Some v ≡ element_at r (slice_get os k) → HoldsAt (Obj k) (Int z) (value_of v) h
+    by None is f = absurd (none-some _ (sym f))
+    by (Some i) is f = (Element k i, λ io. (array_named h os same k i (value.Object k) (value.Integer z) z z' refl refl number (sym is) io, element_held h os same k i io v f))
 
 -- what is set by one name is set by the same one
 pub name_set : (n m : Name) (v : MVal) (h new : WorldView) → n ≡ m → ((io : Io) → assign_op (name_of m) v (world_of h io) ≡ Gives (record {}) (world_of new io)) → (io : Io) → assign_op (name_of n) v (world_of h io) ≡ Gives (record {}) (world_of new io)

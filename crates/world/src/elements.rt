@@ -151,40 +151,13 @@ impl World {
         stored
     }
 
-    // The value of a table for a key that was assigned.
-    #[inline(never)]
-    fn held_for(&self, object: usize, key: &Text) -> Option<&Value>
-        ensures { IfSome result (λ value.
-            HoldsAt (Obj object) (Str key.now) (value_of value.now) self.now) }
-    {
-        let Ok(key) = key.clone() else {
-            return None;
-        };
-        let Some(value) = self.heap.get(object, &Place::Key(Key::String(key))) else {
-            return None;
-        };
-        Some(value)
-    }
-
-    /// The value of an element, by an array and an integer or a table and a string; what isn't so has none here.
+    /// What an array holds for its only subscript; what isn't an array has nothing here.
     #[inline(always)]
-    pub fn held(&self, base: &Value, subscript: &Value) -> Option<&Value>
+    pub fn element_in(&self, object: usize, subscript: i64) -> Option<&Value>
         ensures { IfSome result (λ value.
-            HoldsAt (value_of base.now) (value_of subscript.now) (value_of value.now) self.now) }
+            HoldsAt (Obj object) (Int subscript) (value_of value.now) self.now) }
     {
-        let Value::Object(object) = base else {
-            return None;
-        };
-        let Value::Integer(n) = subscript else {
-            let Value::String(key) = subscript else {
-                return None;
-            };
-            return self.held_for(*object, key);
-        };
-        let Some(index) = self.heap.place_of_one(*object, *n) else {
-            return None;
-        };
-        let Some(value) = self.heap.get(*object, &Place::Element(index)) else {
+        let Some(value) = self.heap.element(object, subscript) else {
             return None;
         };
         Some(value)

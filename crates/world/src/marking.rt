@@ -109,6 +109,11 @@ impl World {
         Marks::none(alloc, self.heap.count())
     }
 
+    /// How much objects hold, told in values. No contract speaks of it.
+    pub fn held_size(&self) -> usize {
+        self.heap.held_size()
+    }
+
     /// Marks the objects that variables hold.
     pub fn mark_variables(&self, marks: &mut Marks) -> Result<(), AllocError>
         ensures lives { OnOk result (VariablesLive self.now marks.new) }
@@ -157,6 +162,6 @@ impl World {
     pub fn drop_unmarked(&mut self, alloc: Global, marks: &Marks)
         ensures { self.new ≡ without_unmarked self.old marks.now }
     {
-        self.heap.clear(alloc, marks.as_slice());
+        self.heap.clear(alloc, marks);
     }
 }

@@ -1,40 +1,29 @@
-use Rattle.std.proofs.Common.{◌≡◌, ◌≤◌, length, refl, sym, ap, ◌∙◌, true, false, arith}
+use Rattle.std.proofs.Common.{◌≡◌, ◌+◌, ◌++◌, ℕ, length, ap, arith, refl, sym, ◌∙◌}
 use Rattle.model.specs.Machine.Living.{cleared}
-use Rattle.aggregates.specs.Made.{objects_of, marked_by}
-use Rattle.aggregates.proofs.Objects.{objects_length}
-use Rattle.aggregates.proofs.Clearing.{none_cleared, all_cleared, kept_on, cleared_on, set_length, mark_at, mark_past}
+use Rattle.aggregates.specs.Marked.{marks_in}
+use Rattle.aggregates.proofs.Clearing.{cleared_append, cleared_long, cleared_same}
 use Rattle.aggregates.proofs.heap.Heap.clear.Goals as goal
-use Rattle.aggregates.proofs.heap.Heap.clear.Goals.{then-i-marks+then-not-marks-i, else-i-marks, else-i-marks-via-then-i-marks+else-not-marks-i, else-i-marks-via-else-i-marks}
 
-pub loop-i-init : goal.loop-i-init
-loop-i-init g c = (sym (none_cleared (marked_by c.args.marks.now) (objects_of c.self.inside.objects.items)), refl)
+pub clear-requires-2 : goal.clear-requires-2
+clear-requires-2 g c =
+    let long = ap length c.clear.ensures ∙ cleared_long (λ j. marks_in c.args.marks.now (0 + j)) c.self.inside.first in
+    omega (arith, long, c.self.invariant)
 
-pub loop-i-preserved : goal.loop-i-preserved
-loop-i-preserved g c =
-    let xs = c.loop-i.self-inside.objects.items in
-    let ys = c.if-i-marks.self-inside.objects.items in
-    let os = objects_of c.self.inside.objects.items in
-    let i = c.loop-i.i in
+pub invariant_of-self : goal.invariant_of-self
+invariant_of-self g c =
     let marks = c.args.marks.now in
-    elim c.if-i-marks.branch [
-      | then-i-marks+then-not-marks-i w ↦ (
-        cleared_on xs ys i w.clear.new.self (marked_by marks) os (ap (λ s. objects_of s.objects.items) w.self-inside-is) w.clear.ensures (mark_at marks i false w.if-i-marks.true w.if-not-marks-i.true) c.loop-i.invariant.0,
-        ap (λ s. length s.objects.items) w.self-inside-is ∙ set_length xs i w.clear.new.self ∙ c.loop-i.invariant.1,
-      )
-      | else-i-marks w ↦
-          let same : objects_of ys ≡ objects_of xs = ap (λ s. objects_of s.objects.items) w.self-inside-is in
-          let long : length ys ≡ length c.self.inside.objects.items = ap (λ s. length s.objects.items) w.self-inside-is ∙ c.loop-i.invariant.1 in
-          elim w.else-i-marks.branch [
-            | else-i-marks-via-then-i-marks+else-not-marks-i v ↦ (kept_on xs ys i (marked_by marks) os same (mark_at marks i true v.if-i-marks.true v.if-not-marks-i.false) c.loop-i.invariant.0, long)
-            | else-i-marks-via-else-i-marks v ↦ (kept_on xs ys i (marked_by marks) os same (mark_past marks i v.if-i-marks.false) c.loop-i.invariant.0, long)
-          ]
-    ]
+    let first = ap length c.clear.ensures ∙ cleared_long (λ j. marks_in marks (0 + j)) c.self.inside.first in
+    let rest = ap length c.clear-2.ensures ∙ cleared_long (λ j. marks_in marks (c.count.result + j)) c.self.inside.rest in
+    omega (arith, first, rest, c.self.invariant)
 
 pub returns : goal.returns
 returns g c =
-    let os = objects_of c.self.inside.objects.items in
-    let marks = marked_by c.args.marks.now in
-    let same = objects_length c.self.inside.objects.items in
-    let all : length os ≤ c.loop-i.i = grind (arith, same, c.len-i-end.ensures, c.loop-i-test.false) in
-    let by : objects_of c.loop-i.self-inside.objects.items ≡ cleared marks os = c.loop-i.invariant.0 ∙ all_cleared c.loop-i.i marks os all in
-    by ∙ ap (cleared marks) c.self.view_is
+    let marks = c.args.marks.now in
+    let xs = c.self.inside.first in
+    let ys = c.self.inside.rest in
+    let long = ap length c.clear.ensures ∙ cleared_long (λ j. marks_in marks (0 + j)) xs in
+    let zero : (j : ℕ) → 0 + j ≡ j = λ j. omega arith in
+    let count : c.count.result ≡ length xs = omega (arith, long) in
+    ap (λ zs. zs ++ c.clear-2.new.self) (c.clear.ensures ∙ cleared_same (λ j. marks_in marks (0 + j)) (marks_in marks) xs (λ j lt. ap (marks_in marks) (zero j)))
+    ∙ ap (λ zs. cleared (marks_in marks) xs ++ zs) (c.clear-2.ensures ∙ cleared_same (λ j. marks_in marks (c.count.result + j)) (λ j. marks_in marks (length xs + j)) ys (λ j lt. ap (λ n. marks_in marks (n + j)) count))
+    ∙ sym (cleared_append (marks_in marks) (λ j. marks_in marks (length xs + j)) xs ys (λ k lt. refl)) ∙ ap (cleared (marks_in marks)) c.self.view_is

@@ -1,20 +1,33 @@
-use Rattle.std.proofs.Common.{◌≡◌, Some, ap, arith, slice_get, sym, ◌∙◌}
+use Rattle.std.proofs.Common.{◌≡◌, ◌<◌, ◌+◌, ◌-◌, ◌++◌, length, ap, arith, sym, ◌∙◌}
+use Rattle.std.specs.Prelude.{slice_get}
 use Rattle.model.specs.Language.Operators.{with_value_for}
-use Rattle.aggregates.specs.Made.{object_of}
-use Rattle.aggregates.specs.Objects.{index_in}
-use Rattle.aggregates.proofs.Objects.{objects_at, objects_same, objects_stored}
+use Rattle.aggregates.specs.Objects.{index_in, put_at}
+use Rattle.aggregates.proofs.Paging.{get_before, get_behind, stored_before, stored_behind}
 use Rattle.aggregates.proofs.heap.Heap.put_entry.Goals as goal
+
+pub returns-then-object-count-clause-stored : goal.returns-then-object-count-clause-stored
+returns-then-object-count-clause-stored g c key is =
+    let xs = c.self.inside.first in
+    let ys = c.self.inside.rest in
+    let k = c.args.object in
+    let lt : k < length xs = omega arith in
+    let f = with_value_for key c.args.value in
+    let found = ap (index_in key) (sym (get_before xs ys k lt)) ∙ ap (λ os. index_in key (slice_get os k)) c.self.view_is ∙ is in
+    stored_before xs ys c.put_entry.new.self k c.put_entry.result f lt (c.put_entry.ensures.stored key found) ∙ ap (λ os. put_at k (f (slice_get os k)) os) c.self.view_is
 
 pub returns-clause-stored : goal.returns-clause-stored
 returns-clause-stored g c key is =
-    let xs = c.self.inside.objects.items in
+    let xs = c.self.inside.first in
+    let ys = c.self.inside.rest in
     let k = c.args.object in
-    let here = c.index_mut.result.now in
-    let there : slice_get c.args.self.now k ≡ Some (object_of here) =
-    sym (ap (λ ys. slice_get ys k) c.self.view_is) ∙ objects_at xs k here (omega arith) ∙ ap (λ y. Some (object_of y)) (sym c.index_mut.ensures.value) in
-    objects_stored xs c.args.self.now k c.put_entry-stored.new.self here c.put_entry-stored.result (with_value_for key c.args.value) c.self.view_is (omega arith)
-    (c.put_entry-stored.ensures.stored key (ap (index_in key) (sym there) ∙ is) ∙ ap (λ y. with_value_for key c.args.value (Some (object_of y))) c.index_mut.ensures.value)
+    let j = k - c.count-2.result in
+    let at : k ≡ length xs + j = omega arith in
+    let f = with_value_for key c.args.value in
+    let found = ap (index_in key) (sym (get_behind xs ys k j at)) ∙ ap (λ os. index_in key (slice_get os k)) c.self.view_is ∙ is in
+    stored_behind xs ys c.put_entry-2.new.self k j c.put_entry-2.result f at (c.put_entry-2.ensures.stored key found) ∙ ap (λ os. put_at k (f (slice_get os k)) os) c.self.view_is
 
-pub returns-clause-nowhere : goal.returns-clause-nowhere
-returns-clause-nowhere g c e =
-    objects_same c.self.inside.objects.items c.args.object c.put_entry-stored.new.self c.index_mut.result.now (omega arith) (c.put_entry-stored.ensures.nowhere e ∙ ap object_of c.index_mut.ensures.value) ∙ c.self.view_is
+pub invariant_of-self : goal.invariant_of-self
+invariant_of-self g c = let long = c.put_entry.ensures.long in omega (arith, long, c.self.invariant)
+
+pub invariant_of-self-2 : goal.invariant_of-self-2
+invariant_of-self-2 g c = let long = c.put_entry-2.ensures.long in omega (arith, long, c.self.invariant)

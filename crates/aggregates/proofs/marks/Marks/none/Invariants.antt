@@ -1,6 +1,6 @@
-use Rattle.std.proofs.Common.{◌≡◌, false}
+use Rattle.std.proofs.Common.{◌≡◌, []}
 use Rattle.std.specs.Prelude.{replicate}
 use Rattle.aggregates.proofs.marks.Marks.none.Given as goal
 
-abbrev pub invariant-loop-number : goal.invariant-loop-number
-invariant-loop-number l = l.marked.items ≡ replicate l._number false
+abbrev pub invariant-loop-page : goal.invariant-loop-page
+invariant-loop-page l = l.pages.items ≡ replicate l._page []

@@ -1,0 +1,18 @@
+use Rattle.std.proofs.Common.{◌≡◌, ◌<◌, ◌*◌, ◌/◌, ◌%◌, ◌+◌, length, false, ap, arith, sym, ◌∙◌}
+use Rattle.std.specs.Prelude.{slice_index_or}
+use Rattle.aggregates.specs.Marked.{marks_in}
+use Rattle.aggregates.proofs.Paging.{marked_at, start, start_is}
+use Rattle.aggregates.proofs.marks.Marks.has_none.Goals as goal
+
+pub returns : goal.returns
+returns c is j less =
+    let first = c.args.first in
+    let i = first / 512 in
+    let ps = c.self.inside.pages.items in
+    let p = c.index.result.now in
+    let s = start_is i in
+    let lt : first + j < c.self.inside.count = omega arith in
+    let at : first + j ≡ start 512 i + j = omega (arith, s) in
+    let there : i < length ps = omega arith in
+    ap (λ m. marks_in m (first + j)) (sym c.self.view_is)
+    ∙ marked_at c.self.inside.count i j (first + j) ps p p lt at less there (sym c.index.ensures) ∙ ap (λ q. slice_index_or q j false) (c.is_empty.ensures is)

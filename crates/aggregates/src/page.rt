@@ -1,0 +1,206 @@
+//! A page of objects: those that have numbers one after the other.
+
+ghost use Rattle.std.specs.Prelude.{◌≡◌, ◌<◌, ◌+◌, ◌++◌, ◌∷◌, [], length, slice_get, slice_set, Some, true, false, IfOk, OnOk, OnErr, option_map};
+ghost use Rattle.std.specs.Option.{option_copied};
+ghost use Rattle.model.specs.Language.Operators.{with_element, with_value_for};
+ghost use Rattle.model.specs.Language.Values as values;
+ghost use Rattle.model.specs.Machine.Living.{cleared};
+ghost use Rattle.aggregates.specs.Made.{object_of};
+ghost use Rattle.aggregates.specs.Marked.{marks_in};
+ghost use Rattle.aggregates.specs.Objects.{stored_at, put_at, if_stored, index_in};
+ghost use Rattle.aggregates.specs.Paged.{whole};
+
+use crate::element::Element;
+use crate::marks::Marks;
+use crate::object::Object;
+use crate::place::Place;
+use crate::table::Table;
+use std::alloc::{AllocError, Global};
+use std::marker::Model;
+
+/// As how many values the room for an object counts.
+const EACH_PLACE: usize = 2;
+
+/// Objects by their places in the page. Contracts see the list of them; behind those an empty table stands at each place.
+#[derive(Drop)]
+pub(crate) struct Page<V> {
+    objects: Vec<Object<V>>,
+}
+
+impl<V> Model for Page<V> {
+    ghost use Rattle.std.specs.Prelude.{List};
+    ghost use Rattle.model.specs.Language.Values as values;
+
+    ghost Value = { List (values.Object V) };
+
+    ghost use Rattle.aggregates.specs.Made.{objects_of};
+
+    ghost view = { λ p. objects_of p.objects.items };
+}
+
+impl<V: Element> Page<V> {
+    /// The page without objects. Takes no memory.
+    pub(crate) fn new(alloc: Global) -> Page<V>
+        ensures { result ≡ [] }
+    {
+        Page {
+            objects: Vec::new(alloc),
+        }
+    }
+
+    /// How many objects are held.
+    #[inline(always)]
+    #[tactic(auto, using(crate::proofs::Objects::objects_length))]
+    pub(crate) fn count(&self) -> usize
+        ensures { result ≡ length self.now }
+    {
+        self.objects.len()
+    }
+
+    /// The object that is held at a place.
+    #[inline(always)]
+    #[tactic(auto, using(crate::proofs::Objects::objects_at, crate::proofs::Objects::objects_past))]
+    pub(crate) fn object(&self, place: usize) -> Option<&Object<V>>
+        ensures { option_map object_of (option_copied result) ≡ slice_get self.now place }
+    {
+        if place >= self.objects.len() {
+            return None;
+        }
+        Some(&self.objects[place])
+    }
+
+    /// Stores a value in the entry of a table that stands at an index, if one stands there. Takes no memory.
+    #[inline(always)]
+    pub(crate) fn put_entry(&mut self, object: usize, index: usize, value: V) -> bool
+        ensures stored { (key : values.Key) → index_in key (slice_get self.old object) ≡ Some index
+            → if_stored result self.new
+            ≡ put_at object (with_value_for key value (slice_get self.old object)) self.old }
+        ensures nowhere { result ≡ false → self.new ≡ self.old }
+        ensures long { length self.new ≡ length self.old }
+    {
+        if object >= self.objects.len() {
+            return false;
+        }
+        let stored = self.objects[object].put_entry(index, value);
+        stored
+    }
+
+    /// Stores a value in an element of an array that is written, if one is there. Takes no memory.
+    #[inline(always)]
+    pub(crate) fn put_written(&mut self, object: usize, index: usize, value: V) -> bool
+        ensures stored { result ≡ true
+            → put_at object (with_element index value (slice_get self.old object)) self.old ≡ Some self.new }
+        ensures nowhere { result ≡ false → self.new ≡ self.old }
+        ensures long { length self.new ≡ length self.old }
+    {
+        if object >= self.objects.len() {
+            return false;
+        }
+        let stored = self.objects[object].put_written(index, value);
+        stored
+    }
+
+    /// Stores a value at a place of an object, if it has that place. A table may take memory, and so may an
+    /// array that was copied.
+    #[inline(always)]
+    pub(crate) fn set(&mut self, object: usize, place: Place, value: V) -> Result<bool, AllocError>
+        ensures stored { IfOk result (λ stored.
+            if_stored stored self.new
+            ≡ put_at object (stored_at place value (slice_get self.old object)) self.old) }
+        ensures nowhere { IfOk result (λ stored. stored ≡ false → self.new ≡ self.old) }
+        ensures refused { OnErr result (self.new ≡ self.old) }
+        ensures long { length self.new ≡ length self.old }
+    {
+        if object >= self.objects.len() {
+            return Ok(false);
+        }
+        let stored = self.objects[object].set(place, value)?;
+        Ok(stored)
+    }
+
+    /// Holds an object at each place up to this one: an empty table stands where none was held.
+    #[inline(always)]
+    pub(crate) fn hold(&mut self, place: usize) -> Result<(), AllocError>
+        requires { place < 512 }
+        ensures same { whole self.new ≡ whole self.old }
+        ensures held { OnOk result (place < length self.new) }
+    {
+        if place < self.objects.len() {
+            return Ok(());
+        }
+        self.hold_more(place)
+    }
+
+    // The same of a place where none is held.
+    #[cold]
+    #[inline(never)]
+    fn hold_more(&mut self, place: usize) -> Result<(), AllocError>
+        requires { place < 512 }
+        ensures same { whole self.new ≡ whole self.old }
+        ensures held { OnOk result (place < length self.new) }
+    {
+        let alloc = *self.objects.allocator();
+        for _place in self.objects.len()..place + 1 {
+            self.objects.push(Object::Table(Table::new(alloc)))?;
+        }
+        Ok(())
+    }
+
+    /// One more object.
+    #[inline(always)]
+    #[tactic(auto, using(crate::proofs::Objects::objects_push))]
+    pub(crate) fn push(&mut self, object: Object<V>) -> Result<(), AllocError>
+        ensures made { OnOk result (self.new ≡ self.old ++ object_of object ∷ []) }
+        ensures refused { OnErr result (self.new ≡ self.old) }
+    {
+        self.objects.push(object)?;
+        Ok(())
+    }
+
+    /// Another object at a place.
+    #[inline(always)]
+    pub(crate) fn place(&mut self, place: usize, object: Object<V>) -> Result<(), AllocError>
+        requires { place < 512 }
+        ensures placed { OnOk result (whole self.new ≡ slice_set (whole self.old) place (object_of object)) }
+        ensures refused { OnErr result (whole self.new ≡ whole self.old) }
+    {
+        if place == self.objects.len() {
+            self.objects.push(object)?;
+            return Ok(());
+        }
+        self.hold(place)?;
+        self.objects[place] = object;
+        Ok(())
+    }
+
+    /// Gives back each object without a mark: an empty table stands in its place. Their numbers begin with this one.
+    pub(crate) fn clear(&mut self, alloc: Global, marks: &Marks, first: usize)
+        ensures { self.new ≡ cleared (λ j. marks_in marks.now (first + j)) self.old }
+    {
+        for i in 0..self.objects.len() {
+            if !marks.is_marked(first, i) {
+                self.objects[i].clear(alloc);
+            }
+        }
+    }
+
+    /// The same, for a page: it holds nothing from then on where none of its objects has a mark. Takes no memory.
+    pub(crate) fn give_back(&mut self, alloc: Global, marks: &Marks, first: usize)
+        ensures { whole self.new ≡ cleared (λ j. marks_in marks.now (first + j)) (whole self.old) }
+    {
+        if marks.has_none(first) {
+            *self = Page::new(alloc);
+            return;
+        }
+        self.clear(alloc, marks, first);
+    }
+
+    /// How much is held, told in values. No contract speaks of it.
+    pub(crate) fn held_size(&self) -> usize {
+        let mut size = self.objects.len().saturating_mul(EACH_PLACE);
+        for object in self.objects.as_slice() {
+            size = size.saturating_add(object.size());
+        }
+        size
+    }
+}
