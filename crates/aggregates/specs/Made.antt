@@ -6,8 +6,8 @@ use Rattle.model.specs.Language.Aggregates.{row_count}
 use Rattle.aggregates.specs.Keys.{table_rows}
 use Rattle.aggregates.specs.declared.object.Object as held
 use Rattle.aggregates.specs.declared.object.Object.TheVariants as o
-use Rattle.aggregates.specs.declared.object.Kind.{Kind}
-use Rattle.aggregates.specs.declared.object.Kind.TheVariants as kind
+use Rattle.aggregates.specs.declared.object.ObjectKind.{ObjectKind}
+use Rattle.aggregates.specs.declared.object.ObjectKind.TheVariants as kind
 
 module _ {V : Type 0} where
   abbrev pub object_of : held.Object V → Object V
@@ -18,7 +18,7 @@ module _ {V : Type 0} where
   abbrev pub objects_of : List (held.Object V) → List (Object V)
   objects_of xs = map object_of xs
 
-  abbrev pub kind_of : Object V → Kind
+  abbrev pub kind_of : Object V → ObjectKind
   kind_of (ArrayOf bs vs) = kind.Array
   kind_of (TableOf es) = kind.Table
   kind_of (RecordOf t fs vs) = kind.Record

@@ -5,8 +5,8 @@ use Rattle.model.specs.Deck.Trees.{Bytes}
 use Rattle.model.specs.Language.Aggregates.{place_from, index_of}
 use Rattle.model.specs.Language.Operators.{element_of, with_element, with_value_for, with_item}
 use Rattle.aggregates.specs.Keys.{index_at, key_of, value_at}
-use Rattle.aggregates.specs.declared.place.Place.{Place}
-use Rattle.aggregates.specs.declared.place.Place.TheVariants as place
+use Rattle.aggregates.specs.declared.place.ElementPlace.{ElementPlace}
+use Rattle.aggregates.specs.declared.place.ElementPlace.TheVariants as place
 
 -- what is there now, if it was stored
 abbrev pub if_stored : {A : Type 0} → Bool → A → Option A
@@ -23,11 +23,11 @@ module _ {V : Type 0} where
   index_in k (Some (TableOf es)) = index_at k es
   index_in k _ = None
 
-  abbrev pub held_at : Place → Option (Object V) → Option V
+  abbrev pub held_at : ElementPlace → Option (Object V) → Option V
   held_at (place.Element i) o = element_of o i
   held_at (place.Key k) o = value_in (key_of k) o
 
-  abbrev pub stored_at : Place → V → Option (Object V) → Option (Object V)
+  abbrev pub stored_at : ElementPlace → V → Option (Object V) → Option (Object V)
   stored_at (place.Element i) v o = with_element i v o
   stored_at (place.Key k) v o = with_value_for (key_of k) v o
 

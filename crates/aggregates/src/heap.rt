@@ -20,10 +20,10 @@ use crate::bounds::{Bounds, are_bounds};
 use crate::element::Element;
 use crate::marks::Marks;
 use crate::names::Names;
-use crate::object::{Kind, Object, Record, place_among};
+use crate::object::{Object, ObjectKind, Record, place_among};
 use crate::page::Page;
 use crate::pages::Pages;
-use crate::place::{Key, Place};
+use crate::place::{ElementPlace, Key};
 use crate::table::Table;
 use std::alloc::{AllocError, Global};
 use std::marker::Model;
@@ -104,7 +104,7 @@ impl<V: Element> Heap<V> {
     }
 
     /// Which kind of object has this number, if there is one.
-    pub fn kind(&self, object: usize) -> Option<Kind>
+    pub fn kind(&self, object: usize) -> Option<ObjectKind>
         ensures { result ≡ option_map kind_of (slice_get self.now object) }
     {
         Some(self.object(object)?.kind())
@@ -113,7 +113,7 @@ impl<V: Element> Heap<V> {
     /// What an object holds at a place. Outside an array's bounds, and for a key that was never assigned, it is `None`.
     /// Takes no memory.
     #[inline(always)]
-    pub fn get(&self, object: usize, place: &Place) -> Option<&V>
+    pub fn get(&self, object: usize, place: &ElementPlace) -> Option<&V>
         ensures { option_copied result ≡ held_at place.now (slice_get self.now object) }
     {
         self.object(object)?.get(place)
@@ -250,7 +250,7 @@ impl<V: Element> Heap<V> {
     /// Stores a value at a place of an object, if it has that place. A table may take memory, and so may an
     /// array that was copied.
     #[inline(always)]
-    pub fn set(&mut self, object: usize, place: Place, value: V) -> Result<bool, AllocError>
+    pub fn set(&mut self, object: usize, place: ElementPlace, value: V) -> Result<bool, AllocError>
         ensures stored { IfOk result (λ stored.
             if_stored stored self.new
             ≡ put_at object (stored_at place value (slice_get self.old object)) self.old) }

@@ -5,8 +5,8 @@
 //! stores there.
 //!
 //!     let table = heap.new_table(alloc)?;
-//!     let stored = heap.set(table, Place::Key(Key::Integer(1)), value)?;
-//!     let found = heap.get(table, &Place::Key(Key::Integer(1)));
+//!     let stored = heap.set(table, ElementPlace::Key(Key::Integer(1)), value)?;
+//!     let found = heap.get(table, &ElementPlace::Key(Key::Integer(1)));
 //!
 //! Promised: each call is its function on the definitions' list of objects (`model`'s `Aggregates`), and what memory
 //! refuses leaves the heap as it was. CALLING.md has a row for each call.
@@ -33,5 +33,5 @@ pub use element::Element;
 pub use heap::Heap;
 pub use marks::Marks;
 pub use names::Names;
-pub use object::Kind;
-pub use place::{Key, Place};
+pub use object::ObjectKind;
+pub use place::{ElementPlace, Key};

@@ -13,14 +13,14 @@ use crate::array::Array;
 use crate::element::Element;
 use crate::items::put;
 use crate::names::Names;
-use crate::place::{Key, Place};
+use crate::place::{ElementPlace, Key};
 use crate::table::Table;
 use std::alloc::{AllocError, Global};
 use strings::Text;
 
 /// Which kind of object it is.
 #[derive(Clone, Copy)]
-pub enum Kind {
+pub enum ObjectKind {
     Array,
     Table,
     Record,
@@ -100,25 +100,25 @@ impl<V: Element> Object<V> {
     }
 
     /// Which kind it is.
-    pub(crate) fn kind(&self) -> Kind
+    pub(crate) fn kind(&self) -> ObjectKind
         ensures { result ≡ kind_of (object_of self.now) }
     {
         match self {
-            Object::Array(_) => Kind::Array,
-            Object::Table(_) => Kind::Table,
-            Object::Record(_) => Kind::Record,
+            Object::Array(_) => ObjectKind::Array,
+            Object::Table(_) => ObjectKind::Table,
+            Object::Record(_) => ObjectKind::Record,
         }
     }
 
     /// The value at a place, if there is one. Takes no memory.
     #[inline(always)]
-    pub(crate) fn get(&self, place: &Place) -> Option<&V>
+    pub(crate) fn get(&self, place: &ElementPlace) -> Option<&V>
         ensures { option_copied result ≡ held_at place.now (Some (object_of self.now)) }
     {
         match (self, place) {
-            (Object::Array(array), Place::Element(index)) => array.get(*index),
-            (Object::Table(table), Place::Key(key)) => table.get(key),
-            (Object::Record(record), Place::Element(index)) => record.values.get(*index),
+            (Object::Array(array), ElementPlace::Element(index)) => array.get(*index),
+            (Object::Table(table), ElementPlace::Key(key)) => table.get(key),
+            (Object::Record(record), ElementPlace::Element(index)) => record.values.get(*index),
             _ => None,
         }
     }
@@ -185,7 +185,7 @@ impl<V: Element> Object<V> {
 
     /// Another value at a place, if the object has that place.
     #[inline(always)]
-    pub(crate) fn set(&mut self, place: Place, value: V) -> Result<bool, AllocError>
+    pub(crate) fn set(&mut self, place: ElementPlace, value: V) -> Result<bool, AllocError>
         ensures stored { IfOk result (λ stored.
             if_stored stored (object_of self.new)
             ≡ stored_at place value (Some (object_of self.old))) }
@@ -194,12 +194,12 @@ impl<V: Element> Object<V> {
         ensures refused { OnErr result (object_of self.new ≡ object_of self.old) }
     {
         match (self, place) {
-            (Object::Array(array), Place::Element(index)) => array.set(index, value),
-            (Object::Table(table), Place::Key(key)) => {
+            (Object::Array(array), ElementPlace::Element(index)) => array.set(index, value),
+            (Object::Table(table), ElementPlace::Key(key)) => {
                 table.set(key, value)?;
                 Ok(true)
             }
-            (Object::Record(record), Place::Element(index)) => Ok(put(
+            (Object::Record(record), ElementPlace::Element(index)) => Ok(put(
                 &mut record.values,
                 index,
                 value,

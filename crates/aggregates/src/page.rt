@@ -13,7 +13,7 @@ ghost use Rattle.aggregates.specs.Paged.{whole};
 use crate::element::Element;
 use crate::marks::Marks;
 use crate::object::Object;
-use crate::place::Place;
+use crate::place::ElementPlace;
 use crate::table::Table;
 use std::alloc::{AllocError, Global};
 use std::marker::Model;
@@ -103,7 +103,12 @@ impl<V: Element> Page<V> {
     /// Stores a value at a place of an object, if it has that place. A table may take memory, and so may an
     /// array that was copied.
     #[inline(always)]
-    pub(crate) fn set(&mut self, object: usize, place: Place, value: V) -> Result<bool, AllocError>
+    pub(crate) fn set(
+        &mut self,
+        object: usize,
+        place: ElementPlace,
+        value: V,
+    ) -> Result<bool, AllocError>
         ensures stored { IfOk result (λ stored.
             if_stored stored self.new
             ≡ put_at object (stored_at place value (slice_get self.old object)) self.old) }

@@ -15,7 +15,7 @@ use crate::flags::PAGE;
 use crate::marks::Marks;
 use crate::object::Object;
 use crate::page::Page;
-use crate::place::Place;
+use crate::place::ElementPlace;
 use crate::table::Table;
 use std::alloc::{AllocError, Global};
 use std::marker::Model;
@@ -118,7 +118,12 @@ impl<V: Element> Pages<V> {
     /// array that was copied.
     #[cold]
     #[inline(never)]
-    pub(crate) fn set(&mut self, number: usize, place: Place, value: V) -> Result<bool, AllocError>
+    pub(crate) fn set(
+        &mut self,
+        number: usize,
+        place: ElementPlace,
+        value: V,
+    ) -> Result<bool, AllocError>
         ensures stored { IfOk result (λ stored.
             if_stored stored self.new
             ≡ put_at number (stored_at place value (slice_get self.old number)) self.old) }

@@ -38,7 +38,7 @@ impl Equivalent<Key> for Wanted<'_> {
 
 /// Where an object holds a value.
 #[derive(Drop)]
-pub enum Place {
+pub enum ElementPlace {
     /// An element of an array, or a field of a record.
     Element(usize),
     /// A key of a table.

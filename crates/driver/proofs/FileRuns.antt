@@ -12,7 +12,7 @@ use Rattle.model.specs.Deck.Trees.{Stmt}
 use Rattle.model.specs.Language.Io.{Io}
 use Rattle.model.specs.Language.Told.{IfTold}
 use Rattle.model.specs.Language.Units.{IsCounted}
-use Rattle.model.specs.Laws.Agreement.{Inputs, Records, Seen}
+use Rattle.model.specs.Laws.Agreement.{Inputs, Records, Behaviour}
 use Rattle.statement_machine.proofs.Seeing.{if_ran}
 use Rattle.statement_machine.specs.Stopped.{IfRan, ending_of, stop_of_run}
 use Rattle.unit_io.specs.Counts.{Same, SameBut, failures_at}
@@ -33,7 +33,7 @@ both_told true false io io' P h e = absurd h
 both_told true true io io' P h e = (refl, h)
 
 module _ {S : Type 0} (exposes : S → Bool) (state : Status) (before after : FilesView S) (kept : IsKept exposes after) where
-  pub of_bytes : (P : Inputs → Seen → Type 0) → OfRun state (told_of exposes before) (told_of exposes after) P → OfBytes exposes state before after P
+  pub of_bytes : (P : Inputs → Behaviour → Type 0) → OfRun state (told_of exposes before) (told_of exposes after) P → OfBytes exposes state before after P
   of_bytes P run e =
       let (e', (new, printed, p)) = both_told (exposes before.system) (exposes after.system) (io_of before) (io_of after) _ run e in
       (new, subst (λ (rs : Records). HasBytes after rs) printed (record { exact = kept.exact e'; begun = kept.begun e' }), p)
@@ -51,7 +51,7 @@ module _ {S : Type 0} (exposes : S → Bool) (state : Status) (before after : Fi
 
 stopped_seen : (ss : List Stmt) (inputs : Inputs) (ending : Option Ending) (printed : Records) → IsMeant ss inputs (record { ending = ending; printed = printed }) → IsMeant ss inputs (record { ending = None; printed = printed })
 stopped_seen ss inputs None printed h = h
-stopped_seen ss inputs (Some e) printed (n, is) = (n, ([], ap (λ (x : Seen). x.printed) is ∙ sym (append-nil printed)))
+stopped_seen ss inputs (Some e) printed (n, is) = (n, ([], ap (λ (x : Behaviour). x.printed) is ∙ sym (append-nil printed)))
 
 pub stopped : (deck : List ℕ) (bound : ℕ) (state : Status) (why : Stop) (before after : Option Io) → RefinesMeaning deck bound state before after → RefinesMeaning deck bound (status.Stopped why) before after
 stopped deck bound state why before after r =

@@ -5,7 +5,7 @@ use Rattle.model.specs.declared.run.Status.{Status}
 use Rattle.model.specs.declared.run.Status.TheVariants as status
 use Rattle.model.specs.Language.Io.{Io}
 use Rattle.model.specs.Language.Told.{IfTold}
-use Rattle.model.specs.Laws.Agreement.{Inputs, IsBeginning, Records, first_m, machine_at, seen_at}
+use Rattle.model.specs.Laws.Agreement.{Inputs, IsPrefix, Records, first_m, machine_at, seen_at}
 use Rattle.model.specs.Language.Values.{printed_of}
 use Rattle.model.specs.Machine.Steps.{MW, Module, to_stmt}
 use Rattle.model.specs.Module.Images.{module_of}
@@ -16,7 +16,7 @@ use Rattle.unit_io.proofs.Serving.{told_on}
 use Rattle.driver.specs.Whole.{StandsWithin}
 
 -- of two beginnings of one list one is a prefix of the other
-one_begins : (xs ys a b : Records) → xs ++ a ≡ ys ++ b → IsBeginning xs ys ⊎ IsBeginning ys xs
+one_begins : (xs ys a b : Records) → xs ++ a ≡ ys ++ b → IsPrefix xs ys ⊎ IsPrefix ys xs
 one_begins [] ys a b e = inl (ys, refl)
 one_begins (x ∷ xs) [] a b e = inr (x ∷ xs, refl)
 one_begins (x ∷ xs) (y ∷ ys) a b e =
@@ -27,7 +27,7 @@ one_begins (x ∷ xs) (y ∷ ys) a b e =
       | inr h ↦ let is : xs ≡ ys ++ h.0 = h.1 in inr (h.0, cc)
     ]
 
-begins_on : (xs ys zs : Records) → IsBeginning xs ys → IsBeginning ys zs → IsBeginning xs zs
+begins_on : (xs ys zs : Records) → IsPrefix xs ys → IsPrefix ys zs → IsPrefix xs zs
 begins_on xs ys zs (a, p) (b, q) = (a ++ b, q ∙ ap (λ (l : Records). l ++ b) p ∙ append_assoc xs a b)
 
 -- nothing is printed at the entry
@@ -39,20 +39,20 @@ module _ (im : Image) (inputs : Inputs) where
   abbrev printed : ℕ → Records
   printed b = (machine_at im inputs b).printed
 
-  prints_on : (b : ℕ) → IsBeginning (printed b) (printed (b + 1))
-  prints_on b = let swap : 1 + b ≡ b + 1 = omega arith in subst (λ (n : ℕ). IsBeginning (printed b) (printed n)) swap (run_prints_on im inputs b 1)
+  prints_on : (b : ℕ) → IsPrefix (printed b) (printed (b + 1))
+  prints_on b = let swap : 1 + b ≡ b + 1 = omega arith in subst (λ (n : ℕ). IsPrefix (printed b) (printed n)) swap (run_prints_on im inputs b 1)
 
   record Stand (b : ℕ) (new : Records) : Type 0 where
     made : ℕ
     within : made ≤ b
-    least : IsBeginning (printed made) new
-    most : IsBeginning new (printed (made + 1))
+    least : IsPrefix (printed made) new
+    most : IsPrefix new (printed (made + 1))
 
-  stand : (b : ℕ) (new : Records) → IsBeginning new (printed b) → Stand b new
+  stand : (b : ℕ) (new : Records) → IsPrefix new (printed b) → Stand b new
   stand zero new h = record { made = 0; within = omega arith; least = (new, sym (ap (λ (l : Records). l ++ new) (none_at (module_of im) ((module_of im).stmt (module_of im).entry) (first_m im.level inputs) refl))); most = begins_on new (printed 0) (printed (0 + 1)) h (prints_on 0) }
   stand (suc b) new h =
       let next : suc b ≡ b + 1 = omega arith in
-      let last : IsBeginning new (printed (b + 1)) = subst (λ (n : ℕ). IsBeginning new (printed n)) next h in
+      let last : IsPrefix new (printed (b + 1)) = subst (λ (n : ℕ). IsPrefix new (printed n)) next h in
       elim (one_begins new (printed b) last.0 (prints_on b).0 (sym last.1 ∙ (prints_on b).1)) [
         | inl before ↦ let s = stand b new before in record { made = s.made; within = omega (arith, s.within); least = s.least; most = s.most }
         | inr after ↦ record { made = b; within = omega arith; least = after; most = last }

@@ -7,7 +7,7 @@ use Rattle.model.specs.declared.run.Status.{Status}
 use Rattle.model.specs.declared.run.Status.TheVariants as status
 use Rattle.model.specs.declared.run.Ending.{Ending}
 use Rattle.model.specs.Deck.Cards.{first_cards}
-use Rattle.model.specs.Laws.Agreement.{Agrees, Inputs, IsBeginning, Records, Seen, machine_at, meaning_at}
+use Rattle.model.specs.Laws.Agreement.{Agrees, Inputs, IsPrefix, Records, Behaviour, machine_at, meaning_at}
 use Rattle.model.specs.Language.Io.{Io}
 use Rattle.model.specs.Module.Reading as reading
 use Rattle.model.specs.Language.Told.{IfTold}
@@ -56,17 +56,17 @@ card_is deck given bytes status card same m (im, read, told) = told ∙ ap (λ (
 
 -- ---- in the deck's own words
 
-seen_of : (ss : List Stmt) (image : Image) (inputs : Inputs) (bound : ℕ) (ending : Option Ending) (seen : Seen) → Agrees ss image → seen ≡ machine_at image inputs bound → seen.ending ≡ ending → (n : ℕ) × IsSeenOf ending seen.printed (meaning_at n ss inputs)
-seen_of ss image inputs bound None seen a s e = let p = a.prints_only inputs bound in (p.0, (p.1.0, p.1.1 ∙ ap (λ (x : Seen). x.printed ++ p.1.0) (sym s)))
+seen_of : (ss : List Stmt) (image : Image) (inputs : Inputs) (bound : ℕ) (ending : Option Ending) (seen : Behaviour) → Agrees ss image → seen ≡ machine_at image inputs bound → seen.ending ≡ ending → (n : ℕ) × IsSeenOf ending seen.printed (meaning_at n ss inputs)
+seen_of ss image inputs bound None seen a s e = let p = a.prints_only inputs bound in (p.0, (p.1.0, p.1.1 ∙ ap (λ (x : Behaviour). x.printed ++ p.1.0) (sym s)))
 seen_of ss image inputs bound (Some x) seen a s e = let m = a.ends_only inputs bound x (ap (λ y. y.ending) (sym s) ∙ e) in (m.0, m.1 ∙ sym s ∙ ap (λ o. record { ending = o; printed = seen.printed }) e)
 
 -- what holds of what the machine shows holds of a run that nothing stopped
-of_run : (bound : ℕ) (status : Status) (before after : Option Io) (image : Image) (P : Inputs → Seen → Type 0) → IfRan status (IfTold before after (IsRun image bound (ending_of status)))
-    → ((inputs : Inputs) (seen : Seen) → seen ≡ machine_at image inputs bound → P inputs seen) → IfRan status (OfRun status before after P)
+of_run : (bound : ℕ) (status : Status) (before after : Option Io) (image : Image) (P : Inputs → Behaviour → Type 0) → IfRan status (IfTold before after (IsRun image bound (ending_of status)))
+    → ((inputs : Inputs) (seen : Behaviour) → seen ≡ machine_at image inputs bound → P inputs seen) → IfRan status (OfRun status before after P)
 of_run bound status before after image P run h = if_ran status _ _ run (λ t. told_on before after _ _
     (λ io io' r.
-    let there : Seen = machine_at image io.left bound in
-    (there.printed, ap (λ (x : Seen). x.printed) r.seen, h io.left (record { ending = ending_of status; printed = there.printed }) (ap (λ (x : Seen). record { ending = x.ending; printed = there.printed }) r.seen))) t)
+    let there : Behaviour = machine_at image io.left bound in
+    (there.printed, ap (λ (x : Behaviour). x.printed) r.seen, h io.left (record { ending = ending_of status; printed = there.printed }) (ap (λ (x : Behaviour). record { ending = x.ending; printed = there.printed }) r.seen))) t)
 
 sound_if_ran : {may : Way → ℕ → Bool} (deck : List ℕ) (bound : ℕ) (status : Status) (before after : Option Io) (r : IsRunOf deck bound may status before after) → IfRan status (OfRun status before after (IsMeant r.statements))
 sound_if_ran deck bound status before after r = of_run bound status before after r.image (IsMeant r.statements) r.run (λ inputs seen s. seen_of r.statements r.image inputs bound seen.ending seen r.agrees s refl)
@@ -90,7 +90,7 @@ refines deck bound status before after r = record {
   accepted = r.trees;
   sound = is_sound deck bound status before after r;
   reaches = of_run bound status before after r.image (HasReached bound r.statements) r.run (λ inputs seen s n e ends enough. s ∙ r.in_time inputs n e ends bound enough);
-  prints = of_run bound status before after r.image (HasPrinted bound r.statements) r.run (λ inputs seen s n enough. subst (λ (x : Seen). IsBeginning (meaning_at n r.statements inputs).printed x.printed) (sym s) (r.prints inputs n bound enough));
+  prints = of_run bound status before after r.image (HasPrinted bound r.statements) r.run (λ inputs seen s n enough. subst (λ (x : Behaviour). IsPrefix (meaning_at n r.statements inputs).printed x.printed) (sym s) (r.prints inputs n bound enough));
 }
 
 -- ---- the loader takes what was compiled, unless it lacks memory

@@ -5,7 +5,7 @@ use Rattle.model.specs.Deck.Faults.{verdict, Accepted}
 use Rattle.model.specs.Deck.Trees.{Stmt}
 use Rattle.model.specs.Language.Io.{Io}
 use Rattle.model.specs.Language.Units.{HasGrown, bytes_on}
-use Rattle.model.specs.Laws.Agreement.{Inputs, Records, Seen}
+use Rattle.model.specs.Laws.Agreement.{Inputs, Records, Behaviour}
 use Rattle.statement_machine.specs.Stopped.{IfRan, ending_of, stop_of_run}
 use Rattle.unit_io.specs.Counts.{SameBut, failures_at}
 use Rattle.unit_io.specs.Files.{FilesView, back_on, io_of, told_of, written_on}
@@ -20,7 +20,7 @@ pub record HasBytes {S : Type 0} (after : FilesView S) (records : Records) : Typ
 
 -- on a system that exposes the bytes, P holds of the records that the bytes left on each unit had at first, of how the run
 -- ended, if it has, and of some records; what the units have are the bytes of the records written before, and of these
-abbrev pub OfBytes : {S : Type 0} → (exposes : S → Bool) → Status → (before after : FilesView S) → (Inputs → Seen → Type 0) → Type 0
+abbrev pub OfBytes : {S : Type 0} → (exposes : S → Bool) → Status → (before after : FilesView S) → (Inputs → Behaviour → Type 0) → Type 0
 OfBytes exposes status before after P = IsTrue (exposes before.system) → (new : Records) × HasBytes after (before.records ++ new) × P (io_of before).left (record { ending = ending_of status; printed = new })
 
 -- the theorem, in bytes: see RefinesMeaning

@@ -4,7 +4,7 @@ use Rattle.model.specs.declared.run.Ending.{Ending}
 use Rattle.model.specs.declared.image.Image.{Image}
 use Rattle.model.specs.declared.run.Status.{Status}
 use Rattle.model.specs.Deck.Cards.{first_cards}
-use Rattle.model.specs.Laws.Agreement.{Agrees, Inputs, IsBeginning, Records, Seen, machine_at, meaning_at}
+use Rattle.model.specs.Laws.Agreement.{Agrees, Inputs, IsPrefix, Records, Behaviour, machine_at, meaning_at}
 use Rattle.model.specs.Deck.Faults.{verdict, Accepted}
 use Rattle.model.specs.Language.Io.{Io}
 use Rattle.model.specs.Language.RulesUsed.{rules_used}
@@ -24,28 +24,28 @@ use Rattle.statement_machine.specs.Stopped.{IfRan, IfStop, ending_of, stop_of_ru
 
 -- P holds of what the units held at first, of how the run ended, if it has, and of what it printed, on units that expose what they hold:
 -- what was printed after is what was printed before, and then this
-abbrev pub OfRun : Status → Option Io → Option Io → (Inputs → Seen → Type 0) → Type 0
+abbrev pub OfRun : Status → Option Io → Option Io → (Inputs → Behaviour → Type 0) → Type 0
 OfRun status before after P = IfTold before after (λ io io'. (new : Records) × (io'.printed ≡ io.printed ++ new) × P io.left (record { ending = ending_of status; printed = new }))
 
 -- what was seen of a run is what the meaning has at its end; or, where it runs on or was stopped, what it printed so far is
 -- a prefix of what the meaning prints
-abbrev pub IsSeenOf : (ending : Option Ending) → Records → Seen → Type 0
-IsSeenOf None printed meant = IsBeginning printed meant.printed
+abbrev pub IsSeenOf : (ending : Option Ending) → Records → Behaviour → Type 0
+IsSeenOf None printed meant = IsPrefix printed meant.printed
 IsSeenOf (Some e) printed meant = meant ≡ record { ending = Some e; printed = printed }
 
 -- with some fuel these statements mean what was seen
-abbrev pub IsMeant : List Stmt → Inputs → Seen → Type 0
+abbrev pub IsMeant : List Stmt → Inputs → Behaviour → Type 0
 IsMeant ss inputs seen = (n : ℕ) × IsSeenOf seen.ending seen.printed (meaning_at n ss inputs)
 
 -- where the meaning ends with fuel n, and the bound has STEPS_PER_RULE steps for each rule that it used and for one more,
 -- the run has ended so, with that printed
-abbrev pub HasReached : (bound : ℕ) → List Stmt → Inputs → Seen → Type 0
+abbrev pub HasReached : (bound : ℕ) → List Stmt → Inputs → Behaviour → Type 0
 HasReached bound ss inputs seen = (n : ℕ) (e : Ending) → (meaning_at n ss inputs).ending ≡ Some e → STEPS_PER_RULE * (rules_used n ss inputs + 1) ≤ bound → seen ≡ meaning_at n ss inputs
 
 -- with each fuel n for which the bound has so many steps, what the meaning prints is a prefix of what the run printed, also
 -- where neither ends
-abbrev pub HasPrinted : (bound : ℕ) → List Stmt → Inputs → Seen → Type 0
-HasPrinted bound ss inputs seen = (n : ℕ) → STEPS_PER_RULE * (rules_used n ss inputs + 1) ≤ bound → IsBeginning (meaning_at n ss inputs).printed seen.printed
+abbrev pub HasPrinted : (bound : ℕ) → List Stmt → Inputs → Behaviour → Type 0
+HasPrinted bound ss inputs seen = (n : ℕ) → STEPS_PER_RULE * (rules_used n ss inputs + 1) ≤ bound → IsPrefix (meaning_at n ss inputs).printed seen.printed
 
 -- the theorem: a run of a deck, of at most so many steps, does what the deck means. The deck has no fault, and these are its
 -- statements; the run does nothing that they don't mean; and unless a failed unit or want of memory stopped it, it has come
@@ -66,8 +66,8 @@ pub record StandsWithin (im : Image) (bound : ℕ) (io io' : Io) : Type 0 where
   pub follows : io'.printed ≡ io.printed ++ new
   pub made : ℕ
   pub within : made ≤ bound
-  pub least : IsBeginning (machine_at im io.left made).printed new
-  pub most : IsBeginning new (machine_at im io.left (made + 1)).printed
+  pub least : IsPrefix (machine_at im io.left made).printed new
+  pub most : IsPrefix new (machine_at im io.left (made + 1)).printed
 
 -- a run of a module, of at most so many steps: the bytes spell this image, and it is one that the loader accepts. Unless the
 -- run stopped, its status, what it printed, after what was printed before, and what is left to be read are those of the

@@ -10,7 +10,7 @@ use Rattle.std.proofs.lemmas.List.Folds.{list_any-append}
 use Rattle.model.specs.Pattern.Patterns.{Lit, Open, Split}
 use Rattle.model.specs.Pattern.BasicEnds.{ends_at, end_if, is_in_set}
 use Rattle.model.specs.Pattern.Steps.{Code, MatchState, Note, Opened, Starting, Over, Lost, at_distance, back, event_of, go, pattern_step, pattern_steps, settled}
-use Rattle.match_machine.specs.Looks.{FailFrom, FailsAt, FailsUnless, HasFirst, IsFront}
+use Rattle.match_machine.specs.Looks.{FailFrom, FailsAt, FailsUnless, HasFirst, LeadsFromFront}
 use Rattle.match_machine.specs.Starts.{AreIdle, ArePassed, Leads, RunsOn}
 use Rattle.match_machine.specs.declared.prefilter.Passed.{Passed}
 use Rattle.match_machine.proofs.Glides.{Came, then_comes}
@@ -51,13 +51,13 @@ unless_more code q n x ws d splits first other = λ u ns c within none.
     fails_split u code ns q c n 1 d splits (first u ns c within parts.0) (fails_first u code ns (at_distance code q d) x c other within parts.1)
 
 -- ---- behind OPEN
-pub front_opens : (code : Code) → slice_get code 0 ≡ Some Open → IsFront code 1 1
+pub front_opens : (code : Code) → slice_get code 0 ≡ Some Open → LeadsFromFront code 1 1
 front_opens code opens = λ u ns c m fails. fails_open u code ns 0 c m opens (fails (Opened c ∷ ns))
 
-pub front_alone : (code : Code) → IsFront code 0 0
+pub front_alone : (code : Code) → LeadsFromFront code 0 0
 front_alone code = λ u ns c m fails. let same : m ≡ m + 0 = omega arith in subst (λ n. FailsAt u code ns 0 c n) same (fails ns)
 
-pub front_fails : (code : Code) (q n m : ℕ) (ws : List ℕ) → IsFront code q n → FailsUnless code q ws m → FailsUnless code 0 ws (m + n)
+pub front_fails : (code : Code) (q n m : ℕ) (ws : List ℕ) → LeadsFromFront code q n → FailsUnless code q ws m → FailsUnless code 0 ws (m + n)
 front_fails code q n m ws leads fails = λ u ns c within none. leads u ns c m (λ ms. fails u ms c within none)
 
 -- ---- starts
@@ -151,7 +151,7 @@ passed_more u code b left most p q h g =
     }
 
 -- a part that fails, which may stand behind OPEN
-pub part_fails : (u : List ℕ) (code : Code) (q n b k : ℕ) → IsFront code q n → AreIdle u code q b k → FailFrom u code b k (1 + n)
+pub part_fails : (u : List ℕ) (code : Code) (q n b k : ℕ) → LeadsFromFront code q n → AreIdle u code q b k → FailFrom u code b k (1 + n)
 part_fails u code q n b k leads idle c l m =
     let h = idle c l m in
     leads u [] c 1 (λ ms. fails_part u code ms q c h.0 h.1 h.2)

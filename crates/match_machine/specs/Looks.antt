@@ -24,6 +24,6 @@ FailsUnless code q ws n =
     (u : List ℕ) (ns : List Note) (c : ℕ) → c < length u → is_in_set ws (get_or u c 0) ≡ false → FailsAt u code ns q c n
 
 -- n steps lead an attempt from the front of the code to the place q
-abbrev pub IsFront : Code → (q n : ℕ) → Type 0
-IsFront code q n =
+abbrev pub LeadsFromFront : Code → (q n : ℕ) → Type 0
+LeadsFromFront code q n =
     (u : List ℕ) (ns : List Note) (c m : ℕ) → ((ms : List Note) → FailsAt u code ms q c m) → FailsAt u code ns 0 c (m + n)

@@ -35,4 +35,4 @@ mod turn;
 pub use event::{Answer, Assignment, Event, Told, Want};
 pub use matcher::Matcher;
 pub use run::between;
-pub use straight::{Capture, Part, Straight, match_straight};
+pub use straight::{Capture, MatchedPart, Straight, match_straight};

@@ -8,7 +8,7 @@ ghost use Rattle.model.specs.Language.Strings.{flags_of};
 ghost use Rattle.model.specs.Pattern.Patterns as p;
 ghost use Rattle.pattern_compiler.specs.View.{code_of};
 ghost use Rattle.match_machine.specs.Filters.{AreFirsts};
-ghost use Rattle.match_machine.specs.Looks.{FailsAt, FailsUnless, HasFirst, IsFront};
+ghost use Rattle.match_machine.specs.Looks.{FailsAt, FailsUnless, HasFirst, LeadsFromFront};
 ghost use Rattle.match_machine.specs.Starts.{AreIdle, ArePassed, Leads};
 
 use crate::ends::fails_for;
@@ -55,7 +55,7 @@ pub fn idle_from(subject: &[u8], code: &PatCode, place: usize, from: usize, limi
 /// The place of the first instruction that isn't the OPEN in front, and how many steps lead there.
 #[inline(always)]
 pub fn front(instrs: &[Instr]) -> (usize, u64)
-    ensures leads { IsFront (code_of instrs.now) result.0 result.1 }
+    ensures leads { LeadsFromFront (code_of instrs.now) result.0 result.1 }
     ensures one { result.1 ≤ 1 }
 {
     if opens_at(instrs, 0) { (1, 1) } else { (0, 0) }

@@ -14,7 +14,7 @@ use crate::set::Set;
 use crate::single::one;
 use std::alloc::{AllocError, Global};
 use std::marker::Model;
-use strings::{Few, Many, Text};
+use strings::{InlineBytes, SharedBytes, Text};
 
 /// For how many instructions there is room at least where codes are joined.
 pub(crate) const ROOM: usize = 4;
@@ -33,12 +33,12 @@ pub enum Counted {
 #[derive(Drop)]
 enum Form {
     // A literal of few bytes, which isn't null.
-    Lit(Few),
+    Lit(InlineBytes),
     // A literal of bytes that are shared, which isn't null.
-    Long(Many),
+    Long(SharedBytes),
     Counted(Counted),
     // BREAK of few bytes.
-    Break(Few),
+    Break(InlineBytes),
     Code(PatCode),
 }
 
@@ -121,7 +121,7 @@ impl Pattern {
         if text.is_empty() {
             return Pattern::of(PatCode::null());
         }
-        let form = match text.into_few() {
+        let form = match text.into_inline() {
             Ok(few) => Form::Lit(few),
             Err(many) => Form::Long(many),
         };
@@ -146,7 +146,7 @@ impl Pattern {
     {
         if text.len() <= 3 {
             return Ok(Pattern {
-                form: Form::Break(Few::of(text.as_slice())),
+                form: Form::Break(InlineBytes::of(text.as_slice())),
             });
         }
         Pattern::part(alloc, Basic::Break(Set::of(alloc, text)?))

@@ -1,6 +1,6 @@
 //! Values as a dump has them.
 
-use aggregates::{Bounds, Heap, Key, Kind};
+use aggregates::{Bounds, Heap, Key, ObjectKind};
 use pattern_compiler::Name;
 use std::alloc::AllocError;
 use strings::Text;
@@ -43,8 +43,8 @@ pub(crate) fn put_object(
     object: usize,
 ) -> Result<(), AllocError> {
     match objects.kind(object) {
-        Some(Kind::Array) => out.push_str("ARRAY")?,
-        Some(Kind::Table) => out.push_str("TABLE")?,
+        Some(ObjectKind::Array) => out.push_str("ARRAY")?,
+        Some(ObjectKind::Table) => out.push_str("TABLE")?,
         _ => match objects.record_type(object) {
             Some(name) => put_name(out, name)?,
             None => out.push_str("OBJECT")?,

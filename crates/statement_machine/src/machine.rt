@@ -23,7 +23,7 @@ use loader::Module;
 use model::Status;
 use parts::{Parts, parts_of};
 use segment_loop::Unwatched;
-use segments::{Form, form_of};
+use segments::{SegmentTable, form_of};
 use std::alloc::{AllocError, Global};
 use std::marker::Model;
 use unit_io::Units;
@@ -32,7 +32,7 @@ use unit_io::Units;
 #[derive(Drop)]
 pub struct Machine<'m, 'a> {
     pub(crate) program: &'m Module<'a>,
-    pub(crate) form: Form,
+    pub(crate) form: SegmentTable,
     pub(crate) parts: Parts,
     pub(crate) run: Run,
     pub(crate) halt: Option<Halt>,

@@ -16,4 +16,4 @@ mod text;
 
 pub use bytes::{ByteSet, break_end, read_int, span_end, trim_end};
 pub use fault::StrFault;
-pub use text::{Few, Many, Text};
+pub use text::{InlineBytes, SharedBytes, Text};

@@ -62,26 +62,26 @@ const _: () = prove!(size_of::<Text>() <= 24);
 
 /// The bytes of a text that are its own, at most 22; contracts see the list of them. They take no memory.
 #[derive(Drop)]
-pub struct Few {
+pub struct InlineBytes {
     len: u8,
     array: [u8; FEW],
 }
 
 /// The bytes of a text that its clones share; contracts see the list of them.
-pub struct Many {
+pub struct SharedBytes {
     start: u32,
     end: u32,
     shared: Rc<Vec<u8>>,
 }
 
-const _: () = prove!(size_of::<Few>() <= 23);
+const _: () = prove!(size_of::<InlineBytes>() <= 23);
 
-const _: () = prove!(size_of::<Many>() <= 16);
+const _: () = prove!(size_of::<SharedBytes>() <= 16);
 
-impl Drop for Many {
+impl Drop for SharedBytes {
     #[inline(always)]
     fn drop(self) {
-        let Many {
+        let SharedBytes {
             start: _,
             end: _,
             shared,
@@ -102,7 +102,7 @@ impl Model for Text {
     ghost invariant = { λ t. AreWithin t.bytes };
 }
 
-impl Model for Few {
+impl Model for InlineBytes {
     ghost use Rattle.std.specs.Prelude.{◌≡◌, ◌≤◌, List, ℕ, length, take};
 
     ghost Value = { List ℕ };
@@ -112,7 +112,7 @@ impl Model for Few {
     ghost invariant = { λ f. (f.len ≤ 22) × (length f.array ≡ 22) };
 }
 
-impl Model for Many {
+impl Model for SharedBytes {
     ghost use Rattle.std.specs.Prelude.{◌≤◌, List, ℕ, length, slice_range};
 
     ghost Value = { List ℕ };
@@ -152,7 +152,7 @@ impl Text {
         requires { length bytes.now ≤ 22 }
         ensures { result ≡ bytes.now }
     {
-        Few::of(bytes).to_text()
+        InlineBytes::of(bytes).to_text()
     }
 
     // Two texts in one of a few bytes.
@@ -469,28 +469,28 @@ impl Text {
 
     /// The bytes, apart by whether they are its own. Takes no memory.
     #[inline(always)]
-    pub fn into_few(self) -> Result<Few, Many>
+    pub fn into_inline(self) -> Result<InlineBytes, SharedBytes>
         ensures { MatchResult result (λ few. few ≡ self) (λ many. many ≡ self) }
     {
         let Text { bytes } = self;
         match bytes {
-            Bytes::Own { len, array } => Ok(Few { len, array }),
-            Bytes::Shared { start, end, shared } => Err(Many { start, end, shared }),
+            Bytes::Own { len, array } => Ok(InlineBytes { len, array }),
+            Bytes::Shared { start, end, shared } => Err(SharedBytes { start, end, shared }),
         }
     }
 }
 
-impl Few {
+impl InlineBytes {
     /// These bytes, which are copied.
     #[inline]
-    pub fn of(bytes: &[u8]) -> Few
+    pub fn of(bytes: &[u8]) -> InlineBytes
         requires { length bytes.now ≤ 22 }
         ensures { result ≡ bytes.now }
     {
         let len = bytes.len();
         let mut array = [0; FEW];
         array[..len].copy_from_slice(bytes);
-        Few {
+        InlineBytes {
             len: len as u8,
             array,
         }
@@ -510,38 +510,38 @@ impl Few {
     }
 }
 
-impl Clone for Few {
+impl Clone for InlineBytes {
     ghost is_clone = { λ few copy. copy ≡ few };
 
     #[inline(always)]
-    fn clone(&self) -> Result<Few, AllocError> {
-        Ok(Few {
+    fn clone(&self) -> Result<InlineBytes, AllocError> {
+        Ok(InlineBytes {
             len: self.len,
             array: self.array,
         })
     }
 }
 
-impl Many {
+impl SharedBytes {
     /// The text of them, which shares them.
     #[inline(always)]
     pub fn into_text(self) -> Text
         ensures { result ≡ self }
     {
-        let Many { start, end, shared } = self;
+        let SharedBytes { start, end, shared } = self;
         Text {
             bytes: Bytes::Shared { start, end, shared },
         }
     }
 }
 
-impl Clone for Many {
+impl Clone for SharedBytes {
     ghost is_clone = { λ many copy. copy ≡ many };
 
     #[inline(always)]
-    fn clone(&self) -> Result<Many, AllocError> {
+    fn clone(&self) -> Result<SharedBytes, AllocError> {
         let shared = self.shared.clone()?;
-        Ok(Many {
+        Ok(SharedBytes {
             start: self.start,
             end: self.end,
             shared,

@@ -2,7 +2,7 @@
 
 ghost use Rattle.std.specs.Prelude.{◌≡◌, ◌++◌, ◌+◌, ◌≤◌, OnErr, OnOk, replicate, vec_capacity, vec_len};
 
-use aggregates::{Element, Key, Place};
+use aggregates::{Element, ElementPlace, Key};
 use std::alloc::{AllocError, Global};
 use strings::{StrFault, Text};
 
@@ -97,13 +97,13 @@ pub enum At<'a> {
     Key(It<'a>),
 }
 
-pub fn place_of(alloc: Global, at: At<'_>) -> Result<Place, StrFault> {
+pub fn place_of(alloc: Global, at: At<'_>) -> Result<ElementPlace, StrFault> {
     match at {
-        At::Element(index) => Ok(Place::Element(index)),
-        At::Key(It::Integer(n)) => Ok(Place::Key(Key::Integer(n))),
+        At::Element(index) => Ok(ElementPlace::Element(index)),
+        At::Key(It::Integer(n)) => Ok(ElementPlace::Key(Key::Integer(n))),
         At::Key(It::String(bytes)) => {
             let text = Text::from_slice(alloc, bytes.as_bytes())?;
-            Ok(Place::Key(Key::String(text)))
+            Ok(ElementPlace::Key(Key::String(text)))
         }
     }
 }

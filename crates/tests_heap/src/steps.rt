@@ -1,7 +1,7 @@
 //! Steps with objects, and what is seen of them: plain values, since each place that holds a heap is dear to prove.
 
 use crate::items::{At, It, Item, item_of, place_of};
-use aggregates::{Bounds, Heap, Kind, Names};
+use aggregates::{Bounds, Heap, Names, ObjectKind};
 use std::alloc::Global;
 use strings::{StrFault, Text};
 
@@ -66,11 +66,11 @@ fn value(found: Option<&Item>) -> Seen {
     }
 }
 
-fn kind(found: Option<Kind>) -> Seen {
+fn kind(found: Option<ObjectKind>) -> Seen {
     match found {
-        Some(Kind::Array) => Seen::Array,
-        Some(Kind::Table) => Seen::Table,
-        Some(Kind::Record) => Seen::Record,
+        Some(ObjectKind::Array) => Seen::Array,
+        Some(ObjectKind::Table) => Seen::Table,
+        Some(ObjectKind::Record) => Seen::Record,
         None => Seen::Nothing,
     }
 }

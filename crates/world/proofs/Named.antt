@@ -13,8 +13,8 @@ use Rattle.model.specs.Language.Aggregates.{all_integers, place_from, named_elem
 use Rattle.model.specs.Machine.Steps.{MVal, MW}
 use Rattle.aggregates.specs.Made.{kind_of}
 use Rattle.aggregates.specs.Objects.{dimensions_in, place_in}
-use Rattle.aggregates.specs.declared.object.Kind.{Kind}
-use Rattle.aggregates.specs.declared.object.Kind.TheVariants as kind
+use Rattle.aggregates.specs.declared.object.ObjectKind.{ObjectKind}
+use Rattle.aggregates.specs.declared.object.ObjectKind.TheVariants as kind
 use Rattle.world.specs.Values.{value_of}
 use Rattle.world.specs.Objects.{object_map, item_at}
 use Rattle.world.specs.Held.{WorldView, world_of}
@@ -111,7 +111,7 @@ module _ (h : WorldView) (os : List (Object Value)) (io : Io) (k : ℕ) (vs : Li
   asked = ap (λ o. element_in k o vs (world_of h io)) (slice_get-map (object_map value_of) h.objects k ∙ ap (λ xs. option_map (object_map value_of) (slice_get xs k)) (sym same))
 
   -- in an array
-  pub in_array : (kd : Option Kind) (r : Conv (Option Name)) → kd ≡ option_map kind_of (slice_get os k) → kd ≡ Some kind.Array
+  pub in_array : (kd : Option ObjectKind) (r : Conv (Option Name)) → kd ≡ option_map kind_of (slice_get os k) → kd ≡ Some kind.Array
       → ((bs : List Bounds) (es : List Value) → slice_get h.objects k ≡ Some (ArrayOf bs es) → r ≡ item_at k bs vs)
       → element_op (Obj k) vs (world_of h io) ≡ named r (world_of h io)
   in_array kd r by array given =
@@ -121,14 +121,14 @@ module _ (h : WorldView) (os : List (Object Value)) (io : Io) (k : ℕ) (vs : Li
       ∙ item_is k a.0 (map value_of a.1) vs (world_of h io)
       ∙ ap (λ c. named c (world_of h io)) (sym (given a.0 a.1 (ap (λ xs. slice_get xs k) (sym same) ∙ a.2)))
 
-  pub item_named : (kd : Option Kind) (o : Option Name) → kd ≡ option_map kind_of (slice_get os k) → kd ≡ Some kind.Array
+  pub item_named : (kd : Option ObjectKind) (o : Option Name) → kd ≡ option_map kind_of (slice_get os k) → kd ≡ Some kind.Array
       → ((bs : List Bounds) (es : List Value) → slice_get h.objects k ≡ Some (ArrayOf bs es) → Got o ≡ item_at k bs vs)
       → AnswersOrFails (Ok o) (world_of h io) (element_op (Obj k) vs (world_of h io))
   item_named kd None by array given = in_array kd (Got None) by array given
   item_named kd (Some n) by array given = in_array kd (Got (Some n)) by array given
 
   -- in a table
-  pub in_table : (kd : Option Kind) → kd ≡ option_map kind_of (slice_get os k) → kd ≡ Some kind.Table → element_op (Obj k) vs (world_of h io) ≡ table_element k vs (world_of h io)
+  pub in_table : (kd : Option ObjectKind) → kd ≡ option_map kind_of (slice_get os k) → kd ≡ Some kind.Table → element_op (Obj k) vs (world_of h io) ≡ table_element k vs (world_of h io)
   in_table kd by table = asked ∙ go (slice_get os k) (sym by ∙ table)
     where
       go : (o : Option (Object Value)) → option_map kind_of o ≡ Some kind.Table → element_in k (option_map (object_map value_of) o) vs (world_of h io) ≡ table_element k vs (world_of h io)
@@ -138,7 +138,7 @@ module _ (h : WorldView) (os : List (Object Value)) (io : Io) (k : ℕ) (vs : Li
       go (Some (RecordOf t fs es)) e = absurd (cc)
 
   -- elsewhere
-  pub in_no_table : (kd : Option Kind) → kd ≡ option_map kind_of (slice_get os k) → kd ≢ Some kind.Array → kd ≢ Some kind.Table → element_op (Obj k) vs (world_of h io) ≡ Faults error.WrongType (world_of h io)
+  pub in_no_table : (kd : Option ObjectKind) → kd ≡ option_map kind_of (slice_get os k) → kd ≢ Some kind.Array → kd ≢ Some kind.Table → element_op (Obj k) vs (world_of h io) ≡ Faults error.WrongType (world_of h io)
   in_no_table kd by array table = asked ∙ go (slice_get os k) (λ e. array (by ∙ e)) (λ e. table (by ∙ e))
     where
       go : (o : Option (Object Value)) → option_map kind_of o ≢ Some kind.Array → option_map kind_of o ≢ Some kind.Table → element_in k (option_map (object_map value_of) o) vs (world_of h io) ≡ Faults error.WrongType (world_of h io)

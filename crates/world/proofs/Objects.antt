@@ -15,10 +15,10 @@ use Rattle.model.specs.Language.Operators.{same_key, element_of, value_for, entr
 use Rattle.aggregates.specs.Keys.{key_of, value_at}
 use Rattle.aggregates.specs.Objects.{if_stored, value_in, stored_at, put_at, record_type}
 use Rattle.aggregates.specs.Made.{kind_of}
-use Rattle.aggregates.specs.declared.object.Kind.{Kind}
-use Rattle.aggregates.specs.declared.object.Kind.TheVariants as kind
-use Rattle.aggregates.specs.declared.place.Place.{Place}
-use Rattle.aggregates.specs.declared.place.Place.TheVariants as place
+use Rattle.aggregates.specs.declared.object.ObjectKind.{ObjectKind}
+use Rattle.aggregates.specs.declared.object.ObjectKind.TheVariants as kind
+use Rattle.aggregates.specs.declared.place.ElementPlace.{ElementPlace}
+use Rattle.aggregates.specs.declared.place.ElementPlace.TheVariants as place
 use Rattle.model.specs.Language.Aggregates.{object_type, type_of}
 use Rattle.model.specs.Machine.Steps.{MVal, MW}
 use Rattle.world.specs.Values.{value_of}
@@ -46,7 +46,7 @@ value_seen f null k (e ∷ es) = by (same_key e.key k) (value_seen f null k es)
     by false h = h
 
 -- what a look for a key comes to, by the kind of the object
-abbrev pub entry_by : {W : Type 0} → W → Option Kind → Option W → Option W
+abbrev pub entry_by : {W : Type 0} → W → Option ObjectKind → Option W → Option W
 entry_by null (Some kind.Table) v = Some (unwrap_or v null)
 entry_by null _ v = None
 
@@ -80,7 +80,7 @@ elements_put : {V W : Type 0} (f : V → W) (g : List V → Object V) (g' : List
 elements_put f g g' same None = refl
 elements_put f g g' same (Some vs) = ap Some (same vs)
 
-stored_seen : {V W : Type 0} (f : V → W) (p : Place) (v : V) (o : Option (Object V)) → stored_at p (f v) (option_map (object_map f) o) ≡ option_map (object_map f) (stored_at p v o)
+stored_seen : {V W : Type 0} (f : V → W) (p : ElementPlace) (v : V) (o : Option (Object V)) → stored_at p (f v) (option_map (object_map f) o) ≡ option_map (object_map f) (stored_at p v o)
 stored_seen f (place.Element i) v None = refl
 stored_seen f (place.Element i) v (Some (ArrayOf bs vs)) = ap (with_elements (ArrayOf bs)) (item_put f i v vs) ∙ elements_put f (ArrayOf bs) (ArrayOf bs) (λ xs. refl) (with_item i v vs)
 stored_seen f (place.Element i) v (Some (TableOf es)) = refl
@@ -110,7 +110,7 @@ put_by : (k : ℕ) (o : Option (Object MVal)) (w : MW) → put_object k o w ≡ 
 put_by k None w = refl
 put_by k (Some o) w = refl
 
-pub store_is : (h : WorldView) (io : Io) (k : ℕ) (p : Place) (v : Value)
+pub store_is : (h : WorldView) (io : Io) (k : ℕ) (p : ElementPlace) (v : Value)
     → put_object k (stored_at p (value_of v) (slice_get (world_of h io).objects k)) (world_of h io) ≡ put_objects (option_map (map (object_map value_of)) (put_at k (stored_at p v (slice_get h.objects k)) h.objects)) (world_of h io)
 store_is h io k p v =
     let w : MW = world_of h io in
@@ -120,7 +120,7 @@ store_is h io k p v =
     ∙ ap (λ os. put_objects os w) (put_seen value_of k (stored_at p v (slice_get h.objects k)) h.objects)
 
 -- a table's value for a key, as it was got
-pub entry_got : (h : WorldView) (os : List (Object Value)) (io : Io) (k : ℕ) (key : Key) (kd : Option Kind) (got : Option (Bor Value)) (v : MVal)
+pub entry_got : (h : WorldView) (os : List (Object Value)) (io : Io) (k : ℕ) (key : Key) (kd : Option ObjectKind) (got : Option (Bor Value)) (v : MVal)
     → os ≡ h.objects → kd ≡ option_map kind_of (slice_get os k) → kd ≡ Some kind.Table → option_copied got ≡ value_in key (slice_get os k) → v ≡ unwrap_or (option_map value_of (option_copied got)) (Str [])
     → there (entry_of (Str []) (slice_get (world_of h io).objects k) key) (world_of h io) ≡ Gives v (world_of h io)
 entry_got h os io k key kd got v same by table is e =
@@ -131,7 +131,7 @@ entry_got h os io k key kd got v same by table is e =
     ∙ ap (λ x. there (entry_by (Str []) (Some kind.Table) (option_map value_of x)) w) (sym is)
     ∙ ap (λ x. Gives x w) (sym e)
 
-module _ (vs : List (Bytes × Variable)) (os new : List (Object Value)) (fs : Functions) (ks : Keys) (lv : Level) (ns : List Bytes) (h : WorldView) (io : Io) (k : ℕ) (p : Place) (v : Value) (b : Bool)
+module _ (vs : List (Bytes × Variable)) (os new : List (Object Value)) (fs : Functions) (ks : Keys) (lv : Level) (ns : List Bytes) (h : WorldView) (io : Io) (k : ℕ) (p : ElementPlace) (v : Value) (b : Bool)
     (is : record { variables = vs; objects = os; functions = fs; keys = ks; level = lv; names = ns } ≡ h) (at : if_stored b new ≡ put_at k (stored_at p v (slice_get os k)) os) where
   storing : put_object k (stored_at p (value_of v) (slice_get (world_of h io).objects k)) (world_of h io) ≡ put_objects (option_map (map (object_map value_of)) (if_stored b new)) (world_of (record { variables = vs; objects = os; functions = fs; keys = ks; level = lv; names = ns }) io)
   storing =
@@ -151,7 +151,7 @@ module _ (vs : List (Bytes × Variable)) (os new : List (Object Value)) (fs : Fu
 -- ---- types
 
 -- the name of an object's type, by what the object is
-abbrev pub type_by : Option Bytes → Option Kind → Bytes
+abbrev pub type_by : Option Bytes → Option ObjectKind → Bytes
 type_by (Some t) k = t
 type_by None (Some kind.Table) = codes "TABLE"
 type_by None _ = codes "ARRAY"
@@ -162,7 +162,7 @@ by_type (Some (ArrayOf bs vs)) = refl
 by_type (Some (TableOf es)) = refl
 by_type (Some (RecordOf t fs vs)) = refl
 
-pub type_is : (h : WorldView) (os : List (Object Value)) (io : Io) (k : ℕ) (t : Option Bytes) (kd : Option Kind) → os ≡ h.objects → t ≡ record_type (slice_get os k) → kd ≡ option_map kind_of (slice_get os k)
+pub type_is : (h : WorldView) (os : List (Object Value)) (io : Io) (k : ℕ) (t : Option Bytes) (kd : Option ObjectKind) → os ≡ h.objects → t ≡ record_type (slice_get os k) → kd ≡ option_map kind_of (slice_get os k)
     → type_by t kd ≡ type_of (world_of h io) (Obj k)
 type_is h os io k t kd same named by =
     ap (λ z. type_by z kd) named

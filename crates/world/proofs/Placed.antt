@@ -16,9 +16,9 @@ use Rattle.model.specs.Machine.Steps.{MVal, MW}
 use Rattle.aggregates.specs.Made.{kind_of}
 use Rattle.aggregates.specs.Objects.{element_at, element_in, if_stored, index_in, place_in, put_at, value_in}
 use Rattle.aggregates.specs.declared.place.Key.TheVariants as held
-use Rattle.aggregates.specs.declared.place.Place.TheVariants as place
-use Rattle.aggregates.specs.declared.object.Kind.{Kind}
-use Rattle.aggregates.specs.declared.object.Kind.TheVariants as kind
+use Rattle.aggregates.specs.declared.place.ElementPlace.TheVariants as place
+use Rattle.aggregates.specs.declared.object.ObjectKind.{ObjectKind}
+use Rattle.aggregates.specs.declared.object.ObjectKind.TheVariants as kind
 use Rattle.pattern_compiler.specs.View.{name_of}
 use Rattle.pattern_compiler.specs.declared.instr.Name.{Name}
 use Rattle.pattern_compiler.specs.declared.instr.Name.TheVariants as name
@@ -95,7 +95,7 @@ fetched_by k (StringAt s) w = refl
 
 module _ (h : WorldView) (os : List (Object Value)) (same : os ≡ h.objects) (k : ℕ) where
   -- the name of the value for a key
-  pub key_named : (kd : Option Kind) (s t : Bytes) → kd ≡ option_map kind_of (slice_get os k) → kd ≡ Some kind.Table → t ≡ s → (io : Io) → element_op (Obj k) (Str s ∷ []) (world_of h io) ≡ Gives (StringKey k t) (world_of h io)
+  pub key_named : (kd : Option ObjectKind) (s t : Bytes) → kd ≡ option_map kind_of (slice_get os k) → kd ≡ Some kind.Table → t ≡ s → (io : Io) → element_op (Obj k) (Str s ∷ []) (world_of h io) ≡ Gives (StringKey k t) (world_of h io)
   key_named kd s t by table is io = in_table h os io k (Str s ∷ []) same kd by table ∙ ap (λ x. Gives (StringKey k x) (world_of h io)) (sym is)
 
   -- what is fetched for a key

@@ -7,8 +7,8 @@ use Rattle.model.specs.Language.Operators.{same_key}
 use Rattle.aggregates.specs.Keys.{index_at, value_at}
 use Rattle.aggregates.specs.Made.{kind_of}
 use Rattle.aggregates.specs.Objects.{index_in, value_in}
-use Rattle.aggregates.specs.declared.object.Kind.{Kind}
-use Rattle.aggregates.specs.declared.object.Kind.TheVariants as kind
+use Rattle.aggregates.specs.declared.object.ObjectKind.{ObjectKind}
+use Rattle.aggregates.specs.declared.object.ObjectKind.TheVariants as kind
 use Rattle.world.specs.Elements.{HoldsAt, entry_name, key_value}
 use Rattle.world.specs.Held.{WorldView, world_of}
 use Rattle.world.specs.Values.{value_of}
@@ -38,7 +38,7 @@ absent_value key (Some (RecordOf t fs vs)) h = refl
 
 module _ (h : WorldView) (os : List (Object Value)) (same : os ≡ h.objects) (k : ℕ) (key : Key) where
   -- null, for a key without an entry
-  pub null_held : (kd : Option Kind) → kd ≡ option_map kind_of (slice_get os k) → kd ≡ Some kind.Table → index_in key (slice_get h.objects k) ≡ None → HoldsAt (Obj k) (key_value key) (Str []) h
+  pub null_held : (kd : Option ObjectKind) → kd ≡ option_map kind_of (slice_get os k) → kd ≡ Some kind.Table → index_in key (slice_get h.objects k) ≡ None → HoldsAt (Obj k) (key_value key) (Str []) h
   null_held kd by table none =
       let here : index_in key (slice_get os k) ≡ None = ap (λ xs. index_in key (slice_get xs k)) same ∙ none in
       let got : Option (Bor Value) = None in (

@@ -1,11 +1,10 @@
 -- Keywords in which a run counts its statements and its calls.
 use Rattle.std.specs.Prelude.{ℕ, ℤ, Bool, true, false}
 use Rattle.model.specs.declared.instr.ReturnKind.{ReturnKind}
-use Rattle.model.specs.declared.instr.ReturnKind.TheVariants as kind
 use Rattle.model.specs.declared.keys.KeyId.{KeyId}
 use Rattle.model.specs.declared.keys.KeyId.TheVariants as k
 use Rattle.model.specs.Language.Keywords.{counted_up, return_name}
-use Rattle.model.specs.Language.Values.{enter_stmt, keys_of, set_keys}
+use Rattle.model.specs.Language.Values.{keys_of, set_keys}
 use Rattle.model.specs.Machine.Steps.{MW}
 
 -- keywords that hold an integer and that the machine reads by itself
@@ -24,7 +23,3 @@ deeper w = set_keys (record (keys_of w) { fnclevel = counted_up (keys_of w).fncl
 -- with the keywords of a caller, as a call ends in this way
 abbrev pub with_caller : ReturnKind → (statement level : ℤ) → MW → MW
 with_caller k statement level w = set_keys (record (keys_of w) { stno = statement; fnclevel = level; rtntype = return_name k }) w
-
--- after a call that the statement of this number gave its value, and that ended by RETURN there
-abbrev pub passed : ℕ → MW → MW
-passed n w = with_caller kind.Return (keys_of w).stno (keys_of w).fnclevel (enter_stmt n w)

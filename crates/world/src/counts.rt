@@ -7,7 +7,7 @@ ghost use Rattle.model.specs.Language.Keywords as keys;
 ghost use Rattle.model.specs.Language.Meaning.{over_limit};
 ghost use Rattle.model.specs.Language.Values as values;
 ghost use Rattle.model.specs.Language.Values.{enter_stmt};
-ghost use Rattle.world.specs.Counts.{deeper, is_counted, passed, with_caller};
+ghost use Rattle.world.specs.Counts.{deeper, is_counted, with_caller};
 ghost use Rattle.world.specs.Held.{StaySilent, world_of};
 
 use crate::world::World;
@@ -103,18 +103,6 @@ impl World {
         self.keywords.put(KeyId::StNo, statement);
         self.keywords.put(KeyId::FncLevel, level);
         self.keywords.returned(kind);
-    }
-
-    /// A call passes by RETURN that a statement of its function gave its value.
-    #[inline(always)]
-    pub fn pass_call(&mut self, number: u32)
-        ensures passed { (io : Io) → world_of self.new io ≡ passed number (world_of self.old io) }
-        ensures names { self.new.names ≡ self.old.names }
-    {
-        let statement = self.statement();
-        let level = self.level();
-        self.enter_statement(number);
-        self.put_back(ReturnKind::Return, statement, level);
     }
 
     /// A statement failed.

@@ -21,7 +21,7 @@ ghost use Rattle.world.specs.Answers.{answer_map, done, AnswersAs, AnswersOrFail
 use crate::fault::Fault;
 use crate::value::Value;
 use crate::world::World;
-use aggregates::{Key, Kind, Place};
+use aggregates::{ElementPlace, Key, ObjectKind};
 use model::ErrorCode;
 use pattern_compiler::Name;
 use strings::Text;
@@ -69,7 +69,7 @@ impl World {
             → fetch_op (Element object index) (world_of self.now io)
             ≡ Gives (value_of value.now) (world_of self.now io)) }
     {
-        let Some(value) = self.heap.get(object, &Place::Element(index)) else {
+        let Some(value) = self.heap.get(object, &ElementPlace::Element(index)) else {
             return None;
         };
         Some(value)
@@ -170,7 +170,7 @@ impl World {
             → element_op (Obj object) (Str key.now ∷ []) (world_of self.now io)
             ≡ Gives (name_of name) (world_of self.now io)) }
     {
-        let Some(Kind::Table) = self.heap.kind(object) else {
+        let Some(ObjectKind::Table) = self.heap.kind(object) else {
             return None;
         };
         let Ok(object) = u32::try_from(object) else {
@@ -220,16 +220,16 @@ impl World {
             Name::Variable(_) => false,
             Name::Element { object, index } => match value {
                 Value::Integer(n) => self.put_integer(*object, *index, *n),
-                _ => self.put_at(*object, Place::Element(*index), value),
+                _ => self.put_at(*object, ElementPlace::Element(*index), value),
             },
             Name::IntegerKey { object, key } => {
-                self.put_at(*object, Place::Key(Key::Integer(*key)), value)
+                self.put_at(*object, ElementPlace::Key(Key::Integer(*key)), value)
             }
             Name::StringKey { object, key } => {
                 let Ok(key) = key.clone() else {
                     return false;
                 };
-                self.put_at(*object as usize, Place::Key(Key::String(key)), value)
+                self.put_at(*object as usize, ElementPlace::Key(Key::String(key)), value)
             }
         }
     }
@@ -246,7 +246,7 @@ impl World {
     {
         let Ok(stored) = self
             .heap
-            .set(object, Place::Element(index), Value::Integer(n))
+            .set(object, ElementPlace::Element(index), Value::Integer(n))
         else {
             return false;
         };
@@ -279,16 +279,16 @@ impl World {
         match name {
             Name::Variable(_) => false,
             Name::Element { object, index } => {
-                self.put_value(*object, Place::Element(*index), value)
+                self.put_value(*object, ElementPlace::Element(*index), value)
             }
             Name::IntegerKey { object, key } => {
-                self.put_value(*object, Place::Key(Key::Integer(*key)), value)
+                self.put_value(*object, ElementPlace::Key(Key::Integer(*key)), value)
             }
             Name::StringKey { object, key } => {
                 let Ok(key) = key.clone() else {
                     return false;
                 };
-                self.put_value(*object as usize, Place::Key(Key::String(key)), value)
+                self.put_value(*object as usize, ElementPlace::Key(Key::String(key)), value)
             }
         }
     }
@@ -302,12 +302,12 @@ impl World {
         ensures kept { result ≡ false → self.new ≡ self.old }
         ensures names { self.new.names ≡ self.old.names }
     {
-        self.put_value(object, Place::Element(index), value)
+        self.put_value(object, ElementPlace::Element(index), value)
     }
 
     // A value at a place of an object, if that was stored.
     #[inline(always)]
-    fn put_value(&mut self, object: usize, place: Place, value: Value) -> bool
+    fn put_value(&mut self, object: usize, place: ElementPlace, value: Value) -> bool
         ensures set { result ≡ true → (io : Io)
             → put_object object (stored_at place (value_of value)
             (slice_get (world_of self.old io).objects object)) (world_of self.old io)
@@ -323,7 +323,7 @@ impl World {
 
     // A copy of a value at a place of an object, if that was stored.
     #[inline(never)]
-    fn put_at(&mut self, object: usize, place: Place, value: &Value) -> bool
+    fn put_at(&mut self, object: usize, place: ElementPlace, value: &Value) -> bool
         ensures set { result ≡ true → (io : Io)
             → put_object object (stored_at place (value_of value.now)
             (slice_get (world_of self.old io).objects object)) (world_of self.old io)
@@ -347,7 +347,7 @@ impl World {
             (fetch_op (Element object index) (world_of self.now io)) }
         ensures stop { IfStopped result (λ stop. stop ≡ NoMemory) }
     {
-        match self.heap.get(object, &Place::Element(index)) {
+        match self.heap.get(object, &ElementPlace::Element(index)) {
             Some(value) => Ok(Some(value.clone()?)),
             None => Err(Fault::Error(ErrorCode::WrongType)),
         }
@@ -361,10 +361,10 @@ impl World {
             (key_of key)) (world_of self.now io)) }
         ensures stop { IfStopped result (λ stop. stop ≡ NoMemory) }
     {
-        let Some(Kind::Table) = self.heap.kind(object) else {
+        let Some(ObjectKind::Table) = self.heap.kind(object) else {
             return Err(Fault::Error(ErrorCode::WrongType));
         };
-        match self.heap.get(object, &Place::Key(key)) {
+        match self.heap.get(object, &ElementPlace::Key(key)) {
             Some(value) => Ok(Some(value.clone()?)),
             None => Ok(Some(Value::null())),
         }
@@ -372,7 +372,12 @@ impl World {
 
     /// Another value at a place of an object.
     #[inline]
-    pub(crate) fn store(&mut self, object: usize, place: Place, value: Value) -> Result<(), Fault>
+    pub(crate) fn store(
+        &mut self,
+        object: usize,
+        place: ElementPlace,
+        value: Value,
+    ) -> Result<(), Fault>
         ensures stored { (io : Io)
             → AnswersAs (done result) (world_of self.new io)
             (put_object object (stored_at place (value_of value)

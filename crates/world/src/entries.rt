@@ -9,7 +9,7 @@ ghost use Rattle.world.specs.Values.{value_of};
 
 use crate::value::Value;
 use crate::world::World;
-use aggregates::{Key, Kind};
+use aggregates::{Key, ObjectKind};
 
 impl World {
     // The value of the key of a table whose entry stands at an index; without an entry it is null.
@@ -24,7 +24,7 @@ impl World {
     {
         match index {
             None => match self.heap.kind(object) {
-                Some(Kind::Table) => Some(None),
+                Some(ObjectKind::Table) => Some(None),
                 _ => None,
             },
             Some(index) => match self.heap.entry(object, index) {

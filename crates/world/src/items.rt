@@ -18,7 +18,7 @@ ghost use Rattle.world.specs.Answers.{answer_map, conv_of, AnswersOrFails, IfSto
 use crate::fault::Fault;
 use crate::value::Value;
 use crate::world::World;
-use aggregates::Kind;
+use aggregates::ObjectKind;
 use model::{ErrorCode, Stop};
 use pattern_compiler::Name;
 
@@ -66,9 +66,9 @@ impl World {
         ensures stop { IfStopped result (λ stop. stop ≡ NoMemory) }
     {
         match self.heap.kind(object) {
-            Some(Kind::Array) => Ok(self.array_item(object, subscripts)?),
-            Some(Kind::Table) => table_item(object, subscripts),
-            Some(Kind::Record) => Err(Fault::Error(ErrorCode::WrongType)),
+            Some(ObjectKind::Array) => Ok(self.array_item(object, subscripts)?),
+            Some(ObjectKind::Table) => table_item(object, subscripts),
+            Some(ObjectKind::Record) => Err(Fault::Error(ErrorCode::WrongType)),
             None => Err(Fault::Error(ErrorCode::WrongType)),
         }
     }

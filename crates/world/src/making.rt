@@ -13,7 +13,7 @@ ghost use Rattle.world.specs.Answers.{answer_map, AnswersAs, AnswersOrFails, IfS
 use crate::fault::Fault;
 use crate::value::Value;
 use crate::world::World;
-use aggregates::{Bounds, Kind};
+use aggregates::{Bounds, ObjectKind};
 use model::ErrorCode;
 use std::alloc::Global;
 
@@ -57,7 +57,7 @@ impl World {
             return name.as_slice();
         }
         match self.heap.kind(object) {
-            Some(Kind::Table) => b"TABLE",
+            Some(ObjectKind::Table) => b"TABLE",
             _ => b"ARRAY",
         }
     }

@@ -19,7 +19,7 @@ use crate::fault::Fault;
 use crate::value::Value;
 use crate::world::{NO_SLOT, World, is_zero};
 use crate::world_operators::Span;
-use aggregates::{Key, Place};
+use aggregates::{ElementPlace, Key};
 use model::{ErrorCode, KeyId, Stop, UnitFault};
 use pattern_compiler::Name;
 use std::alloc::Global;
@@ -201,13 +201,17 @@ impl World {
     {
         match name {
             Name::Variable(name) => self.assign_variable(alloc, units, name, slot, value),
-            Name::Element { object, index } => self.store(*object, Place::Element(*index), value),
+            Name::Element { object, index } => self.store(
+                *object,
+                ElementPlace::Element(*index),
+                value,
+            ),
             Name::IntegerKey { object, key } => {
-                self.store(*object, Place::Key(Key::Integer(*key)), value)
+                self.store(*object, ElementPlace::Key(Key::Integer(*key)), value)
             }
             Name::StringKey { object, key } => {
                 let key = Key::String(key.clone()?);
-                self.store(*object as usize, Place::Key(key), value)
+                self.store(*object as usize, ElementPlace::Key(key), value)
             }
         }
     }

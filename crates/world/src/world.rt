@@ -87,7 +87,7 @@ impl Variable {
 
     // Puts two texts behind the string that it holds, in place; whether that is made, or else nothing changes.
     #[inline(always)]
-    fn lengthen(&mut self, alloc: Global, one: &Text, two: &Text) -> bool
+    fn append_in_place(&mut self, alloc: Global, one: &Text, two: &Text) -> bool
         requires fits { (u : Bytes) → self.old.value ≡ String u → length u + length one.now + length two.now < 2 ^ 64 }
         ensures made { result ≡ true → (u : Bytes) × (self.old.value ≡ String u)
             × (self.new ≡ record self.old { value = String ((u ++ one.now) ++ two.now) }) }
@@ -617,7 +617,7 @@ impl World {
     /// slot; whether that is made, or else nothing changes. Made in one string of so many bytes at most, and, where that is
     /// asked for, behind another one than the null string.
     #[inline(always)]
-    pub fn lengthen(
+    pub fn append_in_place(
         &mut self,
         alloc: Global,
         name: &Text,
@@ -652,12 +652,12 @@ impl World {
         let Some(found) = self.variables.get_index_mut(slot as usize) else {
             return false;
         };
-        found.lengthen(alloc, one, two)
+        found.append_in_place(alloc, one, two)
     }
 
-    /// `lengthen` of the variable in a slot that it keeps.
+    /// `append_in_place` of the variable in a slot that it keeps.
     #[inline(always)]
-    pub fn lengthen_in(
+    pub fn append_in_slot(
         &mut self,
         alloc: Global,
         slot: u32,
@@ -692,7 +692,7 @@ impl World {
         let Some(found) = self.variables.get_index_mut(slot as usize) else {
             return false;
         };
-        found.lengthen(alloc, one, two)
+        found.append_in_place(alloc, one, two)
     }
 
     /// Whether what is left of a subject without its front is no longer than `&MAXLNGTH` allows.

@@ -14,7 +14,7 @@ use Rattle.model.specs.Machine.Steps.{MW, codes_of, Module, State, Run, InMatch,
 use Rattle.model.specs.Module.Images.{module_of}
 use Rattle.model.specs.Module.Placed.{Placed}
 use Rattle.model.specs.Machine.Alike.{VR, rstr, rpat, onil, WR}
-use Rattle.model.specs.Laws.Agreement.{Records, IsBeginning, seen_of, seen_at, Inputs, first_w, first_m, AgreesWherePlaced}
+use Rattle.model.specs.Laws.Agreement.{Records, IsPrefix, seen_of, seen_at, Inputs, first_w, first_m, AgreesWherePlaced}
 use Rattle.model.proofs.Language.MeaningGrows.{Before, before_refl, Goes_on}
 use Rattle.model.proofs.Machine.Following.{Follows, Fits, Goes, sim_all, follow_fits, follow_goes, goes_all, steps_add, Still}
 use Rattle.model.proofs.Machine.StatementsFollow.{local}
@@ -152,13 +152,13 @@ module _ (prog : Program) (img : Module) (trees_at : ℕ → Option Expr) (place
   seen_printed (Over e m) = refl
   seen_printed (Stuck m) = refl
 
-  before_is : {u v : MW} → Before u v → IsBeginning (printed_of u) (printed_of v)
+  before_is : {u v : MW} → Before u v → IsPrefix (printed_of u) (printed_of v)
   before_is b = (b.new, b.is)
 
-  begins : (a b c d : Records) → a ≡ b → IsBeginning b c → c ≡ d → IsBeginning a d
+  begins : (a b c d : Records) → a ≡ b → IsPrefix b c → c ≡ d → IsPrefix a d
   begins a b c d h i e = (i.0, sym e ∙ i.1 ∙ ap (λ l. l ++ i.0) (sym h))
 
-  same_is : (a b : Records) → b ≡ a → IsBeginning a b
+  same_is : (a b : Records) → b ≡ a → IsPrefix a b
   same_is a b e = ([], e ∙ sym (append-nil a))
 
   -- one ending on both sides
@@ -185,17 +185,17 @@ module _ (prog : Program) (img : Module) (trees_at : ℕ → Option Expr) (place
       state (Over e' m') q = known_end e' m' q (known prog img trees_at placed w m wr k)
       state (Stuck x) q = not_ended (ap (λ s. (seen_at s).ending) (sym q) ∙ h)
 
-  prints : (n : ℕ) → (k : ℕ) × IsBeginning (seen_of (run prog n w)).printed (seen_at (state_at img k m)).printed
+  prints : (n : ℕ) → (k : ℕ) × IsPrefix (seen_of (run prog n w)).printed (seen_at (state_at img k m)).printed
   prints n = go (known_fits prog img trees_at placed w m wr n)
     where
-      go : Known prog img trees_at placed w m wr 0 n → (k : ℕ) × IsBeginning (seen_of (run prog n w)).printed (seen_at (state_at img k m)).printed
+      go : Known prog img trees_at placed w m wr 0 n → (k : ℕ) × IsPrefix (seen_of (run prog n w)).printed (seen_at (state_at img k m)).printed
       go (both_end f v j m2 me ov pr) = (j, same_is _ _ (ap (λ s. s.printed) (both n j f v m2 me ov pr)))
       go (both_go v j le me st) = (j, same_is _ _ (seen_printed (state_at img j m) ∙ still_prints (state_at img j m) v st ∙ sym (ap (λ r. (seen_of r).printed) me)))
 
-  prints_only : (k : ℕ) → (n : ℕ) × IsBeginning (seen_at (state_at img k m)).printed (seen_of (run prog n w)).printed
+  prints_only : (k : ℕ) → (n : ℕ) × IsPrefix (seen_at (state_at img k m)).printed (seen_of (run prog n w)).printed
   prints_only k = go (known prog img trees_at placed w m wr k)
     where
-      go : (n : ℕ) × Known prog img trees_at placed w m wr k n → (n : ℕ) × IsBeginning (seen_at (state_at img k m)).printed (seen_of (run prog n w)).printed
+      go : (n : ℕ) × Known prog img trees_at placed w m wr k n → (n : ℕ) × IsPrefix (seen_at (state_at img k m)).printed (seen_of (run prog n w)).printed
       go (n, both_end f v j m2 me ov pr) =
           let swap : j + k ≡ k + j = omega arith in (
             n,

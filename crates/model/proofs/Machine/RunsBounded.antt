@@ -10,7 +10,7 @@ use Rattle.model.specs.Pattern.Search.{scan}
 use Rattle.model.specs.Module.Images.{module_of}
 use Rattle.model.specs.Module.Placed.{Placed}
 use Rattle.model.specs.Machine.Alike.{WR}
-use Rattle.model.specs.Laws.Agreement.{IsBeginning, seen_of, seen_at, first_w, first_m}
+use Rattle.model.specs.Laws.Agreement.{IsPrefix, seen_of, seen_at, first_w, first_m}
 use Rattle.model.specs.Language.RulesUsed.{own_count, query_count}
 use Rattle.model.specs.Laws.StepBound.{steps_per_rule, RunStepsBounded, RunPrintsBounded}
 use Rattle.model.proofs.Machine.Following.{rank, extra, spare, own, own_steps, Task, start, done, failed, steps_add, start_prints}
@@ -89,10 +89,10 @@ module _ (prog : Program) (img : Module) (trees_at : ℕ → Option _) (placed :
         go (Open v) h x = absurd (subst IsThere (sym h) tt)
 
     -- also where it is open
-    pub printed_by : (n b : ℕ) → suc (steps_per_rule * count_at prog img trees_at n (run_rule prog w)) ≤ b → IsBeginning (seen_of (run prog n w)).printed (seen_at (steps img b (begun img m))).printed
+    pub printed_by : (n b : ℕ) → suc (steps_per_rule * count_at prog img trees_at n (run_rule prog w)) ≤ b → IsPrefix (seen_of (run prog n w)).printed (seen_at (steps img b (begun img m))).printed
     printed_by n b le = go (run prog n w) (run_reaches n)
       where
-        later : (j : ℕ) (v : W) → j ≤ b → printed_of (world_of_state (steps img j (begun img m))) ≡ printed_of v → IsBeginning (printed_of v) (seen_at (steps img b (begun img m))).printed
+        later : (j : ℕ) (v : W) → j ≤ b → printed_of (world_of_state (steps img j (begun img m))) ≡ printed_of v → IsPrefix (printed_of v) (seen_at (steps img b (begun img m))).printed
         later j v x same =
             let q : j + (b - j) ≡ b = omega (arith, x) in
             let on : Before (world_of_state (steps img j (begun img m))) (world_of_state (steps img (b - j) (steps img j (begun img m)))) = steps_on img (b - j) (steps img j (begun img m)) in (
@@ -102,7 +102,7 @@ module _ (prog : Program) (img : Module) (trees_at : ℕ → Option _) (placed :
                   ∙ on.is ∙ ap (λ l. l ++ on.new) same,
             )
 
-        go : (r : Res (record {})) → Reaches prog img trees_at 0 (0 + steps_per_rule * count_at prog img trees_at n (run_rule prog w)) 0 (begun img m) Qr Fr r → IsBeginning (seen_of r).printed (seen_at (steps img b (begun img m))).printed
+        go : (r : Res (record {})) → Reaches prog img trees_at 0 (0 + steps_per_rule * count_at prog img trees_at n (run_rule prog w)) 0 (begun img m) Qr Fr r → IsPrefix (seen_of r).printed (seen_at (steps img b (begun img m))).printed
         go (Done a v) x = absurd x.2
         go (Fails v) x = absurd x.2
         go (Ends f v) (j, x, (m', r1, at)) = later j v (omega (arith, le, x)) (ap (λ s. printed_of (world_of_state s)) at ∙ ap (λ p. p.printed) (sym r1.io))

@@ -3,7 +3,7 @@ use Rattle.std.specs.Prelude.{ℕ, List, [], ◌∷◌, ◌++◌, pos, None, Som
 use Rattle.model.specs.declared.run.Ending.TheVariants as ending
 use Rattle.model.specs.declared.run.ErrorCode.{ErrorCode}
 use Rattle.model.specs.Deck.Trees.{Bytes, Expr, Name, Integer, Given, Args, Nil, More, Place, Label, Goto, Next, Body, Assign, Stmt, Plain, End}
-use Rattle.model.specs.Laws.Agreement.{Seen, Records, Inputs}
+use Rattle.model.specs.Laws.Agreement.{Behaviour, Records, Inputs}
 
 -- a deck whose END has no entry
 abbrev pub deck : List Stmt → List Stmt
@@ -48,14 +48,14 @@ abbrev pub lines : List Bytes → Records
 lines [] = []
 lines (s ∷ ss) = record { unit = 6; bytes = s } ∷ lines ss
 
-abbrev pub runs : List Bytes → Seen
+abbrev pub runs : List Bytes → Behaviour
 runs ss = record { ending = None; printed = lines ss }
 
-abbrev pub ends_normally : List Bytes → Seen
+abbrev pub ends_normally : List Bytes → Behaviour
 ends_normally ss = record { ending = Some ending.Normal; printed = lines ss }
 
-abbrev pub ends_with : ErrorCode → ℕ → List Bytes → Seen
+abbrev pub ends_with : ErrorCode → ℕ → List Bytes → Behaviour
 ends_with e k ss = record { ending = Some (ending.Error e (pos k)); printed = lines ss }
 
-abbrev pub ends_at_limit : ℕ → List Bytes → Seen
+abbrev pub ends_at_limit : ℕ → List Bytes → Behaviour
 ends_at_limit k ss = record { ending = Some (ending.StLimit k); printed = lines ss }

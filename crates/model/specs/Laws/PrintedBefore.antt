@@ -1,7 +1,7 @@
 -- What a machine does doesn't depend on what was printed before.
 use Rattle.std.specs.Prelude.{◌≡◌, ℕ, ◌++◌}
 use Rattle.model.specs.Language.Values.{World, set_io}
-use Rattle.model.specs.Laws.Agreement.{Records, Seen}
+use Rattle.model.specs.Laws.Agreement.{Records, Behaviour}
 use Rattle.model.specs.Machine.Steps.{Module, State, Run, InMatch, Over, Stuck, steps}
 
 -- a world, and a state, with these records printed before all others
@@ -15,7 +15,7 @@ after_s before (Over e w) = Over e (after_w before w)
 after_s before (Stuck w) = Stuck (after_w before w)
 
 -- what is seen of a run before which these records were printed
-abbrev pub seen_after : Records → Seen → Seen
+abbrev pub seen_after : Records → Behaviour → Behaviour
 seen_after before seen = record { ending = seen.ending; printed = before ++ seen.printed }
 
 -- the law: a run adds to what was printed before

@@ -7,7 +7,7 @@ use Rattle.model.specs.Deck.Trees.{Stmt, Expr}
 use Rattle.model.specs.Language.Programs.{program}
 use Rattle.model.specs.Module.Images.{module_of}
 use Rattle.model.specs.Module.Placed.{Placed}
-use Rattle.model.specs.Laws.Agreement.{Inputs, IsBeginning, meaning_at, machine_at}
+use Rattle.model.specs.Laws.Agreement.{Inputs, IsPrefix, meaning_at, machine_at}
 use Rattle.model.specs.Pattern.Patterns.{Pat, Running}
 use Rattle.model.specs.Pattern.Search.{Script, scan}
 use Rattle.model.specs.Pattern.Steps.{Code, Answers, match_steps, pattern_steps, event_of}
@@ -55,7 +55,7 @@ RunStepsBounded = (deck : List Stmt) (image : Image) (trees_at : ℕ → Option 
 -- what the meaning of a deck has printed at some depth, having used r rules to that depth, the module has printed after
 -- any steps_per_rule * (r + 1) steps or more
 abbrev pub PrintsInTime : List Stmt → Image → Type 0
-PrintsInTime deck image = (inputs : Inputs) (n b : ℕ) → steps_per_rule * (rules_used n deck inputs + 1) ≤ b → IsBeginning (meaning_at n deck inputs).printed (machine_at image inputs b).printed
+PrintsInTime deck image = (inputs : Inputs) (n b : ℕ) → steps_per_rule * (rules_used n deck inputs + 1) ≤ b → IsPrefix (meaning_at n deck inputs).printed (machine_at image inputs b).printed
 
 -- the law: wherever the code of each statement stands
 abbrev pub RunPrintsBounded : Type 0

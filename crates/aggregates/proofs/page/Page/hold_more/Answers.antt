@@ -12,7 +12,8 @@ pub loop-place-preserved : goal.loop-place-preserved
 loop-place-preserved g c =
     let xs = c.loop-place.self-inside.objects.items in
     let long = ap length c.in_ok-push.ensures.items in
-    let more = append_long xs (o.Table c.new.result ∷ []) in
-    (ap (λ ys. whole (objects_of ys)) c.in_ok-push.ensures.items ∙ ap whole (objects_push xs (o.Table c.new.result)) ∙ ap (λ es. whole (objects_of xs ++ TableOf es ∷ [])) c.new.ensures
-    ∙ padded_more no_object 512 (objects_of xs) ∙ c.loop-place.invariant.0,
-    omega (arith, long, more, c.loop-place.invariant.1))
+    let more = append_long xs (o.Table c.new.result ∷ []) in (
+      ap (λ ys. whole (objects_of ys)) c.in_ok-push.ensures.items ∙ ap whole (objects_push xs (o.Table c.new.result)) ∙ ap (λ es. whole (objects_of xs ++ TableOf es ∷ [])) c.new.ensures
+          ∙ padded_more no_object 512 (objects_of xs) ∙ c.loop-place.invariant.0,
+      omega (arith, long, more, c.loop-place.invariant.1),
+    )

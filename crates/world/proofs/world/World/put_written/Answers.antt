@@ -3,7 +3,7 @@ use Rattle.std.proofs.lemmas.Int.{to_z-of_z}
 use Rattle.model.specs.Deck.Target.{Element}
 use Rattle.model.specs.Language.Operators.{assign_op}
 use Rattle.model.specs.Language.Values.{Int}
-use Rattle.aggregates.specs.declared.place.Place.TheVariants as place
+use Rattle.aggregates.specs.declared.place.ElementPlace.TheVariants as place
 use Rattle.world.specs.Held.{world_of}
 use Rattle.world.specs.declared.value.Value.TheVariants as value
 use Rattle.world.proofs.Objects.{was_stored}
