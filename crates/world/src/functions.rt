@@ -15,7 +15,7 @@ use crate::calls::slot_at;
 use crate::world::{NO_SLOT, World};
 use aggregates::Names;
 use indexmap::IndexMap;
-use prototypes::FunctionPrototype;
+use prototypes::{FunctionPrototype, TypePrototype};
 use std::alloc::{AllocError, Global};
 use std::marker::Model;
 use strings::Text;
@@ -241,14 +241,16 @@ impl World {
         self.functions.note(name, slot)
     }
 
-    /// Notes where the functions of fields stand.
-    pub(crate) fn note_fields(&mut self, fields: &[Text])
+    /// Notes where the functions of a type stand: the one that makes its records, and those of its fields.
+    pub(crate) fn note_type(&mut self, prototype: &TypePrototype)
         ensures { self.new ≡ self.old }
     {
-        for field in fields {
+        for field in prototype.fields() {
             let slot = self.slot_of(field);
             let _noted = self.note_function(field, slot);
         }
+        let slot = self.slot_of(prototype.name());
+        let _noted = self.note_function(prototype.name(), slot);
     }
 
     /// Notes the names of fields that a deck's types are expected to have. No meaning sees that.

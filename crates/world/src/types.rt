@@ -47,7 +47,7 @@ impl World {
     {
         let made = functions_of(alloc, prototype)?;
         self.functions.append(made)?;
-        self.note_fields(prototype.fields());
+        self.note_type(prototype);
         Ok(())
     }
 }

@@ -16,4 +16,4 @@ returns-clause-ok c = λ io.
     let h : WorldView = record { variables = inside.variables.entries; objects = inside.heap; functions = inside.functions; keys = inside.keywords; level = inside.level; names = inside.names.items } in
     ap (λ z. data_op (Some c.args.prototype.now) (world_of z io)) (sym c.self.view_is)
     ∙ made_type h c.in_ok-made.made.entries c.append.new.self c.args.prototype.now c.in_ok-made.ensures.function c.in_ok-append.ensures.ok io
-    ∙ ap (λ z. Gives (Str []) (world_of z io)) (sym c.note_fields.ensures)
+    ∙ ap (λ z. Gives (Str []) (world_of z io)) (sym c.note_type.ensures)
