@@ -8,7 +8,7 @@ use Rattle.frames.specs.View.{operands_of}
 use Rattle.loader.specs.Places.{offset_at}
 use Rattle.instruction_steps.specs.Held.{after, handlers_in, waiting}
 use Rattle.instruction_steps.proofs.Flowing.{above, asks, label_needs}
-use Rattle.statement_machine.proofs.Matching.{code_now, fits, goto_now}
+use Rattle.statement_machine.proofs.Matching.{code_now, fits, for_no_match, goto_now}
 use Rattle.unit_io.proofs.Serving.{served_on}
 use Rattle.world.proofs.Asked.{takes_on}
 use Rattle.instruction_steps.specs.Stopped.{halted_by}
@@ -26,6 +26,20 @@ go_to_value-requires-clause-handlers g c =
     let im = c.args.program.now in
     let r = c.args.self.now in
     (label_needs im c.requires.runnable r.state c.args.next (fits im r c.requires.code c.requires.stands) (c.requires.there.0 ∙ ap (λ i. At i (offset_at im.code c.args.next)) c.in-GotoV.is)).1
+
+pub return_from-requires-clause-upon : goal.return_from-requires-clause-upon
+return_from-requires-clause-upon g c =
+    let im = c.args.program.now in
+    let r = c.args.self.now in
+    let a = asks im c.requires.runnable r.state c.args.next (fits im r c.requires.code c.requires.stands) (op.Return c.in-Return.kind) (c.requires.there.0 ∙ ap (λ i. At i (offset_at im.code c.args.next)) c.in-Return.is) in
+    for_no_match im r.frames.top r.state (goto_now im r c.requires.code c.requires.stands (ap (λ (x : Shape). x.mode) a)).0
+
+pub go_to_value-requires-clause-upon : goal.go_to_value-requires-clause-upon
+go_to_value-requires-clause-upon g c =
+    let im = c.args.program.now in
+    let r = c.args.self.now in
+    let a = asks im c.requires.runnable r.state c.args.next (fits im r c.requires.code c.requires.stands) op.GotoV (c.requires.there.0 ∙ ap (λ i. At i (offset_at im.code c.args.next)) c.in-GotoV.is) in
+    for_no_match im r.frames.top r.state (goto_now im r c.requires.code c.requires.stands (ap (λ (x : Shape). x.mode) a)).0
 
 pub returns-in-GotoV-clause-sound : goal.returns-in-GotoV-clause-sound
 returns-in-GotoV-clause-sound g c =
