@@ -15,7 +15,7 @@ use Rattle.match_machine.specs.Choices.{Choice}
 use Rattle.match_machine.specs.declared.state.Kept.{Kept}
 use Rattle.match_machine.specs.declared.state.Kept.TheVariants as kept
 use Rattle.match_machine.specs.Standing.{Back, Standing, IsAtArb, no_backs, older, oldest}
-use Rattle.match_machine.specs.Logs.{note_of, pending_of, chain, entry_at, below_of, last_code, Logs, cut, back_of, backs, Marks, LeavesAll}
+use Rattle.match_machine.specs.Logs.{note_of, pending_of, chain, entry_at, below_of, last_code, Logs, cut, back_of, backs, Marks}
 
 -- ---- lists of notes
 pub chain_top : (e : Entry) (es : List Entry) (h : ℕ) → h ≡ suc (length es) → chain (e ∷ es) h ≡ note_of e.note ∷ chain es e.below
@@ -289,14 +289,6 @@ newest_here l xs rest x y code e h c k =
     ∙ ap (λ z. back_of (cut l z) z ∷ backs (cut l z) (reverse rest)) (sym (newest_is xs rest x y e h))
     ∙ ap (λ (m : Logs). back_of m y ∷ backs m (reverse rest)) same
     ∙ ap (λ (code' : Code). let bs : List Back = record { kept = y.kept; thread = record { code = code'; place = y.place; cursor = y.cursor; notes = chain (reverse (take y.log l.log)) y.head; pending = pending_of (take y.pending l.pending) } } ∷ backs (cut_here l y) (reverse rest) in bs) k
-
--- the newest, where it leaves all
-pub newest_whole : (l : Logs) (xs rest : List Choice) (x : Choice) (code : Code) → xs ≡ rest ++ x ∷ [] → LeavesAll xs (length l.log) (length l.pending) (length l.codes) → last_code l.codes ≡ code → backs l (reverse xs) ≡ record { kept = x.kept; thread = record { code = code; place = x.place; cursor = x.cursor; notes = chain (reverse l.log) x.head; pending = pending_of l.pending } } ∷ backs l (reverse rest)
-newest_whole l xs rest x code e (y, h, n, p, c) k =
-    let q : y ≡ x = newest_is xs rest x y e h in
-    let f : cut l x ≡ l = subst (λ z. cut l z ≡ l) q (uncut_by l y c n p) in
-    ap (backs l) (ap reverse e ∙ reverse-append rest (x ∷ [])) ∙ ap (λ (m : Logs). back_of m x ∷ backs m (reverse rest)) f
-    ∙ ap (λ (code' : Code). let bs : List Back = record { kept = x.kept; thread = record { code = code'; place = x.place; cursor = x.cursor; notes = chain (reverse l.log) x.head; pending = pending_of l.pending } } ∷ backs l (reverse rest) in bs) k
 
 -- without the newest
 pub rest_backs : (l : Logs) (xs rest : List Choice) (x : Choice) → xs ≡ rest ++ x ∷ [] → Marks l (reverse xs) → backs l (reverse rest) ≡ older (backs l (reverse xs))

@@ -1,43 +1,32 @@
--- What an instruction does, in the definitions.
-use Rattle.std.specs.Prelude.{ℕ, ◌+◌, List, Option, Some, Bool, true, false}
-use Rattle.model.specs.Deck.Target as target
+-- Kinds of instructions.
+use Rattle.std.specs.Prelude.{◌≡◌, ℕ, List, [], Option, Some, None}
+use Rattle.model.specs.Pattern.BasicEnds.{ends_at}
 use Rattle.model.specs.Pattern.Patterns as p
-use Rattle.model.specs.Pattern.Steps as s
-use Rattle.model.specs.Pattern.Steps.{onward, Moves}
-use Rattle.match_machine.specs.declared.act.Act.{Act}
-use Rattle.match_machine.specs.declared.act.Act.TheVariants as act
-use Rattle.match_machine.specs.View.{kept_of}
 
--- on the subject u, for the attempt t
-abbrev pub act_of : List ℕ → s.Thread → Act → s.Act
-act_of u t (act.Goes c) = Moves (s.Goes (onward t (t.place + 1) c))
-act_of u t (act.Jumps q) = Moves (s.Goes (onward t q t.cursor))
-act_of u t (act.Forks c k) = Moves (s.Forks (onward t (t.place + 1) c) (kept_of u k t))
-act_of u t act.Fails = Moves s.Fails
-act_of u t act.Aborts = s.Aborts
-act_of u t act.Opens = s.pattern_act u (Some p.Open) t
-act_of u t act.OpensFence = s.pattern_act u (Some p.OpenFence) t
-act_of u t act.ClosesFence = s.pattern_act u (Some p.CloseFence) t
-
--- an assignment of what stands since OPEN, immediately or after the match
-abbrev pub assigning : Bool → target.Name → p.Instr
-assigning true x = p.Say x
-assigning false x = p.Close x
-
--- an instruction with a name or an expression
+-- an assignment within the match, of what stands since OPEN or of the cursor
 abbrev pub IsNamed : Option p.Instr → Type 0
-IsNamed (Some (p.Close x)) = Unit {0}
 IsNamed (Some (p.Say x)) = Unit {0}
 IsNamed (Some (p.AtCursor x)) = Unit {0}
-IsNamed (Some (p.Eval e)) = Unit {0}
-IsNamed (Some (p.EvalBasic k e)) = Unit {0}
 IsNamed _ = ⊥
 
--- one that assigns the cursor, or asks for an argument
-abbrev pub IsRare : Option p.Instr → Type 0
-IsRare (Some (p.AtCursor x)) = Unit {0}
-IsRare (Some (p.EvalBasic k e)) = Unit {0}
-IsRare _ = ⊥
+-- an instruction that no turn makes
+abbrev pub IsOther : Option p.Instr → Type 0
+IsOther (Some (p.Do p.Arb)) = Unit {0}
+IsOther (Some (p.Do p.Bal)) = Unit {0}
+IsOther (Some p.DoSucceed) = Unit {0}
+IsOther (Some p.DoAbort) = Unit {0}
+IsOther (Some p.DoFence) = Unit {0}
+IsOther (Some (p.Say x)) = Unit {0}
+IsOther (Some (p.AtCursor x)) = Unit {0}
+IsOther (Some (p.Eval x)) = Unit {0}
+IsOther (Some (p.EvalBasic k x)) = Unit {0}
+IsOther _ = ⊥
+
+-- so is this, and if it is a part it has no end from the cursor c; or the code is over
+abbrev pub IsRest : List ℕ → Option p.Instr → ℕ → Type 0
+IsRest u None c = Unit {0}
+IsRest u (Some (p.Do i)) c = ends_at u i c ≡ []
+IsRest u o c = IsOther o
 
 -- a part that has one end at most from each place
 abbrev pub HasOneEnd : p.Basic → Type 0

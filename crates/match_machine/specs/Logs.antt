@@ -61,11 +61,6 @@ abbrev pub backs : Logs → List Choice → List Back
 backs l [] = []
 backs l (x ∷ xs) = back_of (cut l x) x ∷ backs (cut l x) xs
 
--- the newest choice leaves logs of these lengths as they are
-abbrev pub LeavesAll : List Choice → ℕ → ℕ → ℕ → Type 0
-LeavesAll xs log pending codes =
-    (x : Choice) × (slice_get xs (length xs - 1) ≡ Some x) × (log ≤ x.log) × (pending ≤ x.pending) × (codes ≤ x.codes)
-
 -- no mark passes the lengths, and none falls from older to newer choices
 abbrev pub Marks : Logs → List Choice → Type 0
 Marks l [] = Unit {0}

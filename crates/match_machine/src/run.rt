@@ -49,23 +49,8 @@ pub fn move_on(thread: &mut Thread, place: usize, cursor: usize) -> Result<(), A
     settle(thread)
 }
 
-/// On at a place and a cursor, where the place may be the end of the code.
-#[inline(never)]
-fn onward_past(run: &mut Run, place: usize, cursor: usize) -> Result<(), AllocError>
-    ensures state { OnOk result ((u : List ℕ) → state_of u run.new ≡ gone u run.old place cursor) }
-    ensures places { SamePlaces run.old run.new }
-{
-    if place >= run.thread.trail.code().len() && !run.thread.trail.is_inside() {
-        run.thread.place = place;
-        run.thread.cursor = cursor;
-        run.mode = Mode::Matched;
-        return Ok(());
-    }
-    onward_out(run, place, cursor)
-}
-
-/// On at a place and a cursor, where entered patterns may have to be left. Apart, so that the end of the match is
-/// short.
+/// On at a place and a cursor, where the match may end, and entered patterns may have to be left. Apart, so that the
+/// other way is short.
 #[inline(never)]
 fn onward_out(run: &mut Run, place: usize, cursor: usize) -> Result<(), AllocError>
     ensures state { OnOk result ((u : List ℕ) → state_of u run.new ≡ gone u run.old place cursor) }
@@ -92,7 +77,7 @@ pub fn onward(run: &mut Run, place: usize, cursor: usize) -> Result<(), AllocErr
         run.mode = Mode::Going;
         Ok(())
     } else {
-        onward_past(run, place, cursor)
+        onward_out(run, place, cursor)
     }
 }
 

@@ -9,7 +9,6 @@ ghost use Rattle.model.specs.Pattern.Patterns.{Pending};
 ghost use Rattle.match_machine.specs.Standing.{Standing, IsBackTo, inside, opened, unopened, fenced, with_choice};
 ghost use Rattle.match_machine.specs.Standing.{unfenced, no_backs, oldest, older, IsAtArb, IsOpen, from_kept};
 ghost use Rattle.match_machine.specs.Logs.{assigned, pending_of, note_of, chain, entry_at, below_of, last_code};
-ghost use Rattle.match_machine.specs.Logs.{LeavesAll};
 ghost use Rattle.match_machine.specs.Turns.{IsRetried, IsRewound};
 
 use crate::choice::{Choice, Marks};
@@ -330,27 +329,6 @@ impl Trail {
     pub fn keep(&mut self, kept: Kept, place: usize, cursor: usize) -> Result<(), AllocError>
         ensures { OnOk result (self.new ≡ with_choice self.old kept place cursor) }
     {
-        if !self.stored {
-            self.store_code()?;
-        }
-        self.keep_stored(kept, place, cursor)
-    }
-
-    /// The code as the last of the codes. Apart, so that a choice whose code is there is short.
-    #[inline(never)]
-    fn store_code(&mut self) -> Result<(), AllocError>
-        ensures { OnOk result (self.new ≡ self.old) }
-    {
-        store(&self.code, self.stored, &mut self.codes)?;
-        self.stored = true;
-        Ok(())
-    }
-
-    /// Keeps a choice, by the shorter way where the code is stored.
-    #[inline(always)]
-    fn keep_stored(&mut self, kept: Kept, place: usize, cursor: usize) -> Result<(), AllocError>
-        ensures { OnOk result (self.new ≡ with_choice self.old kept place cursor) }
-    {
         let (count, room) = (self.choices.len(), self.choices.capacity());
         if !self.stored || count >= room {
             return self.keep_growing(kept, place, cursor);
@@ -496,27 +474,8 @@ impl Trail {
     }
 
     /// Back to the newest choice, if there is one.
-    #[inline(always)]
-    pub fn back(&mut self) -> Result<Option<Choice>, AllocError>
-        ensures { IfOk result (λ o. MatchOption o (self.old.backs ≡ []) (λ x. IsBackTo self.old self.new x)) }
-    {
-        let choices = self.choices.as_slice();
-        let (log, pending, codes) = (self.log.len(), self.pending.len(), self.codes.len());
-        if !self.stored || !leaves_all(choices, log, pending, codes) {
-            return self.back_cutting();
-        }
-        match self.choices.pop() {
-            Some(choice) => {
-                self.head = choice.marks().head;
-                Ok(Some(choice))
-            }
-            None => Ok(None),
-        }
-    }
-
-    /// Back to the newest choice, where a log may have to be cut. Apart, so that the other way is short.
     #[inline(never)]
-    fn back_cutting(&mut self) -> Result<Option<Choice>, AllocError>
+    pub fn back(&mut self) -> Result<Option<Choice>, AllocError>
         ensures { IfOk result (λ o. MatchOption o (self.old.backs ≡ []) (λ x. IsBackTo self.old self.new x)) }
     {
         match self.choices.pop() {
@@ -525,7 +484,7 @@ impl Trail {
                 let marks = choice.marks();
                 self.stored = false;
                 self.head = marks.head;
-                self.log.truncate(marks.log);
+                cut_log(&mut self.log, marks.log);
                 cut_pending(&mut self.pending, marks.pending);
                 cut_codes(&mut self.code, stored, &mut self.codes, marks.codes)?;
                 self.stored = true;
@@ -635,20 +594,6 @@ fn left_at(log: &[Entry], head: usize) -> Result<Option<(PatCode, usize, usize)>
             let code = code.clone()?;
             Ok(Some((code, *place, list_below(head, entry.below))))
         }
-    }
-}
-
-/// Whether the newest choice leaves logs of these lengths as they are.
-#[inline(always)]
-fn leaves_all(choices: &[Choice], log: usize, pending: usize, codes: usize) -> bool
-    ensures { result ≡ true → LeavesAll choices.now log pending codes }
-{
-    match choices.last() {
-        Some(choice) => {
-            let marks = choice.marks();
-            log <= marks.log && pending <= marks.pending && codes <= marks.codes
-        }
-        None => false,
     }
 }
 

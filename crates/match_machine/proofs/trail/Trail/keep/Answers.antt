@@ -5,7 +5,7 @@ use Rattle.match_machine.specs.Choices.{Choice}
 use Rattle.match_machine.specs.Standing.{Back}
 use Rattle.match_machine.specs.Logs.{chain, pending_of, backs, logs_of}
 use Rattle.match_machine.proofs.Chains.{keep_backs}
-use Rattle.match_machine.proofs.trail.Trail.keep_stored.Goals as goal
+use Rattle.match_machine.proofs.trail.Trail.keep.Goals as goal
 
 pub returns : goal.returns
 returns c =
