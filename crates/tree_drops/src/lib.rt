@@ -25,10 +25,32 @@ fn is_leaf(expr: &Expr) -> bool {
     )
 }
 
-/// Moves an expression to those that wait, unless it has no parts. Where memory for it is refused it is dropped
+/// Whether all arguments that are given are leaves.
+fn are_leaves(arguments: &[Argument]) -> bool {
+    for argument in arguments {
+        if let Argument::Given(expr) = argument {
+            if !is_leaf(expr) {
+                return false;
+            }
+        }
+    }
+    true
+}
+
+/// Whether an expression has at most leaves as its operands and arguments, so that it can be dropped as it is.
+fn is_shallow(expr: &Expr) -> bool {
+    match expr {
+        Expr::Unary(_, operand) => is_leaf(operand),
+        Expr::Binary(_, left, right) => is_leaf(left) && is_leaf(right),
+        Expr::Call(_, arguments) | Expr::Reference(_, arguments) => are_leaves(arguments),
+        Expr::Name(_) | Expr::Integer(_) | Expr::Literal(_) | Expr::Keyword(_) => true,
+    }
+}
+
+/// Moves an expression to those that wait, unless it is shallow. Where memory for it is refused it is dropped
 /// immediately.
 fn put(waiting: &mut Vec<Expr>, expr: &mut Expr) {
-    if is_leaf(expr) {
+    if is_shallow(expr) {
         return;
     }
     let taken = mem::replace(expr, Expr::Integer(0));
