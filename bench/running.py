@@ -21,7 +21,7 @@ class Ran(typing.NamedTuple):
 
 
 def most_memory(process):
-    """The most memory that a process took so far, in MB. (What the system tells at its end counts this script's.)"""
+    """The most memory that a process took so far, in MB. (What the system reports at its end counts this script's.)"""
     try:
         text = pathlib.Path(f"/proc/{process}/status").read_text(encoding="ascii")
     except OSError:

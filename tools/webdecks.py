@@ -91,7 +91,7 @@ def cards_of(cell):
 
 
 def repeated(cell):
-    """The card of a cell that tells how often some of its pieces stand there."""
+    """The card of a cell that says how often some of its pieces stand there."""
     return "".join(piece * int(count or 1) for count, piece in re.findall(r"(?:(\d+) times )?`([^`]*)`", cell))
 
 

@@ -11,10 +11,12 @@ import repository
 ROOT = repository.ROOT
 CRATES = repository.listed()
 MEMBER = re.compile(r"(?<![\w:])([A-Z]\w*)::(\w+)")
-# Public types of one name in two crates that wait for a new name. A row that no longer holds is a failure too.
+# Public types of one name in two crates. Each has its reason in docs/DECISIONS.md; a row that no longer holds fails too.
 TWICE = ROOT / "tests" / "types_of_one_name.txt"
 # Types of Rust's, the word for any, and a trait's word for the type that has it.
 OTHERS = {"Type", "Vec", "Option", "Result", "Box", "Rc", "String", "Self"}
+# The lines of docs/architecture.md, without the table that `make time` writes.
+MOST_LINES = 250
 VERSION = re.compile(r'^\s*(?:pub(?:\(\w+\))? )?const VERSION: &str = "([^"]*)";', re.MULTILINE)
 
 
@@ -54,7 +56,7 @@ def twice():
 
 
 def type_checks():
-    """That no two public types have one name, but for those that are listed, and that each listed pair still has."""
+    """That no two public types have one name, but for those that are listed, which still have it and have a reason."""
     rows = TWICE.read_text(encoding="utf-8").splitlines()
     listed = {name: crates.split() for name, _, crates in (row.partition(":") for row in rows if row.strip())}
     found = twice()
@@ -62,6 +64,10 @@ def type_checks():
         yield f"crates/{crates[-1]}", f"one public type named {name}, not one each in {crates}", listed.get(name) == crates
     for name in sorted(set(listed) - set(found)):
         yield f"tests/{TWICE.name}", f"two public types named {name}", False
+    decisions = (ROOT / "docs" / "DECISIONS.md").read_text(encoding="utf-8")
+    for name, crates in sorted(listed.items()):
+        there = any(all(f"`{name}` of `{crate}`" in row for crate in crates) for row in decisions.splitlines())
+        yield "docs/DECISIONS.md", f"why types of {' and '.join(crates)} have the one name {name}", there
 
 
 def calls_check():
@@ -72,12 +78,14 @@ def calls_check():
 
 
 def gate_checks():
-    """That the table of the gate's time is of this tree: its crates, and its functions within a tenth."""
+    """That the table of the gate's time is of this tree: its crates, and its functions within a tenth; and how long its page is."""
     gate = tool("gate_time")
     place, text = "docs/architecture.md", gate.ARCHITECTURE.read_text(encoding="utf-8")
     yield place, "the marks around the gate's table", gate.BLOCK.search(text) is not None
     for problem in gate.problems(text):
         yield place, f"a table of this tree, by make time: {problem}", False
+    lines = len(gate.BLOCK.sub("", text).splitlines())
+    yield place, f"at most {MOST_LINES} lines beside the gate's table, of which it has {lines}", lines <= MOST_LINES
 
 
 def proof_checks():

@@ -112,7 +112,7 @@ fn code_of<W: Write>(
     Ok(reached)
 }
 
-/// Writes the cards of a deck, each with what is told of it, and gives how many there are.
+/// Writes the cards of a deck, each with what is reported of it, and returns how many there are.
 pub(crate) fn cards<W: Write>(
     style: Style,
     bytes: &[u8],

@@ -1,4 +1,4 @@
-//! The laws of runs of decks. Each function does nothing; its contract states a law, and who calls it may use the law.
+//! The laws of runs of decks. Each function does nothing; its contract states a law, which a caller may use.
 
 ghost use Rattle.driver.specs.InMemory.{RunsInMemory};
 

@@ -36,7 +36,7 @@ impl From<io::Error> for WriteFault {
     }
 }
 
-// The end of a line that tells of a statement: the card where it begins, if that is known.
+// The end of a line about a statement: the card where it begins, if that is known.
 fn end_with_card<W: Write>(card: u32, out: &mut W) -> io::Result<()>
     ensures { OnOk result (Appends (W.contents out.old) (W.contents out.new) (line (card_text card))) }
 {

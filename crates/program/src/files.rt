@@ -109,7 +109,7 @@ pub(crate) fn read_file<'a, F: WholeFiles>(
     }
 }
 
-// A new file in the folder of another, and its name. A number in the name tells it from those that are there.
+// A new file in the folder of another, and its name. A number in the name sets it apart from those that are there.
 fn file_beside<R: Files + AllocGlobal>(rt: &R, file: &str) -> io::Result<(R::File, PathBuf)> {
     let mut how = OpenOptions::new();
     how.write(true).create_new(true);

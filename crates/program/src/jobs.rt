@@ -319,7 +319,7 @@ pub(crate) fn perform<'a, R: Files + Input + Print + AllocGlobal, F: WholeFiles>
     job: Job<'a>,
 ) -> Option<FinalReport<'a>>
     ensures exit { IsOneOf (exit_of_outcome result) (exits_of job.entry) }
-    // What the word was to do is done, or what is told says why it is not.
+    // What the word was to do is done, or the result says why it is not.
     ensures done { HasDone F.holds F.input_holds F.writes job.entry whole.old whole.new result }
 {
     let alloc = rt.alloc();

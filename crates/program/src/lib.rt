@@ -131,8 +131,7 @@ pub fn run<R: Env + Files + Input + Print + AllocGlobal, I: AsFd, O: AsFd, W: Wr
     output: &O,
     errors: &mut W,
 ) -> ExitCode
-    // There is something that stands on standard error as the lines that tell it, and whose exit status this is; or
-    // nothing.
+    // The lines on standard error report some outcome, and this is its exit status; or there are no lines.
     ensures { (told : Option AnyTold) × IsReported told (exit_status result) (W.contents errors.old) (W.contents errors.new) }
 {
     match Streams::hold(rt, input, output, errors) {

@@ -70,7 +70,7 @@ impl Profile {
         self.is_lost
     }
 
-    // Counts the steps that were made since it was told of last for the statement that ran.
+    // Counts the steps since the last report for the statement that ran.
     fn settle_steps(&mut self, steps: u64) {
         if let Some(counts) = self.statements.get_mut(self.statement as usize) {
             let made = steps.wrapping_sub(self.steps);
@@ -79,7 +79,7 @@ impl Profile {
         self.steps = steps;
     }
 
-    // Counts what was done since it was told of last for the statement that ran.
+    // Counts what was done since the last report for the statement that ran.
     #[inline(always)]
     fn settle(&mut self, steps: u64, world: &World) {
         let failures = world.failures();

@@ -108,7 +108,7 @@ fn lines_of(
     Ok(Seen { profile, dump })
 }
 
-// What was seen, or why it can't be told.
+// What was seen, or why it can't be reported.
 fn seen_of<'a, W: Write>(
     alloc: Global,
     reports: Reports<'_, '_, '_, W>,

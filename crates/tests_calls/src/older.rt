@@ -77,7 +77,7 @@ fn upgrades(rt: HostRuntime) {
     }
 }
 
-// Whether the module's run ends so, and this card is told.
+// Whether the module's run ends so, and this card is reported.
 fn tells(alloc: Global, module: &[u8], ending: Ending, card: u32) -> bool {
     match run_with_card(alloc, module, &mut MemUnits::new(alloc), 1_000) {
         Ok(ran) => ran.status == Status::Ended(ending) && ran.card == card,

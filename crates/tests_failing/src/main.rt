@@ -1,7 +1,7 @@
 //! Runs a deck on units of which one call fails: `tests_failing K DECK`, where K is the number of that call, counted
 //! from 1, or 0, and DECK a file. Units 5 and 6 are standard input and output, and 7, 8 and 9 the files `7`, `8` and
 //! `9`. It reports what `sno` reports, without cards. Its status is 9 if a machine that came to its end or was stopped
-//! answers something else when it is to run on.
+//! returns something else when it is to run on.
 //!
 //! `tests_failing each FILE` runs each module of a file, each behind its length in four bytes, for at most 10,000
 //! steps. Of each it prints what `sno run` reports, and the exit status in a line behind it.
@@ -26,17 +26,17 @@ use unit_io::{FailAt, FileUnits};
 /// How many steps the deck may take.
 const STEPS: u64 = 100_000;
 
-/// What is reported where a machine answers in another way when it is asked again.
+/// What is reported where a machine returns something else when it is asked again.
 const ANOTHER_ANSWER: u8 = 9;
 
-/// How a machine answered, and then answered again.
+/// What a machine returned, and then returned again.
 #[derive(Clone, Copy)]
 struct Answers {
     first: Status,
     again: Status,
 }
 
-/// The answers where each module ran.
+/// The results where each module ran.
 const ENDED: Answers = Answers {
     first: Status::Ended(Ending::Normal),
     again: Status::Ended(Ending::Normal),
@@ -140,7 +140,7 @@ fn run<R: Env + Files + Input + Print + AllocGlobal>(
     }
 }
 
-/// What is reported of the answers, if they are the same.
+/// What is reported of both results, if they are equal.
 fn told_of(done: Result<Answers, FinalReport<'static>>) -> Option<FinalReport<'static>> {
     let answers = match done {
         Ok(answers) => answers,

@@ -5,7 +5,7 @@ use crate::steps::{Seen, Step, taken};
 use aggregates::Heap;
 use std::alloc::Global;
 
-/// Whether each step of a new heap comes to what stands beside it.
+/// Whether each step of a new heap gives what stands beside it.
 fn all_come(alloc: Global, rows: &[(Step<'_>, Seen)]) -> bool {
     let mut heap = Heap::new(alloc);
     for (step, want) in rows {

@@ -1,4 +1,4 @@
-//! What matches come to: plain values, since each place that holds an event or a matcher is dear to prove.
+//! The results of matches: plain values, since each place that holds an event or a matcher is dear to prove.
 
 use crate::made::pattern;
 use match_machine::{Answer, Event, Matcher, Told};

@@ -30,7 +30,7 @@ fn is_long(found: Result<Option<Text>, UnitFault>, len: usize) -> bool {
     }
 }
 
-// Whether both lines are told.
+// Whether both lines are reported.
 fn are_told(alloc: Global, bytes: &[u8], len: usize) -> bool {
     let mut reader = LineReader::new(alloc, bytes);
     !reader.is_ready()

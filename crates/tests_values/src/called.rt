@@ -1,4 +1,4 @@
-//! Calls with values that no deck makes today, and what they come to: plain values, which are cheap to prove.
+//! Calls with values that no deck makes today, and their results: plain values, which are cheap to prove.
 
 use model::{ErrorCode, Level, PrimId};
 use pattern_compiler::{Instr, Name, PatCode, Pattern};
@@ -193,7 +193,7 @@ fn answer(
     called(alloc, call, &value(alloc, left)?, &value(alloc, right)?)
 }
 
-/// What a call comes to, in the world as a run begins.
+/// The result of a call, in the world as a run begins.
 pub fn seen_of(alloc: Global, call: Call, left: Arg<'_>, right: Arg<'_>) -> Seen {
     match answer(alloc, call, left, right) {
         Ok(Some(value)) => shown(alloc, &value).unwrap_or(Seen::Stopped),
