@@ -110,13 +110,16 @@ def proof_checks():
 
 
 def mutant_checks():
-    """That each mutant of tests/wrong_tried.txt is there, and that docs/promises.md has how many they are."""
+    """That each mutant of tests/wrong_tried.txt is there, and that docs/promises.md has how many they are, and all others."""
     noted = tool("wrong").noted()
     there = {f"{name}/{edit.name}" for name in CRATES for edit in repository.edits(name, "wrong")}
     for mutant in sorted(noted - there):
         yield "tests/wrong_tried.txt", f"the mutant {mutant}", False
     text = " ".join((ROOT / "docs" / "promises.md").read_text(encoding="utf-8").split())
     yield "docs/promises.md", f"has the {len(noted)} that `tools/wrong --note`", f"has the {len(noted)} that `tools" in text
+    told = re.search(r"Mutants under `wrong/`\*\*, some (\d+),", text)
+    near = told and abs(int(told[1]) - len(there)) * 10 <= len(there)
+    yield "docs/promises.md", f"how many mutants are under wrong/, within a tenth of {len(there)}", near
 
 
 def version_checks():
