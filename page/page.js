@@ -282,7 +282,7 @@ function setBusy(now) {
 const faint = (text) => make('span', { className: 'faint', textContent: text });
 const size = (bytes) => bytes < 1048576 ? `${number(Math.ceil(bytes / 1024))} KiB` : `${number(Math.round(bytes / 1048576))} MiB`;
 const counted = (n, what) => `${number(n)} ${what}${n === 1 ? '' : 's'}`;
-const time = (ms) => ms < .05 ? 'under 0.1 ms' : ms < 10 ? `${ms.toFixed(1)} ms` : ms < 10000 ? `${number(Math.round(ms))} ms` : `${(ms / 1000).toFixed(1)} s`;
+const time = (ms) => ms < .05 ? 'under 1 ms' : ms < 10 ? `${ms.toFixed(1)} ms` : ms < 10000 ? `${number(Math.round(ms))} ms` : `${(ms / 1000).toFixed(1)} s`;
 
 function run() {
   if (busy) return;
