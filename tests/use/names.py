@@ -88,6 +88,16 @@ def gate_checks():
     yield place, f"at most {MOST_LINES} lines beside the gate's table, of which it has {lines}", lines <= MOST_LINES
 
 
+def size_checks():
+    """That the crates with more functions than CONTRIBUTING.md allows are those that it names."""
+    text = " ".join((ROOT / "CONTRIBUTING.md").read_text(encoding="utf-8").split())
+    told = re.search(r"crates at most (\d+) functions; larger so far: (.*?)\.", text)
+    named, count = set(re.findall(r"`(\w+)`", told[2])) if told else set(), tool("gate_time").functions
+    larger = {name for name in CRATES if told and count(name) > int(told[1])}
+    for name in sorted(named ^ larger):
+        yield "CONTRIBUTING.md", f"{name} as a larger crate, if it is one: it has {count(name)} functions", False
+
+
 def proof_checks():
     """That the lines which docs/proofs.md tells of files of lemmas are right within a tenth, and so its two sums."""
     text, folder = (ROOT / "docs" / "proofs.md").read_text(encoding="utf-8"), ROOT / "crates" / "model"
@@ -153,6 +163,7 @@ def checks(spans):
     yield from type_checks()
     yield from calls_check()
     yield from gate_checks()
+    yield from size_checks()
     yield from proof_checks()
     yield from figure_checks()
     yield from mutant_checks()
