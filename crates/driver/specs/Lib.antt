@@ -8,4 +8,5 @@ pub mod OnFiles
 pub mod Upgraded
 pub mod Reading
 pub mod Shown
+pub mod FaultLines
 pub mod Lines

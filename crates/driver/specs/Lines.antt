@@ -1,7 +1,7 @@
--- The lines that report an outcome. None where the library doesn't say what it writes for one of their parts: a fault of a deck
--- or of a module.
-use Rattle.std.specs.Prelude.{ℕ, List, [], ◌∷◌, ◌++◌, Option, Some, None, codes, decimal, nat_eq, if◌then◌else◌}
+-- The lines that report an outcome.
+use Rattle.std.specs.Prelude.{ℕ, List, [], ◌∷◌, ◌++◌, codes, decimal, nat_eq, if◌then◌else◌}
 use Rattle.std.specs.Fmt.{signed_decimal}
+use Rattle.model.specs.declared.format.FormatFault.{FormatFault}
 use Rattle.model.specs.declared.format.FormatRule.{FormatRule}
 use Rattle.model.specs.declared.format.FormatRule.TheVariants as rule
 use Rattle.model.specs.declared.format.LoadFault.{LoadFault}
@@ -17,11 +17,9 @@ use Rattle.model.specs.declared.run.Stop.TheVariants as stop
 use Rattle.model.specs.declared.run.UnitFault.TheVariants as cause
 use Rattle.driver.specs.declared.refusal.Refusal.{Refusal}
 use Rattle.driver.specs.declared.refusal.Refusal.TheVariants as refusal
+use Rattle.driver.specs.FaultLines.{card_line, fault_lines, format_line, line, module_line}
 use Rattle.driver.specs.declared.telling.FinalReport.{FinalReport}
 use Rattle.driver.specs.declared.telling.FinalReport.TheVariants as told
-
-abbrev pub line : List ℕ → List ℕ
-line text = text ++ 10 ∷ []
 
 abbrev pub no_memory_line : List ℕ
 no_memory_line = line (codes "no memory")
@@ -66,24 +64,25 @@ run_lines status.Running card = line (codes "steps used up")
 run_lines (status.Ended e) card = ending_lines e card
 run_lines (status.Stopped why) card = stop_lines why
 
-abbrev pub refusal_lines : Refusal → Option (List ℕ)
-refusal_lines refusal.Memory = Some no_memory_line
-refusal_lines (refusal.Card fault) = None
-refusal_lines (refusal.Statements faults) = None
+abbrev pub refusal_lines : Refusal → List ℕ
+refusal_lines refusal.Memory = no_memory_line
+refusal_lines (refusal.Card fault) = card_line fault
+refusal_lines (refusal.Statements faults) = fault_lines faults
 
-abbrev pub rule_lines : FormatRule → Option (List ℕ)
-rule_lines rule.Memory = Some no_memory_line
-rule_lines other = None
+-- want of memory has no offset
+abbrev pub format_lines : FormatRule → FormatFault → List ℕ
+format_lines rule.Memory fault = no_memory_line
+format_lines other fault = format_line fault
 
-abbrev pub fault_lines : LoadFault → Option (List ℕ)
-fault_lines (load.Format fault) = rule_lines fault.rule
-fault_lines (load.Module fault) = None
+abbrev pub module_lines : LoadFault → List ℕ
+module_lines (load.Format fault) = format_lines fault.rule fault
+module_lines (load.Module fault) = module_line fault
 
-abbrev pub lines_of : FinalReport → Option (List ℕ)
-lines_of told.BadCommandLine = Some (line (codes "bad command line"))
+abbrev pub lines_of : FinalReport → List ℕ
+lines_of told.BadCommandLine = line (codes "bad command line")
 lines_of (told.Refused r) = refusal_lines r
-lines_of (told.BadModule fault) = fault_lines fault
-lines_of (told.Ran ran) = Some (run_lines ran.status ran.card)
-lines_of (told.CannotRead file) = Some (line (codes "cannot read " ++ file.now))
-lines_of (told.CannotWrite file) = Some (line (codes "cannot write " ++ file.now))
-lines_of told.NoMemory = Some no_memory_line
+lines_of (told.BadModule fault) = module_lines fault
+lines_of (told.Ran ran) = run_lines ran.status ran.card
+lines_of (told.CannotRead file) = line (codes "cannot read " ++ file.now)
+lines_of (told.CannotWrite file) = line (codes "cannot write " ++ file.now)
+lines_of told.NoMemory = no_memory_line

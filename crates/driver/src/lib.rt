@@ -10,11 +10,12 @@
 //! (`meaning`): it ends as the deck's meaning does, with that printed, or what it printed is a prefix of what the
 //! meaning prints (`sound`); a meaning that ends after r rules is reached within 5 * (r + 1) steps (`reaches`); and
 //! what a meaning prints within r rules is printed within so many steps, also where neither ends (`prints`). The exit
-//! status is a function of what is reported (`exit_status`). Words and lines (`read_words`, `report`) are tested.
+//! status and the lines are functions of what is reported (`exit_status`, `report`). Words (`read_words`) are tested.
 #![tactic(auto)]
 
 mod compiling;
 mod exits;
+mod fault_lines;
 mod laws;
 mod on_files;
 mod refusal;

@@ -1,15 +1,17 @@
 //! What the program reports on standard error.
 
-ghost use Rattle.std.specs.Prelude.{◌≡◌, IfOk, IfSome, OnOk};
+ghost use Rattle.std.specs.Prelude.{◌≡◌, IfOk, OnOk};
 ghost use Rattle.std.specs.Io.KnownBytes.{Appends};
 ghost use Rattle.driver.specs.Exits.{exit_of};
-ghost use Rattle.driver.specs.Lines.{card_text, ending_lines, error_number, fault_lines, line, lines_of};
-ghost use Rattle.driver.specs.Lines.{no_memory_line, refusal_lines, run_lines, stop_lines};
+ghost use Rattle.driver.specs.FaultLines.{line};
+ghost use Rattle.driver.specs.Lines.{card_text, ending_lines, error_number, lines_of};
+ghost use Rattle.driver.specs.Lines.{module_lines, no_memory_line, refusal_lines, run_lines, stop_lines};
 
 use crate::exits::exit_status;
+use crate::fault_lines::{tell_card_fault, tell_faults, tell_format_fault, tell_module_fault};
 use crate::refusal::Refusal;
 use crate::running::Ran;
-use model::{Ending, ErrorCode, FormatFault, FormatRule, LoadFault, Status, Stop, UnitFault};
+use model::{Ending, ErrorCode, FormatRule, LoadFault, Status, Stop, UnitFault};
 use std::io::{self, Write};
 
 /// What the program has to report at its end.
@@ -119,18 +121,15 @@ fn tell_stop<W: Write>(stop: Stop, out: &mut W) -> io::Result<()>
 }
 
 fn tell_bad_module<W: Write>(fault: LoadFault, out: &mut W) -> io::Result<()>
-    ensures { OnOk result (IfSome (fault_lines fault) (Appends (W.contents out.old) (W.contents out.new))) }
+    ensures { OnOk result (Appends (W.contents out.old) (W.contents out.new) (module_lines fault)) }
 {
-    if let LoadFault::Format(
-        FormatFault {
-            rule: FormatRule::Memory,
-            ..
+    match fault {
+        LoadFault::Format(fault) => match fault.rule {
+            FormatRule::Memory => tell_no_memory(out),
+            _ => tell_format_fault(fault, out),
         },
-    ) = fault
-    {
-        return tell_no_memory(out);
+        LoadFault::Module(fault) => tell_module_fault(fault, out),
     }
-    writeln!(out, "{fault}")
 }
 
 fn tell_run<W: Write>(ran: Ran, out: &mut W) -> io::Result<()>
@@ -145,23 +144,17 @@ fn tell_run<W: Write>(ran: Ran, out: &mut W) -> io::Result<()>
 }
 
 fn tell_refusal<W: Write>(refusal: &Refusal, out: &mut W) -> io::Result<()>
-    ensures { OnOk result (IfSome (refusal_lines refusal.now)
-        (Appends (W.contents out.old) (W.contents out.new))) }
+    ensures { OnOk result (Appends (W.contents out.old) (W.contents out.new) (refusal_lines refusal.now)) }
 {
     match refusal {
-        Refusal::Card(fault) => writeln!(out, "{fault}"),
-        Refusal::Statements(faults) => {
-            for fault in faults.as_slice() {
-                writeln!(out, "{fault}")?;
-            }
-            Ok(())
-        }
+        Refusal::Card(fault) => tell_card_fault(*fault, out),
+        Refusal::Statements(faults) => tell_faults(faults.as_slice(), out),
         Refusal::Memory => tell_no_memory(out),
     }
 }
 
 fn tell<W: Write>(told: &FinalReport<'_>, out: &mut W) -> io::Result<()>
-    ensures { OnOk result (IfSome (lines_of told.now) (Appends (W.contents out.old) (W.contents out.new))) }
+    ensures { OnOk result (Appends (W.contents out.old) (W.contents out.new) (lines_of told.now)) }
 {
     match told {
         FinalReport::BadCommandLine => writeln!(out, "bad command line"),
@@ -177,9 +170,7 @@ fn tell<W: Write>(told: &FinalReport<'_>, out: &mut W) -> io::Result<()>
 /// Writes the lines that report it, and returns the exit status. After a failure nothing is said of what was written.
 pub fn report<W: Write>(told: &FinalReport<'_>, out: &mut W) -> Result<u8, WriteFault>
     ensures exit { IfOk result (λ exit. exit ≡ exit_of told.now) }
-    // These lines, where the library says what it writes for all that they show.
-    ensures lines { OnOk result (IfSome (lines_of told.now)
-        (Appends (W.contents out.old) (W.contents out.new))) }
+    ensures lines { OnOk result (Appends (W.contents out.old) (W.contents out.new) (lines_of told.now)) }
 {
     tell(told, out)?;
     Ok(exit_status(told))

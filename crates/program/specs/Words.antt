@@ -1,5 +1,5 @@
 -- What each word of the program does: which file it reads and writes, and what it reports.
-use Rattle.std.specs.Prelude.{◌≡◌, ◌⊎◌, ℕ, List, Option, Some, None, Result, Ok, Err, IfSome, codes}
+use Rattle.std.specs.Prelude.{◌≡◌, ◌⊎◌, ℕ, List, Option, Some, None, Result, Ok, Err, codes}
 use Rattle.std.specs.Io.KnownBytes.{Appends}
 use Rattle.model.specs.declared.format.LoadFault.{LoadFault}
 use Rattle.model.specs.declared.format.Version.TheVariants as versions
@@ -48,7 +48,7 @@ told_of_work (Err t) = Some t
 -- what is reported stands on standard error, of which these are the bytes before and after, and this is the exit status; 6 where
 -- standard error took no line
 abbrev pub IsReported : Option FinalReport → (status : ℕ) → (before after : Option (List ℕ)) → Type 0
-IsReported (Some t) status before after = ((status ≡ exit_of t) × IfSome (lines_of t) (Appends before after)) ⊎ (status ≡ 6)
+IsReported (Some t) status before after = ((status ≡ exit_of t) × Appends before after (lines_of t)) ⊎ (status ≡ 6)
 IsReported None status before after = (status ≡ 0) × (after ≡ before)
 
 abbrev pub IsNamed : Option (List ℕ) → List ℕ → Type 0

@@ -3,7 +3,8 @@ use Rattle.std.proofs.lemmas.Int.{to_z-of_z}
 use Rattle.std.specs.Io.KnownBytes.{Appends}
 use Rattle.std.specs.Prelude.{codes, decimal}
 use Rattle.std.specs.Fmt.{signed_decimal}
-use Rattle.driver.specs.Lines.{card_text, ending_lines, line}
+use Rattle.driver.specs.FaultLines.{line}
+use Rattle.driver.specs.Lines.{card_text, ending_lines}
 use Rattle.driver.proofs.LinesTold.{parts_told}
 use Rattle.driver.proofs.telling.tell_ending.Goals as goal
 
