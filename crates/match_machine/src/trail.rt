@@ -104,24 +104,16 @@ impl Trail {
         if self.choices.len() == 1 { true } else { false }
     }
 
-    /// Whether there is no note, no pending assignment and no choice.
-    #[inline(always)]
-    fn is_bare(&self) -> bool
-        ensures { result ≡ true
-            → self.now ≡ record { code = self.now.code; notes = []; pending = []; backs = [] } }
-    {
-        self.log.is_empty()
-            && self.pending.is_empty()
-            && self.codes.is_empty()
-            && self.choices.is_empty()
-    }
-
     /// Without notes, pending assignments and choices.
     #[inline(always)]
     fn strip(&mut self)
         ensures { self.new ≡ record { code = self.old.code; notes = []; pending = []; backs = [] } }
     {
-        if !self.is_bare() {
+        let is_bare = self.log.is_empty()
+            && self.pending.is_empty()
+            && self.codes.is_empty()
+            && self.choices.is_empty();
+        if !is_bare {
             self.empty_lists();
         }
     }
@@ -577,7 +569,10 @@ fn cut_codes(
         return Ok(());
     }
     codes.truncate(len);
-    *code = last_of(codes.as_slice())?;
+    *code = match codes.as_slice().last() {
+        Some(last) => last.clone()?,
+        None => PatCode::null(),
+    };
     Ok(())
 }
 
@@ -588,15 +583,5 @@ fn cut<T: Drop>(list: &mut Vec<T>, len: usize)
 {
     if list.len() > len {
         list.truncate(len);
-    }
-}
-
-/// The last code.
-fn last_of(codes: &[PatCode]) -> Result<PatCode, AllocError>
-    ensures { IfOk result (λ code. code ≡ last_code codes.now) }
-{
-    match codes.last() {
-        Some(code) => code.clone(),
-        None => Ok(PatCode::null()),
     }
 }
