@@ -153,11 +153,14 @@ fn gather(instrs: &[Instr], place: usize, found: &mut [u8; 32]) -> Option<(usize
     Some((count, steps))
 }
 
-/// The bytes that a match of code may begin with, where an alternation of literals shows them.
+/// The bytes that a match of code may begin with, if many starts are left and an alternation of literals shows them.
 #[inline(never)]
-fn firsts_of(instrs: &[Instr]) -> Option<Firsts>
+fn firsts_of(instrs: &[Instr], left: usize) -> Option<Firsts>
     ensures { IfSome result (λ firsts. AreFirsts (code_of instrs.now) firsts) }
 {
+    if left < FEW {
+        return None;
+    }
     let (place, opening) = front(instrs);
     let mut found = [0u8; 32];
     let (count, steps) = gather(instrs, place, &mut found)?;
@@ -165,17 +168,6 @@ fn firsts_of(instrs: &[Instr]) -> Option<Firsts>
         set: ByteSet::of(&found[..count]),
         steps: steps + opening,
     })
-}
-
-/// The bytes that a match of code may begin with, if many starts are left and an alternation of literals shows them.
-#[inline(always)]
-fn filter_of(instrs: &[Instr], left: usize) -> Option<Firsts>
-    ensures { IfSome result (λ firsts. AreFirsts (code_of instrs.now) firsts) }
-{
-    if left < FEW {
-        return None;
-    }
-    firsts_of(instrs)
 }
 
 /// How many bytes come before the first of a set.
@@ -302,7 +294,7 @@ fn pass_alternation(bytes: &[u8], instrs: &[Instr], start: usize, left: usize, b
     if passed.starts == 0 {
         return passed;
     }
-    let filter = filter_of(instrs, left);
+    let filter = firsts_of(instrs, left);
     while passed.starts < left {
         let more = pass_some(
             bytes,

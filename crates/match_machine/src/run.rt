@@ -3,10 +3,9 @@
 ghost use Rattle.std.specs.Prelude.{◌≡◌, ◌+◌, ◌<◌, ◌≤◌, ◌^◌, ℕ, List, ◌∷◌, length, map, IfOk, OnOk};
 ghost use Rattle.model.specs.Pattern.Steps.{settled, onward as onward_of};
 ghost use Rattle.model.specs.Pattern.Ends.{between as between_of};
-ghost use Rattle.match_machine.specs.Standing.{with_choice};
 ghost use Rattle.match_machine.specs.View.{thread_of, state_of, SamePlaces, gone, failed};
 
-use crate::state::{Kept, Mode, Run, Thread};
+use crate::state::{Mode, Run, Thread};
 use std::alloc::AllocError;
 use strings::Text;
 
@@ -98,20 +97,6 @@ pub fn fail(run: &mut Run)
     } else {
         run.mode = Mode::Returning;
     }
-}
-
-/// Keeps a choice of the attempt.
-#[inline(always)]
-pub fn keep(run: &mut Run, kept: Kept) -> Result<(), AllocError>
-    ensures choices { OnOk result (run.new.thread.trail
-        ≡ with_choice run.old.thread.trail kept run.old.thread.place run.old.thread.cursor) }
-    ensures thread { (run.new.thread.place ≡ run.old.thread.place)
-        × (run.new.thread.cursor ≡ run.old.thread.cursor) }
-    ensures places { SamePlaces run.old run.new }
-{
-    let place = run.thread.place;
-    let cursor = run.thread.cursor;
-    run.thread.trail.keep(kept, place, cursor)
 }
 
 /// The text between two places.

@@ -104,24 +104,16 @@ impl Trail {
         if self.choices.len() == 1 { true } else { false }
     }
 
-    /// Whether there is no note, no pending assignment and no choice.
-    #[inline(always)]
-    fn is_bare(&self) -> bool
-        ensures { result ≡ true
-            → self.now ≡ record { code = self.now.code; notes = []; pending = []; backs = [] } }
-    {
-        self.log.is_empty()
-            && self.pending.is_empty()
-            && self.codes.is_empty()
-            && self.choices.is_empty()
-    }
-
     /// Without notes, pending assignments and choices.
     #[inline(always)]
     fn strip(&mut self)
         ensures { self.new ≡ record { code = self.old.code; notes = []; pending = []; backs = [] } }
     {
-        if !self.is_bare() {
+        let is_bare = self.log.is_empty()
+            && self.pending.is_empty()
+            && self.codes.is_empty()
+            && self.choices.is_empty();
+        if !is_bare {
             self.empty_lists();
         }
     }
@@ -138,14 +130,6 @@ impl Trail {
         empty(&mut self.codes);
         empty(&mut self.log);
         empty(&mut self.pending);
-    }
-
-    /// Whether a list has more room than it keeps for the next match.
-    #[inline(always)]
-    fn is_long(&self) -> bool {
-        let shorter = self.choices.capacity() | self.codes.capacity();
-        let longer = self.log.capacity() | self.pending.capacity();
-        shorter | longer > MANY
     }
 
     /// The first attempt of a start.
@@ -165,19 +149,20 @@ impl Trail {
     pub fn clear(&mut self, alloc: Global)
         ensures { self.new ≡ record { code = []; notes = []; pending = []; backs = [] } }
     {
-        if self.is_long() {
-            self.shorten(alloc);
-        }
+        self.shorten(alloc);
         self.strip();
         self.code = PatCode::null();
         self.stored = false;
     }
 
-    /// Lets go of long lists.
-    #[cold]
-    #[inline(never)]
+    /// Lets go of lists that have more room than they keep for the next match.
+    #[inline(always)]
     fn shorten(&mut self, alloc: Global) {
-        *self = Trail::new(alloc);
+        let shorter = self.choices.capacity() | self.codes.capacity();
+        let longer = self.log.capacity() | self.pending.capacity();
+        if shorter | longer > MANY {
+            *self = Trail::new(alloc);
+        }
     }
 
     /// Adds a note.
@@ -204,12 +189,18 @@ impl Trail {
         ensures cursor { result ≡ opened self.old.notes }
         ensures taken { self.new ≡ record self.old { notes = unopened self.old.notes } }
     {
-        let (cursor, below) = opened_at(self.log.as_slice(), self.head)?;
-        self.head = below;
-        Some(cursor)
+        match newest(self.log.as_slice(), self.head) {
+            Some((Note::Opened(cursor), below)) => {
+                let cursor = *cursor;
+                self.head = below;
+                Some(cursor)
+            }
+            _ => None,
+        }
     }
 
-    /// Notes how many choices there are.
+    /// Notes how many choices there are. Apart, so that each instruction is short.
+    #[inline(never)]
     pub fn open_fence(&mut self) -> Result<(), AllocError>
         ensures { OnOk result
             (self.new ≡ record self.old {
@@ -226,9 +217,14 @@ impl Trail {
         ensures count { result ≡ fenced self.old.notes }
         ensures taken { self.new ≡ record self.old { notes = unfenced self.old.notes } }
     {
-        let (count, below) = fenced_at(self.log.as_slice(), self.head)?;
-        self.head = below;
-        Some(count)
+        match newest(self.log.as_slice(), self.head) {
+            Some((Note::Fenced(count), below)) => {
+                let count = *count;
+                self.head = below;
+                Some(count)
+            }
+            _ => None,
+        }
     }
 
     /// Keeps the oldest choices, so many of them.
@@ -255,7 +251,10 @@ impl Trail {
     pub fn is_inside(&self) -> bool
         ensures { result ≡ inside self.now.notes }
     {
-        is_left_at(self.log.as_slice(), self.head)
+        match newest(self.log.as_slice(), self.head) {
+            Some((Note::Left(_code, _place), _below)) => true,
+            _ => false,
+        }
     }
 
     /// The code and the place that the newest note leads to, if it is that of an entered pattern.
@@ -264,7 +263,10 @@ impl Trail {
         ensures { IfSome result (λ (code, place).
             (ns : List s.Note) × (self.now.notes ≡ s.Left code.now place ∷ ns)) }
     {
-        outer_at(self.log.as_slice(), self.head)
+        match newest(self.log.as_slice(), self.head) {
+            Some((Note::Left(code, place), _below)) => Some((code, *place)),
+            _ => None,
+        }
     }
 
     /// Out of an entered pattern; the place where it goes on.
@@ -276,14 +278,15 @@ impl Trail {
               notes = s.Left self.new.code place ∷ self.new.notes;
             }) }
     {
-        match left_at(self.log.as_slice(), self.head)? {
-            Some((code, place, below)) => {
-                self.code = code;
+        match newest(self.log.as_slice(), self.head) {
+            Some((Note::Left(code, place), below)) => {
+                let place = *place;
+                self.code = code.clone()?;
                 self.stored = false;
                 self.head = below;
                 Ok(place)
             }
-            None => unreachable!(),
+            _ => unreachable!(),
         }
     }
 
@@ -413,8 +416,8 @@ impl Trail {
             return None;
         }
         self.head = marks.head;
-        cut_log(&mut self.log, marks.log);
-        cut_pending(&mut self.pending, marks.pending);
+        cut(&mut self.log, marks.log);
+        cut(&mut self.pending, marks.pending);
         match self.choices.pop() {
             Some(_choice) => Some((place, cursor)),
             None => unreachable!(),
@@ -440,8 +443,8 @@ impl Trail {
             return None;
         }
         self.head = marks.head;
-        cut_log(&mut self.log, marks.log);
-        cut_pending(&mut self.pending, marks.pending);
+        cut(&mut self.log, marks.log);
+        cut(&mut self.pending, marks.pending);
         Some((place, kept))
     }
 
@@ -470,7 +473,10 @@ impl Trail {
     pub fn is_open(&self) -> bool
         ensures { result ≡ true → IsOpen self.now }
     {
-        is_opened_at(self.log.as_slice(), self.head)
+        match newest(self.log.as_slice(), self.head) {
+            Some((Note::Opened(_cursor), _below)) => true,
+            _ => false,
+        }
     }
 
     /// Back to the newest choice, if there is one.
@@ -484,8 +490,8 @@ impl Trail {
                 let marks = choice.marks();
                 self.stored = false;
                 self.head = marks.head;
-                cut_log(&mut self.log, marks.log);
-                cut_pending(&mut self.pending, marks.pending);
+                cut(&mut self.log, marks.log);
+                cut(&mut self.pending, marks.pending);
                 cut_codes(&mut self.code, stored, &mut self.codes, marks.codes)?;
                 self.stored = true;
                 Ok(Some(choice))
@@ -506,95 +512,30 @@ fn empty<T: Drop>(list: &mut Vec<T>)
 }
 
 /// The entry of the newest note.
-fn newest(log: &[Entry], head: usize) -> Option<&Entry>
+#[inline(always)]
+fn newest_entry(log: &[Entry], head: usize) -> Option<&Entry>
     ensures { option_copied result ≡ entry_at log.now head }
 {
     if head > 0 { log.get(head - 1) } else { None }
 }
 
 /// The list below an entry.
+#[inline(always)]
 fn list_below(head: usize, below: usize) -> usize
     ensures { result ≡ below_of head below }
 {
     if below < head { below } else { 0 }
 }
 
-/// The cursor of the newest note, if it is that of OPEN, and the list below it.
-fn opened_at(log: &[Entry], head: usize) -> Option<(usize, usize)>
-    ensures { MatchOption result (opened (chain (reverse log.now) head) ≡ None) (λ x.
-        chain (reverse log.now) head ≡ s.Opened x.0 ∷ chain (reverse log.now) x.1) }
-{
-    let entry = newest(log, head)?;
-    match entry.note {
-        Note::Opened(cursor) => Some((cursor, list_below(head, entry.below))),
-        Note::Fenced(_) | Note::Left(_, _) => None,
-    }
-}
-
-/// Whether the newest note is that of OPEN.
-fn is_opened_at(log: &[Entry], head: usize) -> bool
-    ensures { result ≡ true → (b : ℕ) × (ns : List s.Note) × (chain (reverse log.now) head ≡ s.Opened b ∷ ns) }
-{
-    match opened_at(log, head) {
-        Some(_found) => true,
-        None => false,
-    }
-}
-
-/// The number of the newest note, if it is that of FOPEN, and the list below it.
-fn fenced_at(log: &[Entry], head: usize) -> Option<(usize, usize)>
-    ensures { MatchOption result (fenced (chain (reverse log.now) head) ≡ None) (λ x.
-        chain (reverse log.now) head ≡ s.Fenced x.0 ∷ chain (reverse log.now) x.1) }
-{
-    let entry = newest(log, head)?;
-    match entry.note {
-        Note::Fenced(count) => Some((count, list_below(head, entry.below))),
-        Note::Opened(_) | Note::Left(_, _) => None,
-    }
-}
-
-/// Whether the newest note is that of an entered pattern.
-fn is_left_at(log: &[Entry], head: usize) -> bool
-    ensures { result ≡ inside (chain (reverse log.now) head) }
-{
-    match newest(log, head) {
-        Some(entry) => match entry.note {
-            Note::Opened(_) | Note::Fenced(_) => false,
-            Note::Left(_, _) => true,
-        },
-        None => false,
-    }
-}
-
-/// The code and the place that the newest note leads to, if it is that of an entered pattern.
+/// The newest note of a list, and the list below it.
 #[inline(always)]
-fn outer_at(log: &[Entry], head: usize) -> Option<(&PatCode, usize)>
-    ensures { IfSome result (λ (code, place).
-        (ns : List s.Note) × (chain (reverse log.now) head ≡ s.Left code.now place ∷ ns)) }
+fn newest(log: &[Entry], head: usize) -> Option<(&Note, usize)>
+    ensures some { IfSome result (λ (note, below).
+        chain (reverse log.now) head ≡ note_of note.now ∷ chain (reverse log.now) below) }
+    ensures none { result ≡ None → chain (reverse log.now) head ≡ [] }
 {
-    let entry = newest(log, head)?;
-    match &entry.note {
-        Note::Opened(_) | Note::Fenced(_) => None,
-        Note::Left(code, place) => Some((code, *place)),
-    }
-}
-
-/// The code and the place that the newest note leads to, if it is that of an entered pattern, and the list below it.
-fn left_at(log: &[Entry], head: usize) -> Result<Option<(PatCode, usize, usize)>, AllocError>
-    ensures { IfOk result (λ o.
-        MatchOption o (inside (chain (reverse log.now) head) ≡ false) (λ x.
-        chain (reverse log.now) head ≡ s.Left x.0 x.1 ∷ chain (reverse log.now) x.2)) }
-{
-    let Some(entry) = newest(log, head) else {
-        return Ok(None);
-    };
-    match &entry.note {
-        Note::Opened(_) | Note::Fenced(_) => Ok(None),
-        Note::Left(code, place) => {
-            let code = code.clone()?;
-            Ok(Some((code, *place, list_below(head, entry.below))))
-        }
-    }
+    let entry = newest_entry(log, head)?;
+    Some((&entry.note, list_below(head, entry.below)))
 }
 
 /// The code as the last of the codes, where it isn't yet.
@@ -628,36 +569,19 @@ fn cut_codes(
         return Ok(());
     }
     codes.truncate(len);
-    *code = last_of(codes.as_slice())?;
+    *code = match codes.as_slice().last() {
+        Some(last) => last.clone()?,
+        None => PatCode::null(),
+    };
     Ok(())
 }
 
-/// The log cut to a length.
+/// A log cut to a length.
 #[inline(always)]
-fn cut_log(log: &mut Vec<Entry>, len: usize)
-    ensures { log.new.items ≡ take len log.old.items }
+fn cut<T: Drop>(list: &mut Vec<T>, len: usize)
+    ensures { list.new.items ≡ take len list.old.items }
 {
-    if log.len() > len {
-        log.truncate(len);
-    }
-}
-
-/// The pending assignments cut to a length.
-#[inline(always)]
-fn cut_pending(pending: &mut Vec<Assignment>, len: usize)
-    ensures { pending.new.items ≡ take len pending.old.items }
-{
-    if pending.len() > len {
-        pending.truncate(len);
-    }
-}
-
-/// The last code.
-fn last_of(codes: &[PatCode]) -> Result<PatCode, AllocError>
-    ensures { IfOk result (λ code. code ≡ last_code codes.now) }
-{
-    match codes.last() {
-        Some(code) => code.clone(),
-        None => Ok(PatCode::null()),
+    if list.len() > len {
+        list.truncate(len);
     }
 }
