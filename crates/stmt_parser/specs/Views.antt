@@ -5,10 +5,10 @@ use Rattle.model.specs.declared.trees.Binary.{Binary}
 use Rattle.model.specs.declared.trees.Unary.{Unary}
 use Rattle.model.specs.Deck.Grammar.{grade}
 use Rattle.model.specs.Deck.Parse as spec
-use Rattle.model.specs.Deck.Parse.{Onward, Ends, Sees, next}
+use Rattle.model.specs.Deck.Parse.{Onward, Ends, Sees, bind, next, on, rights}
 use Rattle.model.specs.Deck.Tokens.{Tok, Blank, Sign, tok}
 use Rattle.model.specs.Deck.Trees as tree
-use Rattle.model.specs.Deck.Trees.{Args}
+use Rattle.model.specs.Deck.Trees.{Args, Combine}
 use Rattle.model.specs.declared.trees.Expr.{Expr}
 use Rattle.model.specs.declared.trees.Place.{Place}
 use Rattle.model.specs.declared.trees.Stmt.{Stmt}
@@ -82,6 +82,10 @@ Misses k (Sees op ts) = grade op ≡ k → ⊥
 abbrev pub Operated : ℕ → List Tok → Option Binary → List Tok → Type 0
 Operated k ts None rest = Misses k (next ts) × (rest ≡ ts)
 Operated k ts (Some op) rest = (next ts ≡ Sees op rest) × (grade op ≡ k)
+
+-- how an operand goes on by `**`, with at most so many operands after it
+abbrev pub powered : spec.Parser tree.Expr → ℕ → tree.Expr → spec.Parser tree.Expr
+powered operand n e ts = on (next ts) 2 (Some (e, ts)) (λ op after. bind (rights operand 2 n after) (λ f end. Some (Combine op e f, end)))
 
 abbrev pub Fails : {A : Type 0} → Stop → Option A → Type 0
 Fails stop.NoTree found = found ≡ None
