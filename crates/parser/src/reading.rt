@@ -61,6 +61,27 @@ impl<'a> Drop for Reader<'a> {
     }
 }
 
+// Where the statement of the next tree is to wait.
+fn last_tree(
+    alloc: Global,
+    last: &mut Option<Rc<LastTree>>,
+) -> Result<Rc<LastTree>, AllocError> {
+    if let Some(made) = last {
+        return made.clone();
+    }
+    let made = Rc::new(alloc, LastTree::new(alloc))?;
+    *last = Some(made.clone()?);
+    Ok(made)
+}
+
+// Keeps the parts of the statement that waits, if one does.
+fn use_again(free: &mut FreeParts, last: &LastTree) {
+    if let Some(gone) = last.take() {
+        let mut gone = gone;
+        free.keep_statement(&mut gone);
+    }
+}
+
 // The tree of a text, or the cause for which it has none. Its tokens are put in place of others.
 fn tree<'a>(
     free: &mut FreeParts,
@@ -185,21 +206,6 @@ impl<'a> Reader<'a> {
         }
     }
 
-    // Where the statement of the next tree is to wait.
-    fn last_tree(&mut self, alloc: Global) -> Result<Rc<LastTree>, AllocError>
-        ensures labels { self.new.labels ≡ self.old.labels }
-        ensures noted { self.new.noted ≡ self.old.noted }
-    {
-        match &self.last {
-            Some(last) => last.clone(),
-            None => {
-                let last = Rc::new(alloc, LastTree::new(alloc))?;
-                self.last = Some(last.clone()?);
-                Ok(last)
-            }
-        }
-    }
-
     // Notes what a statement with this text and this tree breaks, and the label that it gives. The tree, unless the
     // statement is faulty whatever labels later ones give.
     fn judge(
@@ -238,11 +244,8 @@ impl<'a> Reader<'a> {
             → HasRead (ss ++ statement.now ∷ []) self.new) }
         ensures given { IfOk result (IsGiven statement.now self.old) }
     {
-        let last = self.last_tree(alloc)?;
-        if let Some(gone) = last.take() {
-            let mut gone = gone;
-            self.free.keep_statement(&mut gone);
-        }
+        let last = last_tree(alloc, &mut self.last)?;
+        use_again(&mut self.free, &last);
         let found = tree_or_cause(&mut self.free, &mut self.tokens, statement.text())?;
         match found {
             Ok(tree) => self.judge(alloc, statement, StmtTree::new(last, tree)),

@@ -3,12 +3,12 @@
 //! Brackets nest on the stack, so what is read is handed up behind a pointer, and marks of unary operators wait in a
 //! list.
 
-ghost use Rattle.std.specs.Prelude.{◌≡◌, ◌≤◌, ◌<◌, ◌+◌, ◌-◌, length, IfOk};
+ghost use Rattle.std.specs.Prelude.{◌≡◌, ◌≢◌, false, ◌≤◌, ◌<◌, ◌+◌, ◌-◌, length, IfOk};
 ghost use Rattle.model.specs.Deck.Parse as spec;
 ghost use Rattle.model.specs.Deck.Tokens.{between_quotes};
 ghost use Rattle.model.specs.Deck.Trees.{Literal};
 ghost use Rattle.model.specs.Deck.TreeViews.{arg_of, expr_of};
-ghost use Rattle.stmt_parser.specs.Views.{Reads, Unprefixed, arguments_of, boxed_of, powered};
+ghost use Rattle.stmt_parser.specs.Views.{Reads, Unprefixed, arguments_of, boxed_of, powered, tight};
 
 use crate::cursor::Cursor;
 use crate::marks::{Role, role_of};
@@ -68,7 +68,15 @@ fn assigned(free: &mut FreeParts, cursor: &mut Cursor<'_>, depth: usize) -> Resu
     lefts(free, cursor, depth, 1, first)
 }
 
-/// An expression of a grade above 2: one of grade 2, then the operators of grade 3, and so on, as they come.
+/// Whether an operator binds tighter than those that group to the left from grade 3 on.
+#[inline(always)]
+fn is_tight(grade: u8) -> bool
+    ensures { result ≡ false → (grade ≢ 1) × (grade ≢ 2) }
+{
+    grade == 1 || grade == 2
+}
+
+/// An expression of a grade above 2: an element, then the operators of each grade, as they come.
 #[cycle(expr)]
 #[inline(never)]
 fn climbed(
@@ -81,14 +89,11 @@ fn climbed(
     ensures { Reads boxed_of (spec.graded (spec.element depth) grade cursor.old) result cursor.new }
 {
     let turns = cursor.len();
-    let mut found = marked(free, cursor, depth)?;
+    let first = marked(free, cursor, depth)?;
+    let mut found = first;
     let mut ahead = cursor.grade_ahead();
-    if ahead == 1 {
-        found = lefts(free, cursor, depth, 1, found)?;
-        ahead = cursor.grade_ahead();
-    }
-    if ahead == 2 {
-        found = powered(free, cursor, depth, turns, found)?;
+    if is_tight(ahead) {
+        found = tight(free, cursor, depth, turns, found)?;
         ahead = cursor.grade_ahead();
     }
     for below in 2..grade {
@@ -128,6 +133,23 @@ fn lefts(
         }
     }
     Ok(found)
+}
+
+/// Operators of the grades 1 and 2 after the first element of an expression of so many tokens.
+#[cycle(expr)]
+#[inline(never)]
+#[tactic(auto, unfolding(model::specs::Deck::Parse::bind))]
+fn tight(
+    free: &mut FreeParts,
+    cursor: &mut Cursor<'_>,
+    depth: usize,
+    turns: usize,
+    first: Box<Expr>,
+) -> Result<Box<Expr>, Stop>
+    ensures { Reads boxed_of (tight (spec.element depth) (turns - 1) (boxed_of first) cursor.old) result cursor.new }
+{
+    let found = lefts(free, cursor, depth, 1, first)?;
+    powered(free, cursor, depth, turns, found)
 }
 
 /// The operands of `**` after the first, and the power; at most so many operands.

@@ -1,14 +1,21 @@
 //! Trees that are dropped on a small stack, however deep they are: their parts wait in a list, and nothing is called
 //! within itself.
 //!
-//! A `StmtTree` and an `ExprTree` own a statement and an expression that go so. `drop_statement(alloc, statement)` and
-//! its like drop statements and their parts that way.
+//! An `ExprTree` owns an expression that goes so. A `StmtTree` owns a statement; where the tree goes the statement waits
+//! in a `LastTree`, and a `FreeParts` makes new expressions of its boxes, texts and lists.
 //!
-//!     let tree = StmtTree::new(alloc, statement);
-//!     let statement = &tree.statement;
+//!     let mut free = FreeParts::new(alloc);
+//!     let last = Rc::new(alloc, LastTree::new(alloc))?;
+//!     let tree = StmtTree::new(last.clone()?, statement);
+//!     drop(tree);
+//!     if let Some(mut gone) = last.take() {
+//!         free.keep_statement(&mut gone);
+//!     }
+//!     let name = free.name(b"X")?;
 //!
-//! Promised: a tree is the statement or the expression that it was made of. Where memory for the list is refused, a
-//! part is dropped as it is, which takes a stack as deep as the part.
+//! Promised: a tree is the statement or the expression that it was made of, and a new expression is what was asked for,
+//! whatever its parts were before. Where memory for a list is refused, a part is dropped as it is, which takes a stack
+//! as deep as the part.
 #![tactic(auto)]
 
 ghost use Rattle.std.specs.Prelude.{◌≡◌};
