@@ -15,8 +15,8 @@ use card_reader::StatementView;
 use lexer::{first_name, lex};
 use model::{Cause, DeckFault, Seq, Stmt, StmtFault, Token};
 use std::alloc::{AllocError, Global};
-use stmt_parser::parse_statement;
 use std::rc::Rc;
+use stmt_parser::parse_statement;
 use tree_drops::{FreeParts, LastTree, StmtTree};
 
 /// What is noted of a statement.
@@ -62,10 +62,7 @@ impl<'a> Drop for Reader<'a> {
 }
 
 // Where the statement of the next tree is to wait.
-fn last_tree(
-    alloc: Global,
-    last: &mut Option<Rc<LastTree>>,
-) -> Result<Rc<LastTree>, AllocError> {
+fn last_tree(alloc: Global, last: &mut Option<Rc<LastTree>>) -> Result<Rc<LastTree>, AllocError> {
     if let Some(made) = last {
         return made.clone();
     }

@@ -213,6 +213,7 @@ tight_none atom ts none = climb_start atom ts ∙ none_of (length ts)
   where
     one : graded atom 1 ts ≡ None
     one = graded_fails atom 1 0 refl refl ts (graded_none atom ts ∙ none)
+
     none_of : (n : ℕ) → rights (graded atom 1) 2 n ts ≡ None
     none_of zero = refl
     none_of (suc n) = rw one refl

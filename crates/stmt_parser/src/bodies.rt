@@ -13,7 +13,11 @@ use tree_drops::FreeParts;
 
 /// `[B subject [B pattern] [B = [B object]]]`
 #[tactic(auto, unfolding(model::specs::Deck::ParseStatements::body_parser, model::specs::Deck::Parse::bind))]
-pub(crate) fn body(free: &mut FreeParts, cursor: &mut Cursor<'_>, depth: usize) -> Result<Body, Stop>
+pub(crate) fn body(
+    free: &mut FreeParts,
+    cursor: &mut Cursor<'_>,
+    depth: usize,
+) -> Result<Body, Stop>
     ensures { Reads body_of (spec.body_parser depth cursor.old) result cursor.new }
 {
     if !cursor.enter() {

@@ -19,7 +19,11 @@ use std::alloc::AllocError;
 use tree_drops::FreeParts;
 
 /// A whole expression; brackets and unary operators are nested less deep than the number.
-pub(crate) fn whole(free: &mut FreeParts, cursor: &mut Cursor<'_>, depth: usize) -> Result<Expr, Stop>
+pub(crate) fn whole(
+    free: &mut FreeParts,
+    cursor: &mut Cursor<'_>,
+    depth: usize,
+) -> Result<Expr, Stop>
     ensures { Reads expr_of (spec.whole depth cursor.old) result cursor.new }
 {
     let found = graded(free, cursor, depth, 7)?;
@@ -27,7 +31,11 @@ pub(crate) fn whole(free: &mut FreeParts, cursor: &mut Cursor<'_>, depth: usize)
 }
 
 /// An element; brackets and unary operators are nested less deep than the number.
-pub(crate) fn element(free: &mut FreeParts, cursor: &mut Cursor<'_>, depth: usize) -> Result<Expr, Stop>
+pub(crate) fn element(
+    free: &mut FreeParts,
+    cursor: &mut Cursor<'_>,
+    depth: usize,
+) -> Result<Expr, Stop>
     ensures { Reads expr_of (spec.element depth cursor.old) result cursor.new }
 {
     let found = marked(free, cursor, depth)?;
@@ -215,7 +223,11 @@ fn marked(free: &mut FreeParts, cursor: &mut Cursor<'_>, depth: usize) -> Result
 /// An element that may begin with marks of unary operators.
 #[cycle(expr)]
 #[inline(never)]
-fn unary_marked(free: &mut FreeParts, cursor: &mut Cursor<'_>, depth: usize) -> Result<Box<Expr>, Stop>
+fn unary_marked(
+    free: &mut FreeParts,
+    cursor: &mut Cursor<'_>,
+    depth: usize,
+) -> Result<Box<Expr>, Stop>
     ensures { Reads boxed_of (spec.element depth cursor.old) result cursor.new }
 {
     let mut marks = Vec::new(free.alloc());

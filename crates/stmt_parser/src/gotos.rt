@@ -13,7 +13,11 @@ use tree_drops::FreeParts;
 
 /// `[B goto]`
 #[tactic(auto, unfolding(model::specs::Deck::ParseStatements::goto))]
-pub(crate) fn goto(free: &mut FreeParts, cursor: &mut Cursor<'_>, depth: usize) -> Result<Goto, Stop>
+pub(crate) fn goto(
+    free: &mut FreeParts,
+    cursor: &mut Cursor<'_>,
+    depth: usize,
+) -> Result<Goto, Stop>
     ensures { Reads goto_of (spec.goto depth cursor.old) result cursor.new }
 {
     if !cursor.eat_spaced(Mark::Colon) {

@@ -204,7 +204,11 @@ impl FreeParts {
 
     /// A reference to an element of what a variable of this name has.
     #[inline(never)]
-    pub fn reference(&mut self, text: &[u8], subscripts: Vec<Argument>) -> Result<Box<Expr>, AllocError>
+    pub fn reference(
+        &mut self,
+        text: &[u8],
+        subscripts: Vec<Argument>,
+    ) -> Result<Box<Expr>, AllocError>
         ensures { IfOk result (λ e. expr_of e.value ≡ trees.Reference text.now (args_of subscripts.items)) }
     {
         if let Some(found) = self.references.pop() {
