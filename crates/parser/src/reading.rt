@@ -15,8 +15,9 @@ use card_reader::StatementView;
 use lexer::{first_name, lex};
 use model::{Cause, DeckFault, Seq, Stmt, StmtFault, Token};
 use std::alloc::{AllocError, Global};
+use std::rc::Rc;
 use stmt_parser::parse_statement;
-use tree_drops::StmtTree;
+use tree_drops::{FreeParts, LastTree, StmtTree};
 
 /// What is noted of a statement.
 pub(crate) enum Noted {
@@ -42,6 +43,10 @@ pub struct Reader<'a> {
     noted: Vec<Noted>,
     /// Room for the tokens of a statement.
     tokens: Vec<Token<'a>>,
+    /// Parts of trees that are gone.
+    free: FreeParts,
+    /// Where the statement of the last tree waits.
+    last: Option<Rc<LastTree>>,
 }
 
 impl<'a> Drop for Reader<'a> {
@@ -50,27 +55,51 @@ impl<'a> Drop for Reader<'a> {
             labels: _,
             noted: _,
             tokens: _,
+            free: _,
+            last: _,
         } = self;
     }
 }
 
+// Where the statement of the next tree is to wait.
+fn last_tree(alloc: Global, last: &mut Option<Rc<LastTree>>) -> Result<Rc<LastTree>, AllocError> {
+    if let Some(made) = last {
+        return made.clone();
+    }
+    let made = Rc::new(alloc, LastTree::new(alloc))?;
+    *last = Some(made.clone()?);
+    Ok(made)
+}
+
+// Keeps the parts of the statement that waits, if one does.
+fn use_again(free: &mut FreeParts, last: &LastTree) {
+    if let Some(gone) = last.take() {
+        let mut gone = gone;
+        free.keep_statement(&mut gone);
+    }
+}
+
 // The tree of a text, or the cause for which it has none. Its tokens are put in place of others.
-fn tree<'a>(alloc: Global, tokens: &mut Vec<Token<'a>>, text: &'a [u8]) -> Result<Box<Stmt>, Cause>
+fn tree<'a>(
+    free: &mut FreeParts,
+    tokens: &mut Vec<Token<'a>>,
+    text: &'a [u8],
+) -> Result<Box<Stmt>, Cause>
     ensures { IsRead (spec.read text.now) result }
 {
     lex(tokens, text)?;
-    parse_statement(alloc, tokens)
+    parse_statement(free, tokens)
 }
 
 // The tree of a text or the cause for which it has none, with want of memory as a result of its own.
 fn tree_or_cause<'a>(
-    alloc: Global,
+    free: &mut FreeParts,
     tokens: &mut Vec<Token<'a>>,
     text: &'a [u8],
 ) -> Result<Result<Box<Stmt>, Cause>, AllocError>
     ensures { IfOk result (λ found. result_of found ≡ spec.read text.now) }
 {
-    match tree(alloc, tokens, text) {
+    match tree(free, tokens, text) {
         Err(Cause::Memory) => Err(AllocError),
         found => Ok(found),
     }
@@ -169,6 +198,8 @@ impl<'a> Reader<'a> {
             labels: Labels::new(alloc),
             noted: Vec::new(alloc),
             tokens: Vec::new(alloc),
+            free: FreeParts::new(alloc),
+            last: None,
         }
     }
 
@@ -210,9 +241,11 @@ impl<'a> Reader<'a> {
             → HasRead (ss ++ statement.now ∷ []) self.new) }
         ensures given { IfOk result (IsGiven statement.now self.old) }
     {
-        let found = tree_or_cause(alloc, &mut self.tokens, statement.text())?;
+        let last = last_tree(alloc, &mut self.last)?;
+        use_again(&mut self.free, &last);
+        let found = tree_or_cause(&mut self.free, &mut self.tokens, statement.text())?;
         match found {
-            Ok(tree) => self.judge(alloc, statement, StmtTree::new(alloc, tree)),
+            Ok(tree) => self.judge(alloc, statement, StmtTree::new(last, tree)),
             Err(cause) => {
                 let number = statement.number();
                 self.noted.push(Noted::Faulty(StmtFault { number, cause }))?;

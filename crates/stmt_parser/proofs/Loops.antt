@@ -14,7 +14,7 @@ use Rattle.model.specs.Deck.TreeViews.{arg_of, args_of}
 use Rattle.model.proofs.Decks.ParseComplete.{on_go}
 use Rattle.model.proofs.Decks.ParseSound.{pow_only}
 use Rattle.stmt_parser.specs.Powers.{marks_before, powers}
-use Rattle.stmt_parser.specs.Views.{Misses, Operated, grade_ahead, prefix_of, prefix_of_role}
+use Rattle.stmt_parser.specs.Views.{Misses, Operated, grade_ahead, powered, prefix_of, prefix_of_role, tight}
 use Rattle.stmt_parser.proofs.Powers.{marks_last, powers_last}
 
 pub one_more : {X : Type 0} {x : X} (f : ℕ → X) (n at : ℕ) → at < n → x ≡ f (n - at) → x ≡ f (suc (n - (at + 1)))
@@ -186,6 +186,54 @@ climb_fails atom (suc n) k ts h none = graded_fails atom (k + suc n) (k + n) (om
 pub climb_start : (atom : Parser Expr) (ts : List Tok) → graded atom 2 ts ≡ rights (graded atom 1) 2 (length ts) ts
 unfolding graded
 climb_start atom ts = refl
+
+-- ---- an element, and operators of the grades 1 and 2
+module _ (operand : Parser Expr) (n : ℕ) (e : Expr) (ts : List Tok) where
+  abbrev power_on : Binary → List Tok → Option (Expr × List Tok)
+  power_on op after = bind (rights operand 2 n after) (λ f end. Some (Combine op e f, end))
+
+  pub powered_stop : Misses 2 (next ts) → powered operand n e ts ≡ Some (e, ts)
+  powered_stop m = on_miss (next ts) 2 (Some (e, ts)) power_on m
+
+  pub powered_goes : (op : Binary) (after : List Tok) (f : Expr) (rest : List Tok) → next ts ≡ Sees op after → grade op ≡ 2 → rights operand 2 n after ≡ Some (f, rest)
+      → powered operand n e ts ≡ Some (Combine op e f, rest)
+  unfolding bind
+  powered_goes op after f rest s g h = on_go (next ts) 2 (Some (e, ts)) power_on op after s g ∙ ap (λ r. bind r (λ x end. Some (Combine op e x, end))) h
+
+  pub powered_none : (op : Binary) (after : List Tok) → next ts ≡ Sees op after → grade op ≡ 2 → rights operand 2 n after ≡ None → powered operand n e ts ≡ None
+  unfolding bind
+  powered_none op after s g h = on_go (next ts) 2 (Some (e, ts)) power_on op after s g ∙ ap (λ r. bind r (λ x end. Some (Combine op e x, end))) h
+
+operand_of : (atom : Parser Expr) (ts : List Tok) (e : Expr) (rest : List Tok) → atom ts ≡ Some (e, rest) → graded atom 1 ts ≡ lefts (graded atom 0) 1 (length rest) e rest
+operand_of atom ts e rest found = graded_left atom 1 0 refl refl ts e rest (graded_none atom ts ∙ found)
+
+pub tight_none : (atom : Parser Expr) (ts : List Tok) → atom ts ≡ None → graded atom 2 ts ≡ None
+unfolding rights bind
+tight_none atom ts none = climb_start atom ts ∙ none_of (length ts)
+  where
+    one : graded atom 1 ts ≡ None
+    one = graded_fails atom 1 0 refl refl ts (graded_none atom ts ∙ none)
+
+    none_of : (n : ℕ) → rights (graded atom 1) 2 n ts ≡ None
+    none_of zero = refl
+    none_of (suc n) = rw one refl
+
+with_operand : (atom : Parser Expr) (n : ℕ) (ts : List Tok) (e : Expr) (rest : List Tok) → atom ts ≡ Some (e, rest) → rights (graded atom 1) 2 (suc n) ts ≡ tight atom n e rest
+unfolding rights
+with_operand atom n ts e rest found = ap (λ r. bind r (λ x end. powered (graded atom 1) n x end)) (operand_of atom ts e rest found)
+
+pub tight_goes : (d : ℕ) (ts : List Tok) (e : Expr) (rest : List Tok) (turns : ℕ) → turns ≡ length ts → element d ts ≡ Some (e, rest) → graded (element d) 2 ts ≡ tight (element d) (turns - 1) e rest
+unfolding element element_step
+tight_goes zero ts e rest turns h found = absurd (cc)
+tight_goes (suc d) [] e rest turns h found = absurd (cc)
+tight_goes (suc d) (t ∷ ts) e rest turns h found = climb_start (element (suc d)) (t ∷ ts) ∙ with_operand (element (suc d)) (length ts) (t ∷ ts) e rest found ∙ ap (λ n. tight (element (suc d)) n e rest) (omega (arith, h))
+
+pub tight_misses : (d : ℕ) (ts : List Tok) (e : Expr) (rest : List Tok) → element d ts ≡ Some (e, rest) → Misses 1 (next rest) → Misses 2 (next rest) → graded (element d) 2 ts ≡ Some (e, rest)
+unfolding bind
+tight_misses d ts e rest found one two =
+    tight_goes d ts e rest (length ts) refl found
+    ∙ ap (λ r. bind r (λ x end. powered (graded (element d) 1) (length ts - 1) x end)) (lefts_miss (graded (element d) 0) 1 (length rest) e rest one)
+    ∙ on_miss (next rest) 2 (Some (e, rest)) (λ op after. bind (rights (graded (element d) 1) 2 (length ts - 1) after) (λ f end. Some (Combine op e f, end))) two
 
 -- ---- arguments
 abbrev pub join : Args → Args → Args

@@ -5,10 +5,10 @@ use Rattle.model.specs.declared.trees.Binary.{Binary}
 use Rattle.model.specs.declared.trees.Unary.{Unary}
 use Rattle.model.specs.Deck.Grammar.{grade}
 use Rattle.model.specs.Deck.Parse as spec
-use Rattle.model.specs.Deck.Parse.{Onward, Ends, Sees, next}
+use Rattle.model.specs.Deck.Parse.{Onward, Ends, Sees, bind, graded, lefts, next, on, rights}
 use Rattle.model.specs.Deck.Tokens.{Tok, Blank, Sign, tok}
 use Rattle.model.specs.Deck.Trees as tree
-use Rattle.model.specs.Deck.Trees.{Args}
+use Rattle.model.specs.Deck.Trees.{Args, Combine}
 use Rattle.model.specs.declared.trees.Expr.{Expr}
 use Rattle.model.specs.declared.trees.Place.{Place}
 use Rattle.model.specs.declared.trees.Stmt.{Stmt}
@@ -86,6 +86,14 @@ Operated k ts (Some op) rest = (next ts ≡ Sees op rest) × (grade op ≡ k)
 abbrev pub Fails : {A : Type 0} → Stop → Option A → Type 0
 Fails stop.NoTree found = found ≡ None
 Fails stop.Memory found = ⊤
+
+-- how an operand goes on by `**`, with at most so many operands after it
+abbrev pub powered : spec.Parser tree.Expr → ℕ → tree.Expr → spec.Parser tree.Expr
+powered operand n e ts = on (next ts) 2 (Some (e, ts)) (λ op after. bind (rights operand 2 n after) (λ f end. Some (Combine op e f, end)))
+
+-- how an element goes on by operators of grades 1 and 2
+abbrev pub tight : spec.Parser tree.Expr → ℕ → tree.Expr → spec.Parser tree.Expr
+tight atom n e ts = bind (lefts (graded atom 0) 1 (length ts) e ts) (λ x rest. powered (graded atom 1) n x rest)
 
 -- what is read is what the definitions read, unless memory runs out
 abbrev pub Reads : {A B : Type 0} → (B → A) → Option (A × List Tok) → Result B Stop → List Tok → Type 0

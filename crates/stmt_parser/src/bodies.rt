@@ -9,36 +9,39 @@ use crate::cursor::Cursor;
 use crate::expressions::{element, whole};
 use crate::stop::Stop;
 use model::{Body, Expr, Mark};
-use std::alloc::Global;
-use tree_drops::drop_expression;
+use tree_drops::FreeParts;
 
 /// `[B subject [B pattern] [B = [B object]]]`
 #[tactic(auto, unfolding(model::specs::Deck::ParseStatements::body_parser, model::specs::Deck::Parse::bind))]
-pub(crate) fn body(alloc: Global, cursor: &mut Cursor<'_>, depth: usize) -> Result<Body, Stop>
+pub(crate) fn body(
+    free: &mut FreeParts,
+    cursor: &mut Cursor<'_>,
+    depth: usize,
+) -> Result<Body, Stop>
     ensures { Reads body_of (spec.body_parser depth cursor.old) result cursor.new }
 {
     if !cursor.enter() {
         return Ok(Body::Nothing);
     }
-    let subject = element(alloc, cursor, depth)?;
-    after_subject(alloc, cursor, depth, subject)
+    let subject = element(free, cursor, depth)?;
+    after_subject(free, cursor, depth, subject)
 }
 
 #[tactic(auto, unfolding(model::specs::Deck::ParseStatements::after_subject, model::specs::Deck::Parse::bind))]
 fn after_subject(
-    alloc: Global,
+    free: &mut FreeParts,
     cursor: &mut Cursor<'_>,
     depth: usize,
-    subject: Expr,
+    mut subject: Expr,
 ) -> Result<Body, Stop>
     ensures { Reads body_of
         (spec.after_subject depth (expr_of subject) cursor.old) result cursor.new }
 {
     if cursor.eat_spaced(Mark::Equal) {
-        return match object(alloc, cursor, depth) {
+        return match object(free, cursor, depth) {
             Ok(object) => Ok(Body::Assign(subject, object)),
             Err(stop) => {
-                drop_expression(alloc, subject);
+                free.keep(&mut subject);
                 Err(stop)
             }
         };
@@ -46,10 +49,10 @@ fn after_subject(
     if !cursor.enter() {
         return Ok(Body::Evaluate(subject));
     }
-    match whole(alloc, cursor, depth) {
-        Ok(pattern) => after_pattern(alloc, cursor, depth, subject, pattern),
+    match whole(free, cursor, depth) {
+        Ok(pattern) => after_pattern(free, cursor, depth, subject, pattern),
         Err(stop) => {
-            drop_expression(alloc, subject);
+            free.keep(&mut subject);
             Err(stop)
         }
     }
@@ -57,11 +60,11 @@ fn after_subject(
 
 #[tactic(auto, unfolding(model::specs::Deck::ParseStatements::after_pattern, model::specs::Deck::Parse::bind))]
 fn after_pattern(
-    alloc: Global,
+    free: &mut FreeParts,
     cursor: &mut Cursor<'_>,
     depth: usize,
-    subject: Expr,
-    pattern: Expr,
+    mut subject: Expr,
+    mut pattern: Expr,
 ) -> Result<Body, Stop>
     ensures { Reads body_of
         (spec.after_pattern depth (expr_of subject)
@@ -70,11 +73,11 @@ fn after_pattern(
     if !cursor.eat_spaced(Mark::Equal) {
         return Ok(Body::Match(subject, pattern));
     }
-    match object(alloc, cursor, depth) {
+    match object(free, cursor, depth) {
         Ok(object) => Ok(Body::Replace(subject, pattern, object)),
         Err(stop) => {
-            drop_expression(alloc, subject);
-            drop_expression(alloc, pattern);
+            free.keep(&mut subject);
+            free.keep(&mut pattern);
             Err(stop)
         }
     }
@@ -82,11 +85,11 @@ fn after_pattern(
 
 /// `[B object]`
 #[tactic(auto, unfolding(model::specs::Deck::ParseStatements::object_parser, model::specs::Deck::Parse::bind))]
-fn object(alloc: Global, cursor: &mut Cursor<'_>, depth: usize) -> Result<Option<Expr>, Stop>
+fn object(free: &mut FreeParts, cursor: &mut Cursor<'_>, depth: usize) -> Result<Option<Expr>, Stop>
     ensures { Reads object_of (spec.object_parser depth cursor.old) result cursor.new }
 {
     if !cursor.enter() {
         return Ok(None);
     }
-    Ok(Some(whole(alloc, cursor, depth)?))
+    Ok(Some(whole(free, cursor, depth)?))
 }

@@ -1,6 +1,6 @@
 //! A cursor over tokens.
 
-ghost use Rattle.std.specs.Prelude.{◌≡◌, IfSome, if◌then◌else◌, length};
+ghost use Rattle.std.specs.Prelude.{◌≡◌, false, IfSome, if◌then◌else◌, length};
 ghost use Rattle.model.specs.Deck.Lexed.{IsLexed, Lexed};
 ghost use Rattle.model.specs.Deck.Parse as spec;
 ghost use Rattle.model.specs.Deck.ParseStatements as ahead;
@@ -54,6 +54,17 @@ impl<'a> Cursor<'a> {
                 self.rest = rest;
                 Some(*first)
             }
+        }
+    }
+
+    /// Whether the mark of a unary operator comes next.
+    #[inline(always)]
+    pub(crate) fn sees_prefix(&self) -> bool
+        ensures { result ≡ false → view.Unprefixed self.now }
+    {
+        match self.rest {
+            [first, ..] => unary_of(first).is_some(),
+            [] => false,
         }
     }
 

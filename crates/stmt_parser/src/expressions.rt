@@ -3,39 +3,49 @@
 //! Brackets nest on the stack, so what is read is handed up behind a pointer, and marks of unary operators wait in a
 //! list.
 
-ghost use Rattle.std.specs.Prelude.{◌≡◌, ◌≤◌, ◌<◌, ◌+◌, ◌-◌, length, IfOk};
+ghost use Rattle.std.specs.Prelude.{◌≡◌, ◌≢◌, false, ◌≤◌, ◌<◌, ◌+◌, ◌-◌, length, IfOk};
 ghost use Rattle.model.specs.Deck.Parse as spec;
 ghost use Rattle.model.specs.Deck.Tokens.{between_quotes};
 ghost use Rattle.model.specs.Deck.Trees.{Literal};
 ghost use Rattle.model.specs.Deck.TreeViews.{arg_of, expr_of};
-ghost use Rattle.stmt_parser.specs.Views.{Reads, Unprefixed, arguments_of, boxed_of};
+ghost use Rattle.stmt_parser.specs.Views.{Reads, Unprefixed, arguments_of, boxed_of, powered, tight};
 
 use crate::cursor::Cursor;
 use crate::marks::{Role, role_of};
-use crate::parts::{applied, binary, given, integer, node, power, shown, unquoted};
+use crate::parts::{applied, given, integer, power, shown, unquoted};
 use crate::stop::Stop;
 use model::{Argument, Expr, Mark, Token, TokenKind};
-use std::alloc::{AllocError, Global};
-use tree_drops::drop_boxed;
+use std::alloc::AllocError;
+use tree_drops::FreeParts;
 
 /// A whole expression; brackets and unary operators are nested less deep than the number.
-pub(crate) fn whole(alloc: Global, cursor: &mut Cursor<'_>, depth: usize) -> Result<Expr, Stop>
+pub(crate) fn whole(
+    free: &mut FreeParts,
+    cursor: &mut Cursor<'_>,
+    depth: usize,
+) -> Result<Expr, Stop>
     ensures { Reads expr_of (spec.whole depth cursor.old) result cursor.new }
 {
-    Ok(Box::into_inner(graded(alloc, cursor, depth, 7)?))
+    let found = graded(free, cursor, depth, 7)?;
+    Ok(free.unboxed(found))
 }
 
 /// An element; brackets and unary operators are nested less deep than the number.
-pub(crate) fn element(alloc: Global, cursor: &mut Cursor<'_>, depth: usize) -> Result<Expr, Stop>
+pub(crate) fn element(
+    free: &mut FreeParts,
+    cursor: &mut Cursor<'_>,
+    depth: usize,
+) -> Result<Expr, Stop>
     ensures { Reads expr_of (spec.element depth cursor.old) result cursor.new }
 {
-    Ok(Box::into_inner(marked(alloc, cursor, depth)?))
+    let found = marked(free, cursor, depth)?;
+    Ok(free.unboxed(found))
 }
 
 /// An expression of a grade.
 #[cycle(expr)]
 fn graded(
-    alloc: Global,
+    free: &mut FreeParts,
     cursor: &mut Cursor<'_>,
     depth: usize,
     grade: u8,
@@ -43,31 +53,42 @@ fn graded(
     ensures { Reads boxed_of (spec.graded (spec.element depth) grade cursor.old) result cursor.new }
 {
     match grade {
-        0 => marked(alloc, cursor, depth),
-        1 => assigned(alloc, cursor, depth),
-        2 => rights(alloc, cursor, depth),
-        _ => climbed(alloc, cursor, depth, grade),
+        0 => marked(free, cursor, depth),
+        1 => assigned(free, cursor, depth),
+        2 => {
+            let turns = cursor.len();
+            rights(free, cursor, depth, turns)
+        }
+        _ => climbed(free, cursor, depth, grade),
     }
 }
 
 /// An expression of grade 1.
 #[cycle(expr)]
 #[inline(always)]
-fn assigned(alloc: Global, cursor: &mut Cursor<'_>, depth: usize) -> Result<Box<Expr>, Stop>
+fn assigned(free: &mut FreeParts, cursor: &mut Cursor<'_>, depth: usize) -> Result<Box<Expr>, Stop>
     ensures { Reads boxed_of (spec.graded (spec.element depth) 1 cursor.old) result cursor.new }
 {
-    let first = marked(alloc, cursor, depth)?;
+    let first = marked(free, cursor, depth)?;
     if cursor.grade_ahead() != 1 {
         return Ok(first);
     }
-    lefts(alloc, cursor, depth, 1, first)
+    lefts(free, cursor, depth, 1, first)
 }
 
-/// An expression of a grade above 2: one of grade 2, then the operators of grade 3, and so on, as they come.
+/// Whether an operator binds tighter than those that group to the left from grade 3 on.
+#[inline(always)]
+fn is_tight(grade: u8) -> bool
+    ensures { result ≡ false → (grade ≢ 1) × (grade ≢ 2) }
+{
+    grade == 1 || grade == 2
+}
+
+/// An expression of a grade above 2: an element, then the operators of each grade, as they come.
 #[cycle(expr)]
 #[inline(never)]
 fn climbed(
-    alloc: Global,
+    free: &mut FreeParts,
     cursor: &mut Cursor<'_>,
     depth: usize,
     grade: u8,
@@ -75,11 +96,17 @@ fn climbed(
     requires { 2 < grade }
     ensures { Reads boxed_of (spec.graded (spec.element depth) grade cursor.old) result cursor.new }
 {
-    let mut found = rights(alloc, cursor, depth)?;
+    let turns = cursor.len();
+    let first = marked(free, cursor, depth)?;
+    let mut found = first;
     let mut ahead = cursor.grade_ahead();
+    if is_tight(ahead) {
+        found = tight(free, cursor, depth, turns, found)?;
+        ahead = cursor.grade_ahead();
+    }
     for below in 2..grade {
         if ahead == below + 1 {
-            found = lefts(alloc, cursor, depth, below + 1, found)?;
+            found = lefts(free, cursor, depth, below + 1, found)?;
             ahead = cursor.grade_ahead();
         }
     }
@@ -90,7 +117,7 @@ fn climbed(
 #[cycle(expr)]
 #[tactic(auto, unfolding(model::specs::Deck::Parse::lefts, model::specs::Deck::Parse::bind, model::specs::Deck::Parse::on))]
 fn lefts(
-    alloc: Global,
+    free: &mut FreeParts,
     cursor: &mut Cursor<'_>,
     depth: usize,
     grade: u8,
@@ -105,10 +132,10 @@ fn lefts(
         let Some(op) = cursor.operator(grade) else {
             return Ok(found);
         };
-        match graded(alloc, cursor, depth, grade - 1) {
-            Ok(right) => found = binary(alloc, op, found, right)?,
+        match graded(free, cursor, depth, grade - 1) {
+            Ok(right) => found = free.binary(op, found, right)?,
             Err(stop) => {
-                drop_boxed(alloc, found);
+                free.keep_boxed(found);
                 return Err(stop);
             }
         }
@@ -116,19 +143,65 @@ fn lefts(
     Ok(found)
 }
 
-/// Operands of `**`, which groups to the right.
+/// Operators of the grades 1 and 2 after the first element of an expression of so many tokens.
+#[cycle(expr)]
+#[inline(never)]
+#[tactic(auto, unfolding(model::specs::Deck::Parse::bind))]
+fn tight(
+    free: &mut FreeParts,
+    cursor: &mut Cursor<'_>,
+    depth: usize,
+    turns: usize,
+    first: Box<Expr>,
+) -> Result<Box<Expr>, Stop>
+    ensures { Reads boxed_of (tight (spec.element depth) (turns - 1) (boxed_of first) cursor.old) result cursor.new }
+{
+    let found = lefts(free, cursor, depth, 1, first)?;
+    powered(free, cursor, depth, turns, found)
+}
+
+/// The operands of `**` after the first, and the power; at most so many operands.
+#[cycle(expr)]
+#[inline(never)]
+fn powered(
+    free: &mut FreeParts,
+    cursor: &mut Cursor<'_>,
+    depth: usize,
+    turns: usize,
+    first: Box<Expr>,
+) -> Result<Box<Expr>, Stop>
+    ensures { Reads boxed_of
+        (powered (spec.graded (spec.element depth) 1) (turns - 1) (boxed_of first) cursor.old) result cursor.new }
+{
+    let Some(op) = cursor.operator(2) else {
+        return Ok(first);
+    };
+    match rights(free, cursor, depth, turns.saturating_sub(1)) {
+        Ok(right) => Ok(free.binary(op, first, right)?),
+        Err(stop) => {
+            free.keep_boxed(first);
+            Err(stop)
+        }
+    }
+}
+
+/// At most so many operands of `**`, which groups to the right.
 #[cycle(expr)]
 #[tactic(auto, unfolding(model::specs::Deck::Parse::rights, model::specs::Deck::Parse::bind, model::specs::Deck::Parse::on))]
-fn rights(alloc: Global, cursor: &mut Cursor<'_>, depth: usize) -> Result<Box<Expr>, Stop>
+fn rights(
+    free: &mut FreeParts,
+    cursor: &mut Cursor<'_>,
+    depth: usize,
+    turns: usize,
+) -> Result<Box<Expr>, Stop>
     ensures { Reads boxed_of
-        (spec.rights (spec.graded (spec.element depth) 1) 2
-        (length cursor.old) cursor.old) result cursor.new }
+        (spec.rights (spec.graded (spec.element depth) 1) 2 turns cursor.old) result cursor.new }
 {
-    let mut operands = Vec::new(alloc);
-    for _turn in 0..cursor.len() {
-        let operand = assigned(alloc, cursor, depth)?;
+    let mut operands = Vec::new(free.alloc());
+    for _turn in 0..turns {
+        let operand = assigned(free, cursor, depth)?;
         if cursor.operator(2).is_none() {
-            return Ok(power(alloc, operands, operand)?);
+            return Ok(power(free, operands, operand)?);
         }
         operands.push(operand)?;
     }
@@ -138,16 +211,32 @@ fn rights(alloc: Global, cursor: &mut Cursor<'_>, depth: usize) -> Result<Box<Ex
 /// An element: the marks of unary operators, and what they stand before.
 #[cycle(expr)]
 #[inline(never)]
-fn marked(alloc: Global, cursor: &mut Cursor<'_>, depth: usize) -> Result<Box<Expr>, Stop>
+fn marked(free: &mut FreeParts, cursor: &mut Cursor<'_>, depth: usize) -> Result<Box<Expr>, Stop>
     ensures { Reads boxed_of (spec.element depth cursor.old) result cursor.new }
 {
-    let mut marks = Vec::new(alloc);
+    if depth > 0 && !cursor.sees_prefix() {
+        return bare(free, cursor, depth - 1);
+    }
+    unary_marked(free, cursor, depth)
+}
+
+/// An element that may begin with marks of unary operators.
+#[cycle(expr)]
+#[inline(never)]
+fn unary_marked(
+    free: &mut FreeParts,
+    cursor: &mut Cursor<'_>,
+    depth: usize,
+) -> Result<Box<Expr>, Stop>
+    ensures { Reads boxed_of (spec.element depth cursor.old) result cursor.new }
+{
+    let mut marks = Vec::new(free.alloc());
     for turn in 0..depth {
         match cursor.prefix() {
             Some(op) => marks.push(op)?,
             None => {
-                let operand = bare(alloc, cursor, depth - turn - 1)?;
-                return Ok(applied(alloc, marks, operand)?);
+                let operand = bare(free, cursor, depth - turn - 1)?;
+                return Ok(applied(free, marks, operand)?);
             }
         }
     }
@@ -158,7 +247,7 @@ fn marked(alloc: Global, cursor: &mut Cursor<'_>, depth: usize) -> Result<Box<Ex
 #[cycle(expr)]
 #[inline(always)]
 #[tactic(auto, unfolding(model::specs::Deck::Parse::element, model::specs::Deck::Parse::element_step, model::specs::Deck::Parse::bind))]
-fn bare(alloc: Global, cursor: &mut Cursor<'_>, depth: usize) -> Result<Box<Expr>, Stop>
+fn bare(free: &mut FreeParts, cursor: &mut Cursor<'_>, depth: usize) -> Result<Box<Expr>, Stop>
     requires { Unprefixed cursor.old }
     ensures { Reads boxed_of (spec.element (depth + 1) cursor.old) result cursor.new }
 {
@@ -167,12 +256,12 @@ fn bare(alloc: Global, cursor: &mut Cursor<'_>, depth: usize) -> Result<Box<Expr
     };
     match token.kind {
         TokenKind::Blank => Err(Stop::NoTree),
-        TokenKind::Name => named(alloc, cursor, depth, token.text),
-        TokenKind::Integer => Ok(node(alloc, Expr::Integer(integer(token.text)))?),
-        TokenKind::Literal => Ok(literal(alloc, token.text)?),
+        TokenKind::Name => named(free, cursor, depth, token.text),
+        TokenKind::Integer => Ok(free.integer(integer(token.text))?),
+        TokenKind::Literal => Ok(literal(free, token.text)?),
         TokenKind::Mark(mark) => match role_of(mark) {
-            Role::Opens => bracketed(alloc, cursor, depth),
-            Role::Refers => keyword(alloc, cursor),
+            Role::Opens => bracketed(free, cursor, depth),
+            Role::Refers => keyword(free, cursor),
             _ => Err(Stop::NoTree),
         },
     }
@@ -180,7 +269,7 @@ fn bare(alloc: Global, cursor: &mut Cursor<'_>, depth: usize) -> Result<Box<Expr
 
 /// A keyword, after its `&`.
 #[inline(never)]
-fn keyword(alloc: Global, cursor: &mut Cursor<'_>) -> Result<Box<Expr>, Stop>
+fn keyword(free: &mut FreeParts, cursor: &mut Cursor<'_>) -> Result<Box<Expr>, Stop>
     ensures { Reads boxed_of (spec.keyword_of (spec.whole 0) cursor.old) result cursor.new }
 {
     match cursor.take() {
@@ -190,37 +279,34 @@ fn keyword(alloc: Global, cursor: &mut Cursor<'_>) -> Result<Box<Expr>, Stop>
                 text,
                 ..
             },
-        ) => Ok(node(alloc, Expr::Keyword(Vec::from_slice(alloc, text)?))?),
+        ) => Ok(free.keyword(text)?),
         _ => Err(Stop::NoTree),
     }
 }
 
 /// The literal of a text with its quotes.
 #[inline(never)]
-fn literal(alloc: Global, text: &[u8]) -> Result<Box<Expr>, AllocError>
+fn literal(free: &mut FreeParts, text: &[u8]) -> Result<Box<Expr>, AllocError>
     requires { 2 ≤ length text.now }
     ensures { IfOk result (λ e. boxed_of e ≡ Literal (between_quotes text.now)) }
 {
-    node(
-        alloc,
-        Expr::Literal(Vec::from_slice(alloc, unquoted(text))?),
-    )
+    free.literal(unquoted(text))
 }
 
 /// An expression and the round bracket that closes, after the one that opens.
 #[cycle(expr)]
 #[inline(never)]
 #[tactic(auto, unfolding(model::specs::Deck::Parse::bracketed, model::specs::Deck::Parse::bind, model::specs::Deck::Parse::expect))]
-fn bracketed(alloc: Global, cursor: &mut Cursor<'_>, depth: usize) -> Result<Box<Expr>, Stop>
+fn bracketed(free: &mut FreeParts, cursor: &mut Cursor<'_>, depth: usize) -> Result<Box<Expr>, Stop>
     ensures { Reads boxed_of (spec.bracketed (spec.whole depth) cursor.old) result cursor.new }
 {
     cursor.skip();
-    let inner = graded(alloc, cursor, depth, 7)?;
+    let inner = graded(free, cursor, depth, 7)?;
     cursor.skip();
     if cursor.eat(Mark::Close) {
         Ok(inner)
     } else {
-        drop_boxed(alloc, inner);
+        free.keep_boxed(inner);
         Err(Stop::NoTree)
     }
 }
@@ -230,7 +316,7 @@ fn bracketed(alloc: Global, cursor: &mut Cursor<'_>, depth: usize) -> Result<Box
 #[inline(never)]
 #[tactic(auto, unfolding(model::specs::Deck::Parse::after_name, model::specs::Deck::Parse::bind, model::specs::Deck::Parse::expect))]
 fn named(
-    alloc: Global,
+    free: &mut FreeParts,
     cursor: &mut Cursor<'_>,
     depth: usize,
     name: &[u8],
@@ -238,24 +324,23 @@ fn named(
     ensures { Reads boxed_of
         (spec.after_name (spec.whole depth) name.now cursor.old) result cursor.new }
 {
-    let name = Vec::from_slice(alloc, name)?;
     let turns = cursor.len();
     if cursor.eat(Mark::Open) {
-        let arguments = several(alloc, cursor, depth, turns)?;
+        let arguments = several(free, cursor, depth, turns)?;
         if cursor.eat(Mark::Close) {
-            Ok(node(alloc, Expr::Call(name, shown(arguments)))?)
+            Ok(free.call(name, shown(arguments))?)
         } else {
             Err(Stop::NoTree)
         }
     } else if cursor.eat(Mark::Less) {
-        let subscripts = several(alloc, cursor, depth, turns)?;
+        let subscripts = several(free, cursor, depth, turns)?;
         if given(&subscripts) && cursor.eat(Mark::Greater) {
-            Ok(node(alloc, Expr::Reference(name, subscripts))?)
+            Ok(free.reference(name, subscripts)?)
         } else {
             Err(Stop::NoTree)
         }
     } else {
-        Ok(node(alloc, Expr::Name(name))?)
+        Ok(free.name(name)?)
     }
 }
 
@@ -264,7 +349,7 @@ fn named(
 #[inline(never)]
 #[tactic(auto, unfolding(model::specs::Deck::Parse::several, model::specs::Deck::Parse::bind))]
 fn several(
-    alloc: Global,
+    free: &mut FreeParts,
     cursor: &mut Cursor<'_>,
     depth: usize,
     turns: usize,
@@ -272,9 +357,9 @@ fn several(
     ensures { Reads arguments_of
         (spec.several (spec.whole depth) turns cursor.old) result cursor.new }
 {
-    let mut found = Vec::new(alloc);
+    let mut found = free.list();
     for _turn in 0..turns {
-        found.push(one(alloc, cursor, depth)?)?;
+        found.push(one(free, cursor, depth)?)?;
         if !cursor.eat(Mark::Comma) {
             return Ok(found);
         }
@@ -286,14 +371,14 @@ fn several(
 #[cycle(expr)]
 #[inline(never)]
 #[tactic(auto, unfolding(model::specs::Deck::Parse::one_argument, model::specs::Deck::Parse::bind))]
-fn one(alloc: Global, cursor: &mut Cursor<'_>, depth: usize) -> Result<Argument, Stop>
+fn one(free: &mut FreeParts, cursor: &mut Cursor<'_>, depth: usize) -> Result<Argument, Stop>
     ensures { Reads arg_of (spec.one_argument (spec.whole depth) cursor.old) result cursor.new }
 {
     cursor.skip();
     if !cursor.starts() {
         return Ok(Argument::Absent);
     }
-    let value = graded(alloc, cursor, depth, 7)?;
+    let value = graded(free, cursor, depth, 7)?;
     cursor.skip();
-    Ok(Argument::Given(Box::into_inner(value)))
+    Ok(Argument::Given(free.unboxed(value)))
 }

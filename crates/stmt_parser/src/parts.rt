@@ -11,38 +11,12 @@ ghost use Rattle.stmt_parser.specs.Powers.{marks_before, powers};
 ghost use Rattle.stmt_parser.specs.Views.{boxed_of};
 
 use model::{Argument, Binary, Expr, Unary};
-use std::alloc::{AllocError, Global};
-
-/// An expression behind a pointer.
-#[inline(never)]
-pub(crate) fn node(alloc: Global, expr: Expr) -> Result<Box<Expr>, AllocError>
-    ensures { IfOk result (λ e. boxed_of e ≡ expr_of expr) }
-{
-    Ok(Box::new(alloc, expr)?)
-}
-
-#[inline(never)]
-fn unary(alloc: Global, op: Unary, operand: Box<Expr>) -> Result<Box<Expr>, AllocError>
-    ensures { IfOk result (λ e. boxed_of e ≡ tree.Apply op (boxed_of operand)) }
-{
-    Ok(Box::new(alloc, Expr::Unary(op, operand))?)
-}
-
-#[inline(never)]
-pub(crate) fn binary(
-    alloc: Global,
-    op: Binary,
-    left: Box<Expr>,
-    right: Box<Expr>,
-) -> Result<Box<Expr>, AllocError>
-    ensures { IfOk result (λ e. boxed_of e ≡ tree.Combine op (boxed_of left) (boxed_of right)) }
-{
-    Ok(Box::new(alloc, Expr::Binary(op, left, right))?)
-}
+use std::alloc::AllocError;
+use tree_drops::FreeParts;
 
 /// Unary operators before an operand, the last of them next to it.
 pub(crate) fn applied(
-    alloc: Global,
+    free: &mut FreeParts,
     marks: Vec<Unary>,
     operand: Box<Expr>,
 ) -> Result<Box<Expr>, AllocError>
@@ -51,14 +25,14 @@ pub(crate) fn applied(
     let mut marks = marks;
     let mut found = operand;
     while let Some(op) = marks.pop() {
-        found = unary(alloc, op, found)?;
+        found = free.unary(op, found)?;
     }
     Ok(found)
 }
 
 /// The operands of `**` with the last, grouped to the right.
 pub(crate) fn power(
-    alloc: Global,
+    free: &mut FreeParts,
     operands: Vec<Box<Expr>>,
     last: Box<Expr>,
 ) -> Result<Box<Expr>, AllocError>
@@ -67,7 +41,7 @@ pub(crate) fn power(
     let mut operands = operands;
     let mut right = last;
     while let Some(left) = operands.pop() {
-        right = binary(alloc, Binary::Power, left, right)?;
+        right = free.binary(Binary::Power, left, right)?;
     }
     Ok(right)
 }

@@ -14,18 +14,18 @@ use crate::cursor::Cursor;
 use crate::gotos::goto;
 use crate::stop::Stop;
 use model::{Cause, Stmt, Token, TokenKind};
-use std::alloc::{AllocError, Global};
-use tree_drops::{drop_body, drop_statement};
+use std::alloc::AllocError;
+use tree_drops::FreeParts;
 
 /// The one statement that has these tokens.
-pub fn parse_statement(alloc: Global, tokens: &[Token<'_>]) -> Result<Box<Stmt>, Cause>
+pub fn parse_statement(free: &mut FreeParts, tokens: &[Token<'_>]) -> Result<Box<Stmt>, Cause>
     requires { Lexed tokens.now }
     ensures tree { IfOk result (λ s. Tree (stmt_of s.value) (toks tokens.now)) }
     // No other cause than that there is none, or no memory.
     ensures cause { IfErr result (λ c.
         (c ≡ cause.Memory) ⊎ ((c ≡ cause.NoTree) × HasNoTree (toks tokens.now))) }
 {
-    match all(alloc, tokens) {
+    match all(free, tokens) {
         Ok(statement) => Ok(statement),
         Err(Stop::NoTree) => Err(Cause::NoTree),
         Err(Stop::Memory) => Err(Cause::Memory),
@@ -33,56 +33,56 @@ pub fn parse_statement(alloc: Global, tokens: &[Token<'_>]) -> Result<Box<Stmt>,
 }
 
 /// A statement behind a pointer.
-fn node(alloc: Global, statement: Stmt) -> Result<Box<Stmt>, AllocError>
+fn node(free: &mut FreeParts, statement: Stmt) -> Result<Box<Stmt>, AllocError>
     ensures { IfOk result (λ s. boxed_stmt_of s ≡ stmt_of statement) }
 {
-    Ok(Box::new(alloc, statement)?)
+    Ok(Box::new(free.alloc(), statement)?)
 }
 
 #[tactic(auto, unfolding(model::specs::Deck::ParseStatements::stmt))]
-fn all(alloc: Global, tokens: &[Token<'_>]) -> Result<Box<Stmt>, Stop>
+fn all(free: &mut FreeParts, tokens: &[Token<'_>]) -> Result<Box<Stmt>, Stop>
     requires { Lexed tokens.now }
     ensures { Parses (spec.stmt (toks tokens.now)) result }
 {
     let mut cursor = Cursor::new(tokens);
-    let found = statement(alloc, &mut cursor, tokens.len())?;
+    let mut found = statement(free, &mut cursor, tokens.len())?;
     match cursor.take() {
         None => Ok(found),
         Some(_) => {
-            drop_statement(alloc, found);
+            free.keep_statement(&mut found);
             Err(Stop::NoTree)
         }
     }
 }
 
 #[tactic(auto, unfolding(model::specs::Deck::ParseStatements::statement_parser, model::specs::Deck::Parse::bind))]
-fn statement(alloc: Global, cursor: &mut Cursor<'_>, depth: usize) -> Result<Box<Stmt>, Stop>
+fn statement(free: &mut FreeParts, cursor: &mut Cursor<'_>, depth: usize) -> Result<Box<Stmt>, Stop>
     ensures { Reads boxed_stmt_of (spec.statement_parser depth cursor.old) result cursor.new }
 {
     if cursor.eat_word(b"END") {
-        return after_end(alloc, cursor);
+        return after_end(free, cursor);
     }
-    let label = label(alloc, cursor)?;
-    after_label(alloc, cursor, depth, label)
+    let label = label(free, cursor)?;
+    after_label(free, cursor, depth, label)
 }
 
 #[tactic(auto, unfolding(model::specs::Deck::ParseStatements::after_label, model::specs::Deck::Parse::bind))]
 fn after_label(
-    alloc: Global,
+    free: &mut FreeParts,
     cursor: &mut Cursor<'_>,
     depth: usize,
     label: Option<Vec<u8>>,
 ) -> Result<Box<Stmt>, Stop>
     ensures { Reads boxed_stmt_of (spec.after_label depth (label_of label) cursor.old) result cursor.new }
 {
-    let body = body(alloc, cursor, depth)?;
-    match goto(alloc, cursor, depth) {
+    let mut body = body(free, cursor, depth)?;
+    match goto(free, cursor, depth) {
         Ok(goto) => {
             cursor.skip();
-            Ok(node(alloc, Stmt::Plain { label, body, goto })?)
+            Ok(node(free, Stmt::Plain { label, body, goto })?)
         }
         Err(stop) => {
-            drop_body(alloc, body);
+            free.keep_body(&mut body);
             Err(stop)
         }
     }
@@ -90,27 +90,27 @@ fn after_label(
 
 /// `[B name] [B]`
 #[tactic(auto, unfolding(model::specs::Deck::ParseStatements::after_end, model::specs::Deck::Parse::bind))]
-fn after_end(alloc: Global, cursor: &mut Cursor<'_>) -> Result<Box<Stmt>, Stop>
+fn after_end(free: &mut FreeParts, cursor: &mut Cursor<'_>) -> Result<Box<Stmt>, Stop>
     ensures { Reads boxed_stmt_of (spec.after_end cursor.old) result cursor.new }
 {
     let entry = if cursor.enter_name() {
-        label(alloc, cursor)?
+        label(free, cursor)?
     } else {
         None
     };
     cursor.skip();
-    Ok(node(alloc, Stmt::End { entry })?)
+    Ok(node(free, Stmt::End { entry })?)
 }
 
 /// A name, where one comes next.
-fn label(alloc: Global, cursor: &mut Cursor<'_>) -> Result<Option<Vec<u8>>, Stop>
+fn label(free: &mut FreeParts, cursor: &mut Cursor<'_>) -> Result<Option<Vec<u8>>, Stop>
     ensures { Reads label_of (spec.label_parser cursor.old) result cursor.new }
 {
     if !cursor.starts_word() {
         return Ok(None);
     }
     match cursor.take() {
-        Some(token) => Ok(Some(Vec::from_slice(alloc, token.text)?)),
+        Some(token) => Ok(Some(free.text(token.text)?)),
         None => Ok(None),
     }
 }

@@ -1,21 +1,33 @@
 //! Trees that are dropped on a small stack, however deep they are: their parts wait in a list, and nothing is called
 //! within itself.
 //!
-//! A `StmtTree` and an `ExprTree` own a statement and an expression that go so. `drop_statement(alloc, statement)` and
-//! its like drop statements and their parts that way.
+//! An `ExprTree` owns an expression that goes so. A `StmtTree` owns a statement; where the tree goes the statement waits
+//! in a `LastTree`, and a `FreeParts` makes new expressions of its boxes, texts and lists.
 //!
-//!     let tree = StmtTree::new(alloc, statement);
-//!     let statement = &tree.statement;
+//!     let mut free = FreeParts::new(alloc);
+//!     let last = Rc::new(alloc, LastTree::new(alloc))?;
+//!     let tree = StmtTree::new(last.clone()?, statement);
+//!     drop(tree);
+//!     if let Some(mut gone) = last.take() {
+//!         free.keep_statement(&mut gone);
+//!     }
+//!     let name = free.name(b"X")?;
 //!
-//! Promised: a tree is the statement or the expression that it was made of. Where memory for the list is refused, a
-//! part is dropped as it is, which takes a stack as deep as the part.
+//! Promised: a tree is the statement or the expression that it was made of, and a new expression is what was asked for,
+//! whatever its parts were before. Where memory for a list is refused, a part is dropped as it is, which takes a stack
+//! as deep as the part.
 #![tactic(auto)]
 
 ghost use Rattle.std.specs.Prelude.{◌≡◌};
 
+mod reuse;
+
 use model::{Argument, Body, Expr, Goto, Place, Stmt};
+pub use reuse::FreeParts;
 use std::alloc::Global;
+use std::cell::Cell;
 use std::mem;
+use std::rc::Rc;
 
 /// Whether an expression has no operands and no arguments.
 fn is_leaf(expr: &Expr) -> bool {
@@ -179,26 +191,63 @@ pub fn drop_statement(alloc: Global, statement: Box<Stmt>) {
     drop_all(&mut waiting);
 }
 
-/// A statement's tree, which is dropped on a small stack.
+/// Where the statement of the tree that went last waits for its parts to be used again.
+pub struct LastTree {
+    alloc: Global,
+    statement: Cell<Option<Box<Stmt>>>,
+}
+
+impl Drop for LastTree {
+    fn drop(self) {
+        let LastTree { alloc, statement } = self;
+        if let Some(left) = statement.into_inner() {
+            drop_statement(alloc, left);
+        }
+    }
+}
+
+impl LastTree {
+    /// No tree has gone.
+    pub fn new(alloc: Global) -> LastTree {
+        LastTree {
+            alloc,
+            statement: Cell::new(None),
+        }
+    }
+
+    /// The statement that waits, if one does.
+    pub fn take(&self) -> Option<Box<Stmt>> {
+        self.statement.replace(None)
+    }
+
+    // Lets a statement wait, and drops another that does.
+    fn put(&self, statement: Box<Stmt>) {
+        if let Some(other) = self.statement.replace(Some(statement)) {
+            drop_statement(self.alloc, other);
+        }
+    }
+}
+
+/// A statement's tree. Where it goes its statement waits in a `LastTree`.
 pub struct StmtTree {
     /// The statement.
     pub statement: Box<Stmt>,
-    alloc: Global,
+    last: Rc<LastTree>,
 }
 
 impl Drop for StmtTree {
     fn drop(self) {
-        let StmtTree { statement, alloc } = self;
-        drop_statement(alloc, statement);
+        let StmtTree { statement, last } = self;
+        last.put(statement);
     }
 }
 
 impl StmtTree {
     /// The tree of a statement.
-    pub fn new(alloc: Global, statement: Box<Stmt>) -> StmtTree
+    pub fn new(last: Rc<LastTree>, statement: Box<Stmt>) -> StmtTree
         ensures { result.statement ≡ statement }
     {
-        StmtTree { statement, alloc }
+        StmtTree { statement, last }
     }
 }
 

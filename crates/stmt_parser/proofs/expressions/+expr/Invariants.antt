@@ -21,8 +21,17 @@ decreases-lefts l = l.depth * 64 + 4 * l.grade + 4
 abbrev pub decreases-rights : goal.decreases-rights
 decreases-rights l = l.depth * 64 + 10
 
+abbrev pub decreases-tight : goal.decreases-tight
+decreases-tight l = l.depth * 64 + 12
+
+abbrev pub decreases-powered : goal.decreases-powered
+decreases-powered l = l.depth * 64 + 11
+
 abbrev pub decreases-marked : goal.decreases-marked
-decreases-marked l = l.depth * 64
+decreases-marked l = l.depth * 64 + 1
+
+abbrev pub decreases-unary_marked : goal.decreases-unary_marked
+decreases-unary_marked l = l.depth * 64
 
 abbrev pub decreases-bare : goal.decreases-bare
 decreases-bare l = l.depth * 64 + 42
@@ -42,8 +51,8 @@ decreases-one l = l.depth * 64 + 36
 abbrev pub invariant-climbed-loop-below : goal.invariant-climbed-loop-below
 invariant-climbed-loop-below l = (graded (element l.depth) l.below l.fn.cursor ≡ Some (boxed_of l.found, l.cursor)) × (l.ahead ≡ grade_ahead (next l.cursor))
 
-abbrev pub invariant-marked-loop-turn : goal.invariant-marked-loop-turn
-invariant-marked-loop-turn l = element l.depth l.fn.cursor ≡ before l.marks.items (element (l.depth - l.turn) l.cursor)
+abbrev pub invariant-unary_marked-loop-turn : goal.invariant-unary_marked-loop-turn
+invariant-unary_marked-loop-turn l = element l.depth l.fn.cursor ≡ before l.marks.items (element (l.depth - l.turn) l.cursor)
 
 abbrev pub invariant-lefts-loop-turn : goal.invariant-lefts-loop-turn
 invariant-lefts-loop-turn l =
@@ -52,8 +61,8 @@ invariant-lefts-loop-turn l =
 
 abbrev pub invariant-rights-loop-turn : goal.invariant-rights-loop-turn
 invariant-rights-loop-turn l =
-    rights (graded (element l.depth) 1) 2 (length l.fn.cursor) l.fn.cursor
-    ≡ onto (map boxed_of l.operands.items) (rights (graded (element l.depth) 1) 2 (l._turn-end - l._turn) l.cursor)
+    rights (graded (element l.depth) 1) 2 l.turns l.fn.cursor
+    ≡ onto (map boxed_of l.operands.items) (rights (graded (element l.depth) 1) 2 (l.turns - l._turn) l.cursor)
 
 abbrev pub invariant-several-loop-turn : goal.invariant-several-loop-turn
 invariant-several-loop-turn l = several (whole l.depth) l.turns l.fn.cursor ≡ prepend (args_of l.found.items) (several (whole l.depth) (l.turns - l._turn) l.cursor)
