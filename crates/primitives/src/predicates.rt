@@ -107,13 +107,23 @@ pub fn integers_compare(id: PrimId, first: i64, second: i64) -> Option<bool>
     ensures { IfSome result (λ answer. (vs : List MVal) (w : MW) → to_integer (arg_at vs 0) ≡ Got first
         → to_integer (arg_at vs 1) ≡ Got second → prim_op codes_of id vs w ≡ tested (Ok answer) w) }
 {
+    if first < second {
+        return match id {
+            PrimId::Ne | PrimId::Lt | PrimId::Le => Some(true),
+            PrimId::Eq | PrimId::Gt | PrimId::Ge => Some(false),
+            _ => None,
+        };
+    }
+    if second < first {
+        return match id {
+            PrimId::Ne | PrimId::Gt | PrimId::Ge => Some(true),
+            PrimId::Eq | PrimId::Lt | PrimId::Le => Some(false),
+            _ => None,
+        };
+    }
     match id {
-        PrimId::Eq => Some(first == second),
-        PrimId::Ne => Some(first != second),
-        PrimId::Lt => Some(first < second),
-        PrimId::Le => Some(first <= second),
-        PrimId::Gt => Some(first > second),
-        PrimId::Ge => Some(first >= second),
+        PrimId::Eq | PrimId::Le | PrimId::Ge => Some(true),
+        PrimId::Ne | PrimId::Lt | PrimId::Gt => Some(false),
         _ => None,
     }
 }
