@@ -75,7 +75,7 @@ sno: build/sno ## leave the proved program at build/sno
 # `rt run` is the command that links, so the new program runs once, on the deck that does nothing.
 build/sno: $(SOURCES) | program
 	@echo "sno: proving and building the program (minutes where nothing is kept; all lines go to build/log)" >&2
-	@(cd $(PROGRAM) && echo END | ../../tools/progress "$(RT) run") >&2 || { echo "sno: not proved, or not built" >&2; exit 1; }
+	@(cd $(PROGRAM) && echo END | ../../tools/progress "../../tools/quick_rt run") >&2 || { echo "sno: not proved, or not built" >&2; exit 1; }
 	@cp $(PROGRAM)/out/sno build/sno.new && mv build/sno.new build/sno
 
 build/failing: $(SOURCES) $(wildcard crates/tests_failing/src/*.rt) | program
@@ -87,7 +87,7 @@ list: deck build/sno_list ## DECK=file: list a deck with what is wrong in it, on
 
 build/sno_list: $(LISTER_SOURCES) | program
 	@echo "list: proving and building the program sno_list (all lines go to build/log)" >&2
-	@(cd $(LISTER) && echo END | ../../tools/progress "$(RT) run") >&2 || { echo "list: not proved, or not built" >&2; exit 1; }
+	@(cd $(LISTER) && echo END | ../../tools/progress "../../tools/quick_rt run") >&2 || { echo "list: not proved, or not built" >&2; exit 1; }
 	@cp $(LISTER)/out/sno_list build/sno_list.new && mv build/sno_list.new build/sno_list
 
 page: build/page.wasm ## leave the compiler and the machine, in one file that a browser opens, at build/page.html
@@ -107,7 +107,7 @@ snobol: build/snobol ## leave the proved program for people at build/snobol
 
 build/snobol: $(SNOBOL_SOURCES) | program
 	@echo "snobol: proving and building the program snobol (all lines go to build/log)" >&2
-	@(cd $(FOR_PEOPLE) && echo END | ../../tools/progress "$(RT) run -- -") >&2 || { echo "snobol: not proved, or not built" >&2; exit 1; }
+	@(cd $(FOR_PEOPLE) && echo END | ../../tools/progress "../../tools/quick_rt run -- -") >&2 || { echo "snobol: not proved, or not built" >&2; exit 1; }
 	@cp $(FOR_PEOPLE)/out/snobol build/snobol.new && mv build/snobol.new build/snobol
 
 install: $(SNO) $(LIST) $(SNOBOL) ## [PREFIX=folder]: put the proved programs, manual pages and completion there (/usr/local if none is given)
@@ -174,7 +174,7 @@ time: toolchain ## [CRATE=name]: measure the gate and write its table into docs/
 
 check: toolchain ## prove every crate over what earlier checks kept
 	@echo "check: proving every crate, lowest first"
-	@$(RT) all check
+	@tools/quick_rt all check
 
 ifdef INSTRUCTIONS
 bench: build/sno ## [INSTRUCTIONS=1]: prove, build and run the benchmark programs; or what a step costs, by valgrind
