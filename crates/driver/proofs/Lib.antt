@@ -6,4 +6,3 @@ pub mod CardsTold
 pub mod FileRuns
 pub mod InMemory
 pub mod LinesTold
-pub mod Standing
