@@ -6,3 +6,4 @@ pub mod CardsTold
 pub mod FileRuns
 pub mod InMemory
 pub mod LinesTold
+pub mod Standing

@@ -24,7 +24,7 @@ use Rattle.driver.specs.Cards.{card_told}
 use Rattle.driver.specs.Compiled.{IsModuleOf}
 use Rattle.statement_machine.proofs.Seeing.{if_ran}
 use Rattle.unit_io.proofs.Serving.{told_on}
-use Rattle.driver.specs.Whole.{HasPrinted, HasReached, IsMeant, IsModuleRun, IsRunOf, IsSeenOf, OfRun, RefinesMeaning}
+use Rattle.driver.specs.Whole.{HasPrinted, HasReached, IsMeant, IsModuleRun, IsRunOf, IsSeenOf, OfRun, RefinesMeaning, StandsWithin}
 
 read : (deck bytes : List ℕ) (m : IsModuleOf deck bytes) → reading.read_image bytes ≡ Ok m.image
 read deck bytes m = ap reading.read_image m.spelt ∙ spelt_is_read versions.Two m.image (record { image = m.has_spelling; level = tt })
@@ -45,6 +45,7 @@ is_run {may} deck given bytes bound status before after same m r =
       prints = m.prints;
       run = subst (λ (im : Image). IfRan status (IfTold before after (IsRun im bound (ending_of status)))) one r.run;
       stopped = subst (λ (im : Image). IfStop status (IfTold before after (IsStoppedRun im bound))) one r.stopped;
+      stands = subst (λ (im : Image). IfStop status (IfTold before after (StandsWithin im bound))) one r.stands;
       asked = subst (λ (im : Image). StopsWhereAsked im bound may (stop_of_run status) before after) one r.asked;
     }
 

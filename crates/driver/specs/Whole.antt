@@ -59,17 +59,28 @@ pub record RefinesMeaning (deck : List ℕ) (bound : ℕ) (status : Status) (bef
 
 -- ---- as the machine
 
+-- a run that stopped stands somewhere within the bound: it has printed all that the machine prints in so many steps, and
+-- beyond that at most a part of what the next step prints
+pub record StandsWithin (im : Image) (bound : ℕ) (io io' : Io) : Type 0 where
+  pub new : Records
+  pub follows : io'.printed ≡ io.printed ++ new
+  pub made : ℕ
+  pub within : made ≤ bound
+  pub least : IsPrefix (machine_at im io.left made).printed new
+  pub most : IsPrefix new (machine_at im io.left (made + 1)).printed
+
 -- a run of a module, of at most so many steps: the bytes spell this image, and it is one that the loader accepts. Unless the
 -- run stopped, its status, what it printed, after what was printed before, and what is left to be read are those of the
--- machine on that image at most so many steps later; if it stopped, what it printed is a prefix of what the machine prints, it
--- stands somewhere within the bound, in what it printed and in what is left to be read, and a unit that stopped it is the one
--- that the machine asks next there, in a way in which it may fail
+-- machine on that image at most so many steps later; if it stopped, what it printed is a prefix of what the machine prints,
+-- it stands within the bound, what is left to be read is what the machine leaves where it stands, and a unit that stopped it
+-- is the one that the machine asks next there, in a way in which it may fail
 pub record IsModuleRun (bytes : List ℕ) (bound : ℕ) (may_fail : Way → ℕ → Bool) (status : Status) (before after : Option Io) : Type 0 where
   pub image : Image
   pub read : read_image bytes ≡ Ok image
   pub loaded : IsLoaded image
   pub run : IfRan status (IfTold before after (IsRun image bound (ending_of status)))
   pub stopped : IfStop status (IfTold before after (IsStoppedRun image bound))
+  pub stands : IfStop status (IfTold before after (StandsWithin image bound))
   pub asked : StopsWhereAsked image bound may_fail (stop_of_run status) before after
 
 -- the same of the image of a deck without fault, which does what the deck's statements mean
@@ -83,4 +94,5 @@ pub record IsRunOf (deck : List ℕ) (bound : ℕ) (may_fail : Way → ℕ → B
   pub prints : PrintsInTime statements image
   pub run : IfRan status (IfTold before after (IsRun image bound (ending_of status)))
   pub stopped : IfStop status (IfTold before after (IsStoppedRun image bound))
+  pub stands : IfStop status (IfTold before after (StandsWithin image bound))
   pub asked : StopsWhereAsked image bound may_fail (stop_of_run status) before after

@@ -5,7 +5,9 @@ ghost use Rattle.std.specs.Io.KnownBytes.{Appends};
 ghost use Rattle.driver.specs.FaultLines.{card_code, card_line, cause_code, fault_line, fault_lines};
 ghost use Rattle.driver.specs.FaultLines.{format_code, format_line, module_code, module_line};
 
-use model::{CardFault, CardRule, Cause, FormatFault, FormatRule, ModuleFault, ModuleRule, StmtFault};
+use model::{
+    CardFault, CardRule, Cause, FormatFault, FormatRule, ModuleFault, ModuleRule, StmtFault,
+};
 use std::io::{self, Write};
 
 fn card_code(rule: CardRule) -> &'static str

@@ -1,5 +1,6 @@
 use Rattle.std.proofs.Common.{refl}
 use Rattle.statement_machine.proofs.Seeing.{told_if_ran}
+use Rattle.driver.proofs.Standing.{stopped_stands}
 use Rattle.driver.proofs.WholeRuns.{is_run, refines}
 use Rattle.driver.proofs.watching.watch_with_card.Goals as goal
 
@@ -13,6 +14,7 @@ returns-clause-run g c =
       loaded = loaded.1;
       run = told_if_ran c.watch_from_entry-status.result (g.U.Units.told c.args.units.now) (g.U.Units.told c.watch_from_entry-status.new.units) _ served.told;
       stopped = c.watch_from_entry-status.ensures.printed;
+      stands = stopped_stands c.in_ok-program.program c.args.bound c.watch_from_entry-status.result (g.U.Units.told c.args.units.now) (g.U.Units.told c.watch_from_entry-status.new.units) c.watch_from_entry-status.ensures.printed;
       asked = c.watch_from_entry-status.ensures.asked;
     }
 
