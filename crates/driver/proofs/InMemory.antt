@@ -11,4 +11,4 @@ runs_in_memory deck bound status.Running before after r uses = tt
 runs_in_memory deck bound (status.Ended e) before after r uses = tt
 runs_in_memory deck bound (status.Stopped stop.NoMemory) before after r uses = tt
 runs_in_memory deck bound (status.Stopped (stop.Unit u cause)) before after r uses =
-    never_shut (side_at u before.opened) (stops_used r.image bound u (io_of before) (io_of after) uses r.stopped r.asked)
+    never_shut (side_at u before.opened) (stops_used r.image bound u (io_of before) (io_of after) uses r.stopped r.asked.1)

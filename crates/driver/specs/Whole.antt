@@ -72,8 +72,8 @@ pub record StandsWithin (im : Image) (bound : ℕ) (io io' : Io) : Type 0 where
 -- a run of a module, of at most so many steps: the bytes spell this image, and it is one that the loader accepts. Unless the
 -- run stopped, its status, what it printed, after what was printed before, and what is left to be read are those of the
 -- machine on that image at most so many steps later; if it stopped, what it printed is a prefix of what the machine prints,
--- it stands within the bound, and a unit that stopped it is the one that the machine asks next there, in a way in which it
--- may fail
+-- it stands within the bound, what is left to be read is what the machine leaves where it stands, and a unit that stopped it
+-- is the one that the machine asks next there, in a way in which it may fail
 pub record IsModuleRun (bytes : List ℕ) (bound : ℕ) (may_fail : Way → ℕ → Bool) (status : Status) (before after : Option Io) : Type 0 where
   pub image : Image
   pub read : read_image bytes ≡ Ok image

@@ -16,7 +16,7 @@ ghost use Rattle.instruction_steps.specs.Held.{Left, waiting};
 ghost use Rattle.instruction_steps.specs.Matches.{IsMatched, found_kinds, matching_in};
 ghost use Rattle.instruction_steps.specs.Printing.{PrintsTo, PrintsWithin};
 ghost use Rattle.instruction_steps.specs.Stopped.{GoesOrHalts, halted_by};
-ghost use Rattle.unit_io.specs.Service.{IsQuiet, Served};
+ghost use Rattle.unit_io.specs.Service.{KeepsIo, Served};
 ghost use Rattle.world.specs.Answers.{AnswersAs, done, stopped_by};
 ghost use Rattle.world.specs.Held.{world_of};
 ghost use Rattle.world.specs.Values.{value_of};
@@ -56,7 +56,7 @@ fn assign_noting<U: Units>(
     ensures served { Served U.Units (stopped_by result) units.old units.new (λ io io'.
         AnswersAs (done result) (world_of world.new io')
         (assign_op (name_of name.now) (value_of value) (world_of world.old io))) }
-    ensures quiet { IsQuiet (stopped_by result) (U.told units.old) (U.told units.new) }
+    ensures quiet { KeepsIo (stopped_by result) (U.told units.old) (U.told units.new) }
     ensures asked { Prints (U.may_fail units.old) (stopped_by result) (λ io. io_after
         (assign_op (name_of name.now) (value_of value) (world_of world.old io))) }
     ensures names { world.new.names ≡ world.old.names }
@@ -82,7 +82,7 @@ fn assign<U: Units>(
     ensures served { Served U.Units (stopped_by result) units.old units.new (λ io io'.
         AnswersAs (done result) (world_of world.new io')
         (assign_op (name_of name.now) (value_of value) (world_of world.old io))) }
-    ensures quiet { IsQuiet (stopped_by result) (U.told units.old) (U.told units.new) }
+    ensures quiet { KeepsIo (stopped_by result) (U.told units.old) (U.told units.new) }
     ensures asked { Prints (U.may_fail units.old) (stopped_by result) (λ io. io_after
         (assign_op (name_of name.now) (value_of value) (world_of world.old io))) }
     ensures names { world.new.names ≡ world.old.names }

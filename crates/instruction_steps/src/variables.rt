@@ -1,6 +1,6 @@
 //! Instructions that may read from a unit or write to one, by a variable that has it.
 
-ghost use Rattle.std.specs.Prelude.{ℕ, Bool, ◌∷◌, List, [], option_map, ◌≡◌, Some, IfSome};
+ghost use Rattle.std.specs.Prelude.{ℕ, Bool, Option, ◌∷◌, List, [], option_map, ◌≡◌, Some, IfSome};
 ghost use Rattle.model.specs.Language.Conversions.{Op};
 ghost use Rattle.model.specs.Module.Flow.{V, N, R};
 ghost use Rattle.model.specs.Language.Io.{Io};
@@ -17,7 +17,7 @@ ghost use Rattle.world.specs.Asking.{Prints, Takes};
 ghost use Rattle.instruction_steps.specs.Asking.{io_at};
 ghost use Rattle.instruction_steps.specs.Held.{Left, Meets, StaysSound, after, handlers_in, waiting};
 ghost use Rattle.instruction_steps.specs.Stopped.{halted_by};
-ghost use Rattle.unit_io.specs.Service.{IsQuiet, KeepsCounts, Served};
+ghost use Rattle.unit_io.specs.Service.{IsQuiet, KeepsCounts, KeepsIo, ReadsOne, Served};
 ghost use Rattle.unit_io.specs.Ways.{Way};
 
 use crate::state::State;
@@ -71,6 +71,8 @@ impl State {
             → KeepsCounts (halted_by result) old new }
         ensures asked { (may : Way → ℕ → Bool) (f : Io → Io)
             → Takes may (stopped_by answer) f → Takes may (halted_by result) f }
+        ensures quiet { (before after : Option Io) → ReadsOne (stopped_by answer) before after
+            → IsQuiet (halted_by result) before after }
         ensures names { self.new.world.names ≡ self.old.world.names }
     {
         match answer {
@@ -86,7 +88,7 @@ impl State {
         ensures served { Served U.Units (halted_by result) units.old units.new (λ io io'.
             (im : Image) (fs : List Frame)
             → Left im fs result self.new io' (after im Instr.Assign next fs self.old io)) }
-        ensures quiet { IsQuiet (halted_by result) (U.told units.old) (U.told units.new) }
+        ensures quiet { KeepsIo (halted_by result) (U.told units.old) (U.told units.new) }
         ensures asked { (im : Image) (fs : List Frame)
             → Prints (U.may_fail units.old) (halted_by result) (λ io.
             io_at (after im Instr.Assign next fs self.old io)) }
@@ -145,7 +147,7 @@ impl State {
         ensures served { Served U.Units (halted_by result) units.old units.new (λ io io'.
             (im : Image) (fs : List Frame)
             → Left im fs result self.new io' (after im Instr.Splice next fs self.old io)) }
-        ensures quiet { IsQuiet (halted_by result) (U.told units.old) (U.told units.new) }
+        ensures quiet { KeepsIo (halted_by result) (U.told units.old) (U.told units.new) }
         ensures asked { (im : Image) (fs : List Frame)
             → Prints (U.may_fail units.old) (halted_by result) (λ io.
             io_at (after im Instr.Splice next fs self.old io)) }

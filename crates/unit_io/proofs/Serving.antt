@@ -1,12 +1,12 @@
 -- What units did for one call carries over to the call around it.
-use Rattle.std.proofs.Common.{ℕ, ◌∙◌, Bool, refl, subst, Option, Some, None}
+use Rattle.std.proofs.Common.{ℕ, ◌∙◌, Bool, refl, ap, subst, inl, Option, Some, None}
 use Rattle.model.specs.Language.Io.{Io}
 use Rattle.model.specs.Language.Told.{IfTold}
 use Rattle.model.specs.Language.Units.{IsCounted}
 use Rattle.model.specs.declared.run.Stop.{Stop}
 use Rattle.model.specs.declared.run.Stop.TheVariants as stop
 use Rattle.unit_io.specs.Counts.{Same}
-use Rattle.unit_io.specs.Service.{IsStop, KeepsCounts, Served}
+use Rattle.unit_io.specs.Service.{IsQuiet, IsStop, KeepsCounts, KeepsIo, ReadsOne, Served}
 use Rattle.unit_io.specs.Ways.{Way, MayFail, FailsNoMore}
 use Rattle.unit_io.specs.declared.units.Units.{Ghosts as Units}
 
@@ -63,3 +63,22 @@ counts_since (Some e) a b c s h = stop_since e a b c s h
 
 pub served_then : {U : Type 0} {units : Units U} {why : Option Stop} {a b c : U} {P Q : Io → Io → Type 0} (R : Io → Io → Type 0) → Served units None a b P → Served units why b c Q → ((x y z : Io) → P x y → Q y z → R x z) → Served units why a c R
 served_then {why = why} {P = P} {Q = Q} R s t f = record { told = told_then _ _ _ P Q R f s.told t.told; counts = counts_since why _ _ _ s.counts t.counts; sound = no_more_since _ _ _ s.sound t.sound }
+
+-- ---- calls that stopped
+
+-- no unit was used
+pub reads_none : (why : Option Stop) (o : Option Io) → ReadsOne why o o
+reads_none why o = told_same o _ (λ io. (refl, inl refl))
+
+pub quiet_same : (why : Option Stop) (o : Option Io) → IsQuiet why o o
+quiet_same None o = tt
+quiet_same (Some x) o = reads_none (Some x) o
+
+pub kept_same : (why : Option Stop) (o : Option Io) → KeepsIo why o o
+kept_same None o = tt
+kept_same (Some x) o = told_same o _ (λ io. refl)
+
+-- what changes nothing reads nothing
+pub kept_quiet : (why : Option Stop) (a b : Option Io) → KeepsIo why a b → IsQuiet why a b
+kept_quiet None a b h = tt
+kept_quiet (Some x) a b h = told_on a b _ _ (λ io io' same. (ap (λ (z : Io). z.printed) same, inl (ap (λ (z : Io). z.left) same))) h

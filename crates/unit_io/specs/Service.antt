@@ -1,8 +1,8 @@
 -- What units did for a call.
-use Rattle.std.specs.Prelude.{◌≡◌, ◌≢◌, ℕ, Option, Some, None}
+use Rattle.std.specs.Prelude.{◌≡◌, ◌≢◌, ◌⊎◌, ℕ, Option, Some, None}
 use Rattle.model.specs.Language.Io.{Io}
 use Rattle.model.specs.Language.Told.{IfTold}
-use Rattle.model.specs.Language.Units.{IsCounted}
+use Rattle.model.specs.Language.Units.{IsCounted, after_read}
 use Rattle.model.specs.declared.run.Stop.{Stop}
 use Rattle.model.specs.declared.run.Stop.TheVariants as stop
 use Rattle.model.specs.declared.run.UnitFault.TheVariants as unit
@@ -26,11 +26,25 @@ pub record Served {U : Type 0} (units : Units U) (why : Option Stop) (old new : 
   pub counts : KeepsCounts why (units.failures old) (units.failures new)
   pub sound : FailsNoMore (units.may_fail old) (units.may_fail new)
 
--- what was printed before is what was printed after
-abbrev pub PrintsNothing : Option Io → Option Io → Type 0
-PrintsNothing before after = IfTold before after (λ io io'. io'.printed ≡ io.printed)
+-- a call that stopped left what the units hold
+abbrev pub KeepsIo : Option Stop → Option Io → Option Io → Type 0
+KeepsIo None before after = Unit {0}
+KeepsIo (Some why) before after = IfTold before after (λ io io'. io' ≡ io)
 
--- a call that stopped printed nothing
+-- no unit stopped a call
+abbrev pub IsNoUnit : Option Stop → Type 0
+IsNoUnit (Some (stop.Unit u cause)) = ⊥
+IsNoUnit _ = Unit {0}
+
+-- what was left to be read still is; or, where no unit stopped the call, all but the first record of one unit
+abbrev pub Spares : Option Stop → Io → Io → Type 0
+Spares why io io' = (io'.left ≡ io.left) ⊎ ((unit : ℕ) × IsNoUnit why × (io'.left ≡ (after_read unit io).left))
+
+-- a call printed nothing, and took one record at most
+abbrev pub ReadsOne : Option Stop → Option Io → Option Io → Type 0
+ReadsOne why before after = IfTold before after (λ io io'. (io'.printed ≡ io.printed) × Spares why io io')
+
+-- the same of a call that stopped
 abbrev pub IsQuiet : Option Stop → Option Io → Option Io → Type 0
 IsQuiet None before after = Unit {0}
-IsQuiet (Some why) before after = PrintsNothing before after
+IsQuiet (Some why) before after = ReadsOne (Some why) before after

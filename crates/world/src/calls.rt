@@ -18,7 +18,7 @@ ghost use Rattle.world.specs.Calling.{AreFilled, ArePut, AreSaved, IsKept, Leave
 ghost use Rattle.world.specs.declared.calls.Given.TheVariants as given;
 ghost use Rattle.world.specs.Held.{value_in, variable_at, world_of};
 ghost use Rattle.world.specs.Values.{value_of};
-ghost use Rattle.unit_io.specs.Service.{PrintsNothing, Served};
+ghost use Rattle.unit_io.specs.Service.{ReadsOne, Served};
 
 use crate::fault::Fault;
 use crate::value::Value;
@@ -400,7 +400,7 @@ impl World {
         ensures served { Served U.Units (stopped_by result) units.old units.new (λ io io'.
             AnswersOrFails (answer_map (option_map value_of) result) (world_of self.new io')
             (as_value (given_of given) (world_of self.old io))) }
-        ensures quiet { PrintsNothing (U.told units.old) (U.told units.new) }
+        ensures quiet { ReadsOne (stopped_by result) (U.told units.old) (U.told units.new) }
         ensures asked { Takes (U.may_fail units.old) (stopped_by result) (λ io. io_after
             (as_value (given_of given) (world_of self.old io))) }
         ensures err { OnErr result (self.new ≡ self.old) }

@@ -13,7 +13,7 @@ ghost use Rattle.world.specs.Values.{value_of};
 ghost use Rattle.world.specs.Held.{WorldView, IsSet, IsSetOrKept, world_of, taken, variable_at, value_in};
 ghost use Rattle.world.specs.Asking.{Prints, Takes, io_after};
 ghost use Rattle.world.specs.Answers.{answer_map, AnswersAs, AnswersOrFails, done, IfStopped, stop_of, stopped_by};
-ghost use Rattle.unit_io.specs.Service.{IsQuiet, PrintsNothing, Served};
+ghost use Rattle.unit_io.specs.Service.{KeepsIo, ReadsOne, Served};
 
 use crate::fault::Fault;
 use crate::value::Value;
@@ -33,7 +33,7 @@ impl World {
         ensures served { Served U.Units (stopped_by result) units.old units.new (λ io io'.
             AnswersOrFails (answer_map (option_map value_of) result) (world_of self.new io')
             (fetch_op (name_of name.now) (world_of self.old io))) }
-        ensures quiet { PrintsNothing (U.told units.old) (U.told units.new) }
+        ensures quiet { ReadsOne (stopped_by result) (U.told units.old) (U.told units.new) }
         ensures asked { Takes (U.may_fail units.old) (stopped_by result) (λ io. io_after
             (fetch_op (name_of name.now) (world_of self.old io))) }
         ensures err { OnErr result (self.new ≡ self.old) }
@@ -54,7 +54,7 @@ impl World {
         ensures served { Served U.Units (stopped_by result) units.old units.new (λ io io'.
             AnswersOrFails (answer_map (option_map value_of) result) (world_of self.new io')
             (fetch_op (name_of name.now) (world_of self.old io))) }
-        ensures quiet { PrintsNothing (U.told units.old) (U.told units.new) }
+        ensures quiet { ReadsOne (stopped_by result) (U.told units.old) (U.told units.new) }
         ensures asked { Takes (U.may_fail units.old) (stopped_by result) (λ io. io_after
             (fetch_op (name_of name.now) (world_of self.old io))) }
         ensures err { OnErr result (self.new ≡ self.old) }
@@ -81,7 +81,7 @@ impl World {
         ensures served { Served U.Units (stopped_by result) units.old units.new (λ io io'.
             AnswersOrFails (answer_map (option_map value_of) result) (world_of self.new io')
             (fetch_op (Variable name.now) (world_of self.old io))) }
-        ensures quiet { PrintsNothing (U.told units.old) (U.told units.new) }
+        ensures quiet { ReadsOne (stopped_by result) (U.told units.old) (U.told units.new) }
         ensures asked { Takes (U.may_fail units.old) (stopped_by result) (λ io. io_after
             (fetch_op (Variable name.now) (world_of self.old io))) }
         ensures err { OnErr result (self.new ≡ self.old) }
@@ -110,7 +110,7 @@ impl World {
         ensures served { Served U.Units (stopped_by result) units.old units.new (λ io io'.
             AnswersOrFails (answer_map (option_map value_of) result) (world_of self.new io')
             (take_record name.now unit (io.left unit) (world_of self.old io))) }
-        ensures quiet { PrintsNothing (U.told units.old) (U.told units.new) }
+        ensures quiet { ReadsOne (stopped_by result) (U.told units.old) (U.told units.new) }
         ensures asked { Takes (U.may_fail units.old) (stopped_by result) (λ io. io_after
             (take_record name.now unit (io.left unit) (world_of self.old io))) }
         ensures err { OnErr result (self.new ≡ self.old) }
@@ -167,7 +167,7 @@ impl World {
         ensures served { Served U.Units (stopped_by result) units.old units.new (λ io io'.
             AnswersAs (done result) (world_of self.new io')
             (assign_op (name_of name.now) (value_of value) (world_of self.old io))) }
-        ensures quiet { IsQuiet (stopped_by result) (U.told units.old) (U.told units.new) }
+        ensures quiet { KeepsIo (stopped_by result) (U.told units.old) (U.told units.new) }
         ensures asked { Prints (U.may_fail units.old) (stopped_by result) (λ io. io_after
             (assign_op (name_of name.now) (value_of value) (world_of self.old io))) }
         ensures ok { OnOk result (IsSet (name_of name.now) (value_of value) self.old self.new) }
@@ -191,7 +191,7 @@ impl World {
         ensures served { Served U.Units (stopped_by result) units.old units.new (λ io io'.
             AnswersAs (done result) (world_of self.new io')
             (assign_op (name_of name.now) (value_of value) (world_of self.old io))) }
-        ensures quiet { IsQuiet (stopped_by result) (U.told units.old) (U.told units.new) }
+        ensures quiet { KeepsIo (stopped_by result) (U.told units.old) (U.told units.new) }
         ensures asked { Prints (U.may_fail units.old) (stopped_by result) (λ io. io_after
             (assign_op (name_of name.now) (value_of value) (world_of self.old io))) }
         ensures ok { OnOk result (IsSet (name_of name.now) (value_of value) self.old self.new) }
@@ -228,7 +228,7 @@ impl World {
         ensures served { Served U.Units (stopped_by result) units.old units.new (λ io io'.
             AnswersAs (done result) (world_of self.new io')
             (assign_op (Variable name.now) (value_of value) (world_of self.old io))) }
-        ensures quiet { IsQuiet (stopped_by result) (U.told units.old) (U.told units.new) }
+        ensures quiet { KeepsIo (stopped_by result) (U.told units.old) (U.told units.new) }
         ensures asked { Prints (U.may_fail units.old) (stopped_by result) (λ io. io_after
             (assign_op (Variable name.now) (value_of value) (world_of self.old io))) }
         ensures ok { OnOk result (IsSet (Variable name.now) (value_of value) self.old self.new) }
@@ -255,7 +255,7 @@ impl World {
             AnswersAs (done result) (world_of self.new io')
             (splice_op (name_of name.now) span.now.subject span.now.start span.now.end
             (value_of value.now) (world_of self.old io))) }
-        ensures quiet { IsQuiet (stopped_by result) (U.told units.old) (U.told units.new) }
+        ensures quiet { KeepsIo (stopped_by result) (U.told units.old) (U.told units.new) }
         ensures asked { Prints (U.may_fail units.old) (stopped_by result) (λ io. io_after
             (splice_op (name_of name.now) span.now.subject span.now.start span.now.end
             (value_of value.now) (world_of self.old io))) }
@@ -280,7 +280,7 @@ impl World {
             AnswersAs (done result) (world_of self.new io')
             (splice_op (name_of name.now) span.now.subject span.now.start span.now.end
             (value_of value.now) (world_of self.old io))) }
-        ensures quiet { IsQuiet (stopped_by result) (U.told units.old) (U.told units.new) }
+        ensures quiet { KeepsIo (stopped_by result) (U.told units.old) (U.told units.new) }
         ensures asked { Prints (U.may_fail units.old) (stopped_by result) (λ io. io_after
             (splice_op (name_of name.now) span.now.subject span.now.start span.now.end
             (value_of value.now) (world_of self.old io))) }
@@ -306,7 +306,7 @@ impl World {
             AnswersAs (done result) (world_of self.now io')
             (write_var (Some unit) (value_in (variable_at name.now self.now.variables))
             (world_of self.now io))) }
-        ensures quiet { IsQuiet (stopped_by result) (U.told units.old) (U.told units.new) }
+        ensures quiet { KeepsIo (stopped_by result) (U.told units.old) (U.told units.new) }
         ensures asked { Prints (U.may_fail units.old) (stopped_by result) (λ io. io_after
             (write_var (Some unit) (value_in (variable_at name.now self.now.variables))
             (world_of self.now io))) }
@@ -326,7 +326,7 @@ fn print<U: Units>(alloc: Global, units: &mut U, unit: u8, value: &Value) -> Res
     ensures served { Served U.Units (stopped_by result) units.old units.new (λ io io'.
         (h : WorldView) → AnswersAs (done result) (world_of h io')
         (print_text unit (to_text (value_of value.now)) (world_of h io))) }
-    ensures quiet { IsQuiet (stopped_by result) (U.told units.old) (U.told units.new) }
+    ensures quiet { KeepsIo (stopped_by result) (U.told units.old) (U.told units.new) }
     ensures asked { (h : WorldView) → Prints (U.may_fail units.old) (stopped_by result) (λ io. io_after
         (print_text unit (to_text (value_of value.now)) (world_of h io))) }
 {

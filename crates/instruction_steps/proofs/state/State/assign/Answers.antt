@@ -6,7 +6,7 @@ use Rattle.world.specs.Answers.{done, stopped_by}
 use Rattle.unit_io.proofs.Serving.{served_for}
 use Rattle.instruction_steps.proofs.Fetching.{assigned, assign_io, assign_sound}
 use Rattle.instruction_steps.specs.Stopped.{halted_by}
-use Rattle.instruction_steps.proofs.Printing.{quiet_settled}
+use Rattle.instruction_steps.proofs.Printing.{kept_settled}
 use Rattle.world.proofs.Asked.{prints_on}
 use Rattle.instruction_steps.proofs.Asked.{unit_settled}
 use Rattle.instruction_steps.proofs.state.State.assign.Goals as goal
@@ -25,7 +25,7 @@ returns-clause-sound g c im fs h =
     (c.pop_value-value.ensures ∙ ap (λ (l : Stacked Operand). record l { top = operand.Value c.pop_value-value.result ∷ l.top }) c.pop_name-named.ensures) (c.went.ensures.left im fs)
 
 pub returns-clause-quiet : goal.returns-clause-quiet
-returns-clause-quiet g c = quiet_settled (halted_by c.went.result) _ _ _ c.went.ensures.stop c.assign_at-answer.ensures.quiet
+returns-clause-quiet g c = kept_settled (halted_by c.went.result) _ _ _ c.went.ensures.stop c.assign_at-answer.ensures.quiet
 
 pub returns-clause-asked : goal.returns-clause-asked
 returns-clause-asked g c im fs =

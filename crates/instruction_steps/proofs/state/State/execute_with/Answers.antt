@@ -3,7 +3,7 @@ use Rattle.model.specs.Machine.Steps.{At}
 use Rattle.model.specs.declared.instr.Instr.TheVariants as op
 use Rattle.loader.specs.Places.{offset_at}
 use Rattle.instruction_steps.proofs.Flowing.{above}
-use Rattle.unit_io.proofs.Serving.{served_on}
+use Rattle.unit_io.proofs.Serving.{kept_quiet, served_on}
 use Rattle.world.proofs.Asked.{asks_printing, asks_taking}
 use Rattle.instruction_steps.specs.Stopped.{halted_by}
 use Rattle.instruction_steps.specs.Asking.{io_at}
@@ -81,3 +81,9 @@ pub returns-in-Splice-clause-asked : goal.returns-in-Splice-clause-asked
 returns-in-Splice-clause-asked g c fs =
     let im = c.args.program.now in
     asks_printing _ (halted_by c.splice.result) _ _ (λ io. ap (λ i. io_at (after im i c.args.next fs c.args.self.now io)) c.in-Splice.is) (c.splice.ensures.asked im fs)
+
+pub returns-in-Assign-clause-quiet : goal.returns-in-Assign-clause-quiet
+returns-in-Assign-clause-quiet g c = kept_quiet (halted_by c.assign.result) _ _ c.assign.ensures.quiet
+
+pub returns-in-Splice-clause-quiet : goal.returns-in-Splice-clause-quiet
+returns-in-Splice-clause-quiet g c = kept_quiet (halted_by c.splice.result) _ _ c.splice.ensures.quiet

@@ -4,8 +4,6 @@ use Rattle.world.specs.Answers.{answer_map, stopped_by}
 use Rattle.world.specs.Values.{value_of}
 use Rattle.unit_io.proofs.Serving.{served_for}
 use Rattle.instruction_steps.proofs.Fetching.{fetched_above, fetch_above_io, fetch_above_sound}
-use Rattle.instruction_steps.specs.Stopped.{halted_by}
-use Rattle.instruction_steps.proofs.Printing.{quiet_ever}
 use Rattle.world.proofs.Asked.{takes_on}
 use Rattle.instruction_steps.specs.Asking.{io_at}
 use Rattle.model.specs.declared.instr.Instr.TheVariants as op
@@ -26,7 +24,7 @@ returns-clause-sound g c im fs h =
     (ap (λ l. record c.args.self.now.operands { top = l }) c.top_name-named.ensures) (c.gave.ensures.left im fs)
 
 pub returns-clause-quiet : goal.returns-clause-quiet
-returns-clause-quiet g c = quiet_ever (halted_by c.gave.result) _ _ c.fetch_at-answer.ensures.quiet
+returns-clause-quiet g c = c.gave.ensures.quiet _ _ c.fetch_at-answer.ensures.quiet
 
 pub returns-clause-asked : goal.returns-clause-asked
 returns-clause-asked g c im fs =

@@ -6,7 +6,8 @@ use Rattle.world.specs.Held.{world_of}
 use Rattle.world.specs.Values.{value_of}
 use Rattle.instruction_steps.specs.Held.{handlers_in, waiting}
 use Rattle.instruction_steps.proofs.Operations.{gives, refuses, faults}
-use Rattle.instruction_steps.proofs.Asked.{no_unit}
+use Rattle.instruction_steps.proofs.Asked.{no_unit, one_quiet, reads_quiet}
+use Rattle.unit_io.specs.Service.{ReadsOne}
 use Rattle.world.specs.Asking.{Takes}
 use Rattle.world.specs.Answers.{stopped_by}
 use Rattle.instruction_steps.proofs.state.State.gave.Goals as goal
@@ -39,3 +40,12 @@ returns-in-Ok-None-clause-asked c may f h = no_unit c.fail.result _ c.fail.ensur
 
 pub returns-in-Err-clause-asked : goal.returns-in-Err-clause-asked
 returns-in-Err-clause-asked c may f h = subst (λ r. Takes may (stopped_by r) f) c.in-Err.is h
+
+pub returns-in-Ok-Some-clause-quiet : goal.returns-in-Ok-Some-clause-quiet
+returns-in-Ok-Some-clause-quiet c before after h = reads_quiet c.put.result (stopped_by c.args.answer) before after c.put.ensures.stop h
+
+pub returns-in-Ok-None-clause-quiet : goal.returns-in-Ok-None-clause-quiet
+returns-in-Ok-None-clause-quiet c before after h = reads_quiet c.fail.result (stopped_by c.args.answer) before after c.fail.ensures.stop h
+
+pub returns-in-Err-clause-quiet : goal.returns-in-Err-clause-quiet
+returns-in-Err-clause-quiet c before after h = one_quiet _ before after (subst (λ r. ReadsOne (stopped_by r) before after) c.in-Err.is h)

@@ -10,7 +10,7 @@ use Rattle.instruction_steps.specs.Stopped.{halted_by}
 use Rattle.instruction_steps.proofs.Matching.{matched_halts}
 use Rattle.instruction_steps.proofs.Printing.{settled_prints, unsettled_prints}
 use Rattle.unit_io.proofs.Serving.{served_on}
-use Rattle.instruction_steps.proofs.Asked.{found_io, next_as, no_unit}
+use Rattle.instruction_steps.proofs.Asked.{all_took_none, found_io, next_as, no_unit}
 use Rattle.instruction_steps.proofs.Stopping.{lacking}
 use Rattle.instruction_steps.proofs.state.State.matched.Goals as goal
 
@@ -36,7 +36,10 @@ returns-in-Err-clause-printed g c = λ im fs.
     rw e (unsettled_prints im (matching_in im c.args.matching.now s) c.args.matching.now.search.state (waiting im fs s) c.in-Matched.start c.in-Matched.end c.in-Err.fault _ _ ps ps s.world refl c.in-Err.ensures.printed)
 
 pub returns-in_err-found-clause-next : goal.returns-in_err-found-clause-next
-returns-in_err-found-clause-next g c im fs = no_unit c.from_residual.result _ (lacking c.from_residual.result c.from_residual.ensures.1)
+returns-in_err-found-clause-next g c im fs = (
+  all_took_none (halted_by c.from_residual.result) _ _ (pending_of c.in-Matched.pending.now) c.args.self.now.world c.assign_all.new.world c.in_default-assign_all.ensures.served.told,
+  no_unit c.from_residual.result _ (lacking c.from_residual.result c.from_residual.ensures.1),
+)
 
 pub returns-in-Err-clause-next : goal.returns-in-Err-clause-next
 returns-in-Err-clause-next g c = λ im fs.

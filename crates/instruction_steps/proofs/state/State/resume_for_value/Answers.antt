@@ -14,8 +14,6 @@ use Rattle.instruction_steps.specs.Held.{handlers_in, waiting}
 use Rattle.instruction_steps.proofs.Flowing.{seen}
 use Rattle.instruction_steps.proofs.Operations.{some_answer_or_failure}
 use Rattle.instruction_steps.proofs.Telling.{no_records}
-use Rattle.instruction_steps.specs.Stopped.{halted_by}
-use Rattle.instruction_steps.proofs.Printing.{quiet_ever}
 use Rattle.world.proofs.Asked.{takes_on}
 use Rattle.instruction_steps.proofs.Asked.{op_io}
 use Rattle.instruction_steps.specs.Asking.{io_at}
@@ -35,7 +33,7 @@ returns-clause-sound g c im fs h =
     (laws.wait_stands im o.0 (offset_at im.code c.args.next) (given false) (handlers_in im s) (operands_of s.operands.top) (waiting im fs s) _ h.0 h.1 (λ v w1. ((h.0.0, h.0.1, h.0.3), h.1)))
 
 pub returns-clause-quiet : goal.returns-clause-quiet
-returns-clause-quiet g c = quiet_ever (halted_by c.gave.result) _ _ c.returned_value-answer.ensures.quiet
+returns-clause-quiet g c = c.gave.ensures.quiet _ _ c.returned_value-answer.ensures.quiet
 
 pub returns-clause-asked : goal.returns-clause-asked
 returns-clause-asked g c im fs =
