@@ -4,16 +4,24 @@ use Rattle.model.specs.Language.Values.{Key, Bounds, Object, ArrayOf, TableOf, R
 use Rattle.model.specs.Language.Prototypes.{elements_in, are_bounds}
 use Rattle.model.specs.Language.Aggregates.{row_count}
 use Rattle.aggregates.specs.Keys.{table_rows}
+use Rattle.aggregates.specs.declared.field_values.FieldValues.{FieldValues}
+use Rattle.aggregates.specs.declared.field_values.FieldValues.TheVariants as fields
 use Rattle.aggregates.specs.declared.object.Object as held
 use Rattle.aggregates.specs.declared.object.Object.TheVariants as o
 use Rattle.aggregates.specs.declared.object.ObjectKind.{ObjectKind}
 use Rattle.aggregates.specs.declared.object.ObjectKind.TheVariants as kind
 
 module _ {V : Type 0} where
+  -- the values of a record's fields
+  abbrev pub held_values : FieldValues V → List V
+  held_values (fields.One v) = v ∷ []
+  held_values (fields.Two v u) = v ∷ u ∷ []
+  held_values (fields.Many vs) = vs.items
+
   abbrev pub object_of : held.Object V → Object V
   object_of (o.Array a) = ArrayOf a.0 a.1
   object_of (o.Table t) = TableOf t
-  object_of (o.Record r) = RecordOf r.type_name r.fields r.values.items
+  object_of (o.Record r) = RecordOf r.type_name r.fields (held_values r.values)
 
   abbrev pub objects_of : List (held.Object V) → List (Object V)
   objects_of xs = map object_of xs

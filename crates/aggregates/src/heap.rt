@@ -18,6 +18,7 @@ ghost use Rattle.model.specs.Machine.Living.{cleared};
 use crate::array::Array;
 use crate::bounds::{Bounds, are_bounds};
 use crate::element::Element;
+use crate::field_values::FieldValues;
 use crate::marks::Marks;
 use crate::names::Names;
 use crate::object::{Object, ObjectKind, Record, place_among};
@@ -292,18 +293,19 @@ impl<V: Element> Heap<V> {
         self.add(Object::Table(Table::new(alloc)))
     }
 
-    /// A new record of this type, with these fields and their values; its number.
+    /// A new record of this type, with these fields and their values, which are taken out of the vector; its number.
     pub fn new_record(
         &mut self,
         type_name: Text,
         fields: Names,
-        values: Vec<V>,
+        values: &mut Vec<V>,
     ) -> Result<usize, AllocError>
         ensures number { IfOk result (λ made. made ≡ length self.old) }
         ensures made { OnOk result
-            (self.new ≡ self.old ++ RecordOf type_name fields values.items ∷ []) }
+            (self.new ≡ self.old ++ RecordOf type_name fields values.old.items ∷ []) }
         ensures refused { OnErr result (self.new ≡ self.old) }
     {
+        let values = FieldValues::taken(values)?;
         self.add(Object::Record(Record {
             type_name,
             fields,
@@ -376,6 +378,7 @@ impl<V: Element> Heap<V> {
     }
 
     // One more object; its number.
+    #[inline(always)]
     fn add(&mut self, object: Object<V>) -> Result<usize, AllocError>
         ensures number { IfOk result (λ made. made ≡ length self.old) }
         ensures made { OnOk result (self.new ≡ self.old ++ object_of object ∷ []) }

@@ -16,6 +16,7 @@ mod array;
 mod bounds;
 mod element;
 mod elements;
+mod field_values;
 mod flags;
 mod heap;
 mod items;

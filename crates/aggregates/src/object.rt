@@ -11,7 +11,7 @@ ghost use Rattle.aggregates.specs.Made.{object_of, kind_of, values_of, StandBelo
 
 use crate::array::Array;
 use crate::element::Element;
-use crate::items::put;
+use crate::field_values::FieldValues;
 use crate::names::Names;
 use crate::place::{ElementPlace, Key};
 use crate::table::Table;
@@ -31,7 +31,7 @@ pub enum ObjectKind {
 pub(crate) struct Record<V> {
     pub(crate) type_name: Text,
     pub(crate) fields: Names,
-    pub(crate) values: Vec<V>,
+    pub(crate) values: FieldValues<V>,
 }
 
 /// An array, a table or a record.
@@ -83,7 +83,7 @@ impl<V: Element> Object<V> {
         match self {
             Object::Array(array) => array.held(),
             Object::Table(table) => table.held(),
-            Object::Record(record) => count_of(record.values.as_slice()),
+            Object::Record(record) => record.values.held(),
         }
     }
 
@@ -199,22 +199,12 @@ impl<V: Element> Object<V> {
                 table.set(key, value)?;
                 Ok(true)
             }
-            (Object::Record(record), ElementPlace::Element(index)) => Ok(put(
-                &mut record.values,
-                index,
-                value,
-            )),
+            (Object::Record(record), ElementPlace::Element(index)) => {
+                Ok(record.values.put(index, value))
+            },
             _ => Ok(false),
         }
     }
-}
-
-// How many values there are: each stands below that.
-#[tactic(auto, using(crate::proofs::Lists::all_stand))]
-fn count_of<V>(values: &[V]) -> usize
-    ensures { StandBelow result values.now }
-{
-    values.len()
 }
 
 /// Where a name stands among the names of fields.

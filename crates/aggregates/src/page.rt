@@ -11,6 +11,7 @@ ghost use Rattle.aggregates.specs.Objects.{stored_at, put_at, if_stored, index_i
 ghost use Rattle.aggregates.specs.Paged.{whole};
 
 use crate::element::Element;
+use crate::items::push;
 use crate::marks::Marks;
 use crate::object::Object;
 use crate::place::ElementPlace;
@@ -46,6 +47,15 @@ impl<V: Element> Page<V> {
         Page {
             objects: Vec::new(alloc),
         }
+    }
+
+    /// The page without objects, with room for so many.
+    pub(crate) fn with_room(alloc: Global, count: usize) -> Result<Page<V>, AllocError>
+        ensures { IfOk result (λ page. page ≡ []) }
+    {
+        Ok(Page {
+            objects: Vec::with_capacity(alloc, count)?,
+        })
     }
 
     /// How many objects are held.
@@ -158,7 +168,7 @@ impl<V: Element> Page<V> {
         ensures made { OnOk result (self.new ≡ self.old ++ object_of object ∷ []) }
         ensures refused { OnErr result (self.new ≡ self.old) }
     {
-        self.objects.push(object)?;
+        push(&mut self.objects, object)?;
         Ok(())
     }
 
@@ -170,7 +180,7 @@ impl<V: Element> Page<V> {
         ensures refused { OnErr result (whole self.new ≡ whole self.old) }
     {
         if place == self.objects.len() {
-            self.objects.push(object)?;
+            push(&mut self.objects, object)?;
             return Ok(());
         }
         self.hold(place)?;

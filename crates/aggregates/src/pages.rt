@@ -140,6 +140,7 @@ impl<V: Element> Pages<V> {
     }
 
     /// One more object.
+    #[inline(always)]
     pub(crate) fn push(&mut self, object: Object<V>) -> Result<(), AllocError>
         ensures made { OnOk result (self.new ≡ self.old ++ object_of object ∷ []) }
         ensures refused { OnErr result (self.new ≡ self.old) }
@@ -149,7 +150,8 @@ impl<V: Element> Pages<V> {
             return Err(AllocError);
         };
         if number / PAGE >= self.pages.len() {
-            self.pages.push(Page::new(*self.pages.allocator()))?;
+            let page = Page::with_room(*self.pages.allocator(), PAGE)?;
+            self.pages.push(page)?;
             put_behind(&mut self.pages, number, object)?;
             self.count = next;
             return Ok(());
@@ -181,6 +183,7 @@ impl<V: Element> Pages<V> {
 }
 
 // One more object, behind so many.
+#[inline(always)]
 fn put_behind<V: Element>(
     pages: &mut Vec<Page<V>>,
     count: usize,

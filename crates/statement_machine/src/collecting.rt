@@ -15,8 +15,16 @@ use world::{World, mark_values};
 /// How much objects hold that are made before any is given back.
 const LEAST: usize = 1 << 16;
 
-/// When objects are given back: once as much was made as stayed the last time. It counts objects and the values that they
-/// held when they were made.
+/// How many objects joined steps make before they leave a constructor to a plain step. Objects are counted, and given back,
+/// only where the loop of joined steps is left. A loop whose calls are all joined never leaves it: without this bound, a run
+/// that makes nothing but records would give none back.
+const UNCOUNTED: usize = 256;
+
+/// As how many values an object counts, beside those that it held when it was made.
+const EACH_OBJECT: usize = 2;
+
+/// When objects are given back: once five eighths as much was made as stayed the last time. It counts objects and the values
+/// that they held when they were made.
 #[derive(Clone, Copy)]
 pub(crate) struct CollectionSchedule {
     // How many objects were counted.
@@ -37,13 +45,19 @@ impl CollectionSchedule {
         }
     }
 
+    /// Whether so many objects weren't counted that the next is left to a plain step, behind which they are.
+    #[inline(always)]
+    pub(crate) fn is_behind(&self, world: &World) -> bool {
+        world.object_count() >= self.counted.saturating_add(UNCOUNTED)
+    }
+
     // Counts the objects that were made. Whether objects are to be given back.
     #[inline(never)]
     fn count(&mut self, world: &World) -> bool {
         let count = world.object_count();
         for object in self.counted..count {
             let size = world.object_size(object);
-            self.made = self.made.saturating_add(size).saturating_add(1);
+            self.made = self.made.saturating_add(size).saturating_add(EACH_OBJECT);
         }
         self.counted = count;
         self.made >= self.due
@@ -52,7 +66,7 @@ impl CollectionSchedule {
     // From now on nothing was made. So much stayed.
     fn begin(&mut self, stayed: usize) {
         self.made = 0;
-        self.due = stayed.max(LEAST);
+        self.due = (stayed / 8 * 5).max(LEAST);
     }
 }
 
@@ -101,7 +115,7 @@ impl Run {
         self.pace.begin(stayed);
     }
 
-    /// Gives back the objects that nothing reaches, if as much was made as stayed the last time.
+    /// Gives back the objects that nothing reaches, if they are due.
     #[inline(always)]
     pub(crate) fn collect_if_due(&mut self)
         ensures { IsSameRun self.old self.new }

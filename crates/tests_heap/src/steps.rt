@@ -103,8 +103,9 @@ fn fields(alloc: Global) -> Result<Names, StrFault> {
 
 fn new_pair(alloc: Global, heap: &mut Heap<Item>) -> Result<Seen, StrFault> {
     let pair = Text::from_slice(alloc, b"PAIR")?;
-    let values = vec![in alloc; Item::Integer(1), Item::Integer(2)]?;
-    Ok(Seen::Number(heap.new_record(pair, fields(alloc)?, values)?))
+    let mut values = vec![in alloc; Item::Integer(1), Item::Integer(2)]?;
+    let number = heap.new_record(pair, fields(alloc)?, &mut values)?;
+    Ok(Seen::Number(number))
 }
 
 fn made(alloc: Global, heap: &mut Heap<Item>, step: Step<'_>) -> Result<Seen, StrFault> {

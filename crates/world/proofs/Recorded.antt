@@ -1,20 +1,21 @@
 -- Records that are made, and the names of their fields.
-use Rattle.std.proofs.Common.{◌≡◌, ℕ, suc, ◌+◌, ◌<◌, List, [], ◌∷◌, ◌++◌, length, map, take, get_or, Option, Some, None, refl, sym, ap, ◌∙◌, arith}
+use Rattle.std.proofs.Common.{◌≡◌, ℕ, zero, suc, List, [], ◌∷◌, ◌++◌, length, map, take, Option, Some, None, refl, sym, ap, ◌∙◌, arith}
 use Rattle.std.specs.Prelude.{IfSome, slice_get, option_map}
 use Rattle.std.proofs.lemmas.Option.{slice_get-map}
-use Rattle.std.proofs.lemmas.List.{length-take-le, map_push, take_more}
+use Rattle.std.proofs.lemmas.List.{length-map, map-append, take-map}
 use Rattle.model.specs.declared.image.Level.{Level}
 use Rattle.model.specs.Deck.Target.{Element}
 use Rattle.model.specs.Deck.Trees.{Bytes}
 use Rattle.model.specs.Language.Io.{Io}
-use Rattle.model.specs.Language.Values.{Field, Obj, Object, ArrayOf, TableOf, RecordOf}
+use Rattle.model.specs.Language.Values.{Field, Obj, Object, Str, ArrayOf, TableOf, RecordOf}
 use Rattle.model.specs.Language.Conversions.{Gives, then_op}
-use Rattle.model.specs.Language.Calls.{AValue, arg_at, construct_op}
+use Rattle.model.specs.Language.Calls.{AValue, construct_op}
 use Rattle.model.specs.Language.Keywords.{Keys}
 use Rattle.model.specs.Language.Aggregates as model
 use Rattle.model.specs.Language.Aggregates.{new_object, field_values, field_op, named_field}
 use Rattle.model.specs.Machine.Steps.{MVal, MW}
 use Rattle.aggregates.specs.Objects.{field_in}
+use Rattle.world.specs.Calling.{AreFilled, nulls}
 use Rattle.world.specs.Values.{value_of}
 use Rattle.world.specs.Elements.{FieldNames}
 use Rattle.world.specs.Objects.{object_map}
@@ -26,50 +27,37 @@ use Rattle.world.proofs.Made.{made}
 
 -- ---- values of fields
 
--- from the argument of this number on
-abbrev pub values_from : ℕ → List Bytes → List MVal → List MVal
-values_from k [] vs = []
-values_from k (f ∷ fs) vs = arg_at vs k ∷ values_from (k + 1) fs vs
+nulled : (fs : List Bytes) (n : ℕ) → length (nulls n) ≡ length fs → nulls n ≡ field_values fs []
+nulled [] zero e = refl
+nulled [] (suc n) e = absurd (omega (arith, e))
+nulled (f ∷ fs) zero e = absurd (omega (arith, e))
+nulled (f ∷ fs) (suc n) e = ap (λ xs. Str [] ∷ xs) (nulled fs n (omega (arith, e)))
 
-none_left : (k : ℕ) (fs : List Bytes) → values_from k fs [] ≡ field_values fs []
-none_left k [] = refl
-none_left k (f ∷ fs) = ap (λ xs. model.field_values (f ∷ []) [] ++ xs) (none_left (k + 1) fs)
+-- as many arguments as there are fields, and null for each that is absent
+fitted : (fs : List Bytes) (vs : List MVal) (n : ℕ) → length (take (length fs) vs ++ nulls n) ≡ length fs → take (length fs) vs ++ nulls n ≡ field_values fs vs
+fitted [] vs n e = nulled [] n e
+fitted (f ∷ fs) [] n e = nulled (f ∷ fs) n e
+fitted (f ∷ fs) (v ∷ vs) n e = ap (λ xs. v ∷ xs) (fitted fs vs n (omega (arith, e)))
 
-next_one : (k : ℕ) (fs : List Bytes) (v : MVal) (vs : List MVal) → values_from (suc k) fs (v ∷ vs) ≡ values_from k fs vs
-next_one k [] v vs = refl
-next_one k (f ∷ fs) v vs = let n : suc k + 1 ≡ suc (k + 1) = omega arith in ap (λ xs. arg_at vs k ∷ xs) (ap (λ m. values_from m fs (v ∷ vs)) n ∙ next_one (k + 1) fs v vs)
-
-pub all_values : (fs : List Bytes) (vs : List MVal) → values_from 0 fs vs ≡ field_values fs vs
-all_values [] vs = refl
-all_values (f ∷ fs) [] = none_left 0 (f ∷ fs)
-all_values (f ∷ fs) (v ∷ vs) = ap (λ xs. v ∷ xs) (let n : 0 + 1 ≡ suc 0 = omega arith in ap (λ m. values_from m fs (v ∷ vs)) n ∙ next_one 0 fs v vs ∙ all_values fs vs)
-
-from_append : (k : ℕ) (fs : List Bytes) (f : Bytes) (vs : List MVal) → values_from k (fs ++ f ∷ []) vs ≡ values_from k fs vs ++ arg_at vs (k + length fs) ∷ []
-from_append k [] f vs = let n : k ≡ k + 0 = omega arith in ap (λ m. arg_at vs m ∷ []) n
-from_append k (g ∷ fs) f vs =
-    let n : (k + 1) + length fs ≡ k + suc (length fs) = omega arith in
-    ap (λ xs. arg_at vs k ∷ xs) (from_append (k + 1) fs f vs ∙ ap (λ m. values_from (k + 1) fs vs ++ arg_at vs m ∷ []) n)
-
--- a turn of a loop in which each field gets its argument
-pub values_turn : (fs : List Bytes) (k : ℕ) (vs : List MVal) (us new : List Value) (v : Value) → k < length fs → map value_of us ≡ values_from 0 (take k fs) vs → value_of v ≡ arg_at vs k → new ≡ us ++ v ∷ []
-    → map value_of new ≡ values_from 0 (take (k + 1) fs) vs
-values_turn fs k vs us new v within before is more =
-    let n : k ≡ 0 + length (take k fs) = omega (arith, length-take-le k fs (omega arith)) in
-    ap (map value_of) more
-    ∙ map_push value_of us v
-    ∙ ap (λ xs. xs ++ value_of v ∷ []) before
-    ∙ ap (λ z. values_from 0 (take k fs) vs ++ z ∷ []) (is ∙ ap (arg_at vs) n)
-    ∙ sym (from_append 0 (take k fs) (get_or fs k []) vs)
-    ∙ ap (λ xs. values_from 0 xs vs) (sym (take_more fs k [] within))
+-- the same of arguments that are held
+pub held_fitted : (fs : List Bytes) (old cut new : List Value) → cut ≡ take (length fs) old → AreFilled (length fs) cut new → map value_of new ≡ field_values fs (map value_of old)
+held_fitted fs old cut new is (vs, all, null, filled) =
+    let same : map value_of new ≡ take (length fs) (map value_of old) ++ nulls (length vs) =
+    ap (map value_of) all
+    ∙ map-append value_of cut vs
+    ∙ (λ i. map value_of (is i) ++ null i)
+    ∙ ap (λ xs. xs ++ nulls (length vs)) (sym (take-map value_of (length fs) old)) in
+    let n : length (take (length fs) (map value_of old) ++ nulls (length vs)) ≡ length fs = sym (ap length same) ∙ length-map new value_of ∙ filled in
+    same ∙ fitted fs (map value_of old) (length vs) n
 
 -- ---- records
 
 module _ (vs : List (Bytes × Variable)) (os new : List (Object Value)) (fs : Functions) (ks : Keys) (lv : Level) (ns : List Bytes) (h : WorldView) (io : Io) where
-  pub constructed : (t name : Bytes) (gs fields : List Bytes) (us : List Value) (args : List MVal) (n : ℕ) → record { variables = vs; objects = os; functions = fs; keys = ks; level = lv; names = ns } ≡ h
-      → n ≡ length os → new ≡ os ++ RecordOf name fields us ∷ [] → name ≡ t → fields ≡ gs → map value_of us ≡ field_values gs args
-      → construct_op t gs args (world_of h io) ≡ Gives (AValue (Obj n)) (world_of (record { variables = vs; objects = new; functions = fs; keys = ks; level = lv; names = ns }) io)
-  constructed t name gs fields us args n is number more named same values =
-      ap (λ o. then_op (new_object o (world_of h io)) (λ v w1. Gives (AValue v) w1)) (λ i. RecordOf (sym named i) (sym same i) (sym values i))
+  pub constructed : (t name : Bytes) (fields : List Bytes) (us : List Value) (args : List MVal) (n : ℕ) → record { variables = vs; objects = os; functions = fs; keys = ks; level = lv; names = ns } ≡ h
+      → n ≡ length os → new ≡ os ++ RecordOf name fields us ∷ [] → name ≡ t → map value_of us ≡ field_values fields args
+      → construct_op t fields args (world_of h io) ≡ Gives (AValue (Obj n)) (world_of (record { variables = vs; objects = new; functions = fs; keys = ks; level = lv; names = ns }) io)
+  constructed t name fields us args n is number more named values =
+      ap (λ o. then_op (new_object o (world_of h io)) (λ v w1. Gives (AValue v) w1)) (λ i. RecordOf (sym named i) fields (sym values i))
       ∙ ap (λ o. then_op o (λ v w1. Gives (AValue v) w1)) (made vs os new fs ks lv ns h io (RecordOf name fields us) n is number more)
 
 -- ---- names of fields

@@ -89,9 +89,9 @@ fn put(values: &mut Vec<Value>, value: Value) -> Result<(), AllocError>
     Ok(())
 }
 
-// Puts null values at the end, up to so many values in all.
+/// Puts null values at the end, up to so many values in all.
 #[inline(always)]
-fn fill(values: &mut Vec<Value>, count: usize) -> Result<(), AllocError>
+pub(crate) fn fill(values: &mut Vec<Value>, count: usize) -> Result<(), AllocError>
     requires { length values.old.items ≤ count }
     ensures { OnOk result (AreFilled count values.old.items values.new.items) }
 {

@@ -1,13 +1,13 @@
 //! Records: calls of the functions that DATA makes.
 
-ghost use Rattle.std.specs.Prelude.{◌≡◌, map, IfOk, IfSome, OnErr};
+ghost use Rattle.std.specs.Prelude.{◌≡◌, map, IfOk, IfSome, OnErr, OnOk};
 ghost use Rattle.model.specs.Deck.Target.{Element};
 ghost use Rattle.model.specs.Language.Io.{Io};
-ghost use Rattle.model.specs.Language.Calls.{construct_op, select_op};
+ghost use Rattle.model.specs.Language.Calls.{AValue, construct_op, select_op};
+ghost use Rattle.model.specs.Language.Conversions.{Gives};
 ghost use Rattle.model.specs.Language.Aggregates.{field_values, field_op};
-ghost use Rattle.model.specs.declared.run.Stop.TheVariants.{NoMemory};
 ghost use Rattle.pattern_compiler.specs.View.{name_of};
-ghost use Rattle.world.specs.Answers.{answer_map, op_of, AnswersAs, IfStopped};
+ghost use Rattle.world.specs.Answers.{answer_map, op_of};
 ghost use Rattle.model.specs.Language.Values.{Obj};
 ghost use Rattle.world.specs.Calling.{given_of};
 ghost use Rattle.world.specs.Elements.{FieldNames};
@@ -15,56 +15,45 @@ ghost use Rattle.world.specs.Held.{world_of};
 ghost use Rattle.world.specs.Values.{value_of};
 
 use crate::arguments::argument;
-use crate::calls::Given;
-use crate::fault::Fault;
+use crate::calls::{Given, fill};
 use crate::functions::Function;
 use crate::value::Value;
 use crate::world::World;
 use aggregates::Names;
 use model::ErrorCode;
 use pattern_compiler::Name;
-use std::alloc::{AllocError, Global};
+use std::alloc::AllocError;
 use strings::Text;
 
-// The values of fields, which an absent argument leaves null.
-fn field_values(
-    alloc: Global,
-    fields: &[Text],
-    arguments: &[Value],
-) -> Result<Vec<Value>, AllocError>
-    ensures { IfOk result (λ values.
-        map value_of values.items ≡ field_values fields.now (map value_of arguments.now)) }
+// Makes arguments the values of fields: an absent one is null, and those that are too many are dropped.
+fn fit_to_fields(fields: &[Text], arguments: &mut Vec<Value>) -> Result<(), AllocError>
+    ensures { OnOk result (map value_of arguments.new.items
+        ≡ field_values fields.now (map value_of arguments.old.items)) }
 {
-    let null = Value::null();
-    let mut values = Vec::with_capacity(alloc, fields.len())?;
-    for (number, _field) in fields.iter().enumerate() {
-        values.push(argument(arguments, number, &null).clone()?)?;
-    }
-    Ok(values)
+    let count = fields.len();
+    arguments.truncate(count);
+    fill(arguments, count)?;
+    Ok(())
 }
 
 impl World {
-    /// A call of a constructor: a new record of the type of this name. An absent argument leaves its field null.
+    /// A call of a constructor: a new record of the type of this name. The arguments are moved to its fields; an absent one
+    /// leaves its field null.
     pub fn construct(
         &mut self,
-        alloc: Global,
         type_name: &Text,
-        fields: &Names,
-        arguments: &[Value],
-    ) -> Result<Given, Fault>
-        ensures made { (io : Io)
-            → AnswersAs (answer_map given_of result) (world_of self.new io)
-            (construct_op type_name.now fields.now (map value_of arguments.now)
-            (world_of self.old io)) }
-        ensures stop { IfStopped result (λ stop. stop ≡ NoMemory) }
+        fields: Names,
+        arguments: &mut Vec<Value>,
+    ) -> Result<Value, AllocError>
+        ensures made { IfOk result (λ value. (io : Io)
+            → construct_op type_name.now fields (map value_of arguments.old.items) (world_of self.old io)
+            ≡ Gives (AValue (value_of value)) (world_of self.new io)) }
         ensures err { OnErr result (self.new ≡ self.old) }
         ensures names { self.new.names ≡ self.old.names }
     {
-        let values = field_values(alloc, fields.as_slice(), arguments)?;
-        let number = self
-            .heap
-            .new_record(type_name.clone()?, fields.clone()?, values)?;
-        Ok(Given::Value(Value::Object(number)))
+        fit_to_fields(fields.as_slice(), arguments)?;
+        let number = self.heap.new_record(type_name.clone()?, fields, arguments)?;
+        Ok(Value::Object(number))
     }
 
     // The name of a record's field. Takes no memory.

@@ -1,4 +1,4 @@
-use Rattle.std.proofs.Common.{List, subst, sym}
+use Rattle.std.proofs.Common.{subst, sym}
 use Rattle.aggregates.specs.Made.{StandBelow, object_of, values_of}
 use Rattle.aggregates.specs.declared.object.Object as held
 use Rattle.aggregates.proofs.object.Object.held.Goals as goal
@@ -10,6 +10,4 @@ pub returns-in-Table : goal.returns-in-Table
 returns-in-Table g c = subst (λ (o : held.Object g.row.V.Denot). StandBelow c.held-in-Table.result (values_of (object_of o))) (sym c.in-Table.is) c.held-in-Table.ensures
 
 pub returns-in-Record : goal.returns-in-Record
-returns-in-Record g c =
-    subst (λ (o : held.Object g.row.V.Denot). StandBelow c.count_of.result (values_of (object_of o))) (sym c.in-Record.is)
-    (subst (λ (vs : List g.row.V.Denot). StandBelow c.count_of.result vs) c.as_slice.ensures.value c.count_of.ensures)
+returns-in-Record g c = subst (λ (o : held.Object g.row.V.Denot). StandBelow c.held-in-Record.result (values_of (object_of o))) (sym c.in-Record.is) c.held-in-Record.ensures

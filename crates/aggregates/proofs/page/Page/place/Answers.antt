@@ -13,7 +13,7 @@ returns-then-place-len-clause-placed g c =
     let o = object_of c.args.object in
     let long = objects_length xs in
     let at : length (objects_of xs) ≡ c.args.place = omega (arith, long) in
-    ap (λ ys. whole (objects_of ys)) c.in_ok-push.ensures.items ∙ ap whole (objects_push xs c.args.object) ∙ padded_push no_object 512 (objects_of xs) o
+    ap (λ ys. whole (objects_of ys)) c.in_ok-push.ensures.made ∙ ap whole (objects_push xs c.args.object) ∙ padded_push no_object 512 (objects_of xs) o
     ∙ ap (λ n. slice_set (whole (objects_of xs)) n o) at ∙ ap (λ p. slice_set (whole p) c.args.place o) c.self.view_is
 
 pub returns-clause-placed : goal.returns-clause-placed

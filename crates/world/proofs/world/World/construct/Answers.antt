@@ -7,6 +7,6 @@ use Rattle.world.proofs.world.World.construct.Goals as goal
 pub returns-clause-made : goal.returns-clause-made
 returns-clause-made c io =
     constructed c.self.inside.variables.entries c.self.inside.heap c.new_record.new.self c.self.inside.functions c.self.inside.keywords c.self.inside.level c.self.inside.names.items c.args.self.now io
-    c.args.type_name.now c.in_ok-clone.field-0 c.args.fields.now c.in_ok-clone-2.field-0 c.in_ok-values.values.items (map value_of c.args.arguments.now) c.in_ok-number.number
-    c.self.view_is c.in_ok-number.ensures.number c.in_ok-number.ensures.made c.in_ok-clone.ensures.cases c.in_ok-clone-2.ensures.cases
-    (c.in_ok-values.ensures ∙ ap (λ fs. field_values fs (map value_of c.args.arguments.now)) c.as_slice.ensures)
+    c.args.type_name.now c.in_ok-clone.field-0 c.args.fields c.fit_to_fields.new.arguments.items (map value_of c.args.arguments.now.items) c.in_ok-number.number
+    c.self.view_is c.in_ok-number.ensures.number c.in_ok-number.ensures.made c.in_ok-clone.ensures.cases
+    (c.in_ok-fit_to_fields.ensures ∙ ap (λ fs. field_values fs (map value_of c.args.arguments.now.items)) c.as_slice.ensures)
