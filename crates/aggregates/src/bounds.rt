@@ -133,8 +133,7 @@ pub(crate) fn place_of(bounds: &[Bounds], subscripts: &[i64]) -> Option<usize>
 }
 
 /// The place of the element with this subscript, where there is no other one. Takes no memory.
-#[cold]
-#[inline(never)]
+#[inline(always)]
 #[tactic(auto, using(crate::proofs::Subscripts::one_place, crate::proofs::Subscripts::no_one_place))]
 pub(crate) fn place_of_one(bounds: &[Bounds], subscript: i64) -> Option<usize>
     ensures { result ≡ place_from 0 bounds.now (subscript ∷ []) }
