@@ -81,6 +81,11 @@ module _ {V : Type 0} where
   padded_cleared (suc n) m [] = ap (λ x. x ∷ padded no_object n []) (nothing_left (m 0)) ∙ ap (λ xs. (if m 0 then no_object else no_object) ∷ xs) (padded_cleared n (λ k. m (suc k)) [])
   padded_cleared (suc n) m (x ∷ p) = ap (λ xs. (if m 0 then x else no_object) ∷ xs) (padded_cleared n (λ k. m (suc k)) p)
 
+  -- one that holds nothing
+  pub nothing_held : (n : ℕ) (m : ℕ → Bool) (p : List (Object V)) → length p ≤ 0 → padded no_object n p ≡ cleared m (padded no_object n p)
+  nothing_held n m [] le = padded_cleared n m []
+  nothing_held n m (o ∷ p) le = absurd (omega arith)
+
   -- and one that is given back as a whole
   pub page_dropped : (n : ℕ) (m : ℕ → Bool) (p : List (Object V)) → ((j : ℕ) → j < n → m j ≡ false) → padded no_object n [] ≡ cleared m (padded no_object n p)
   page_dropped zero m p h = refl

@@ -3,6 +3,7 @@ use Rattle.std.specs.Prelude.{◌≡◌, ◌<◌, slice_get, ℕ, zero, suc, tru
 use Rattle.model.specs.Language.Values.{Key, Bounds, Object, ArrayOf, TableOf, RecordOf}
 use Rattle.model.specs.Language.Prototypes.{elements_in, are_bounds}
 use Rattle.model.specs.Language.Aggregates.{row_count}
+use Rattle.model.specs.Machine.Living.{cleared}
 use Rattle.aggregates.specs.Keys.{table_rows}
 use Rattle.aggregates.specs.declared.field_values.FieldValues.{FieldValues}
 use Rattle.aggregates.specs.declared.field_values.FieldValues.TheVariants as fields
@@ -89,3 +90,7 @@ abbrev pub marked_below : ℕ → (ℕ → Bool) → ℕ → Bool
 marked_below zero marks k = true
 marked_below (suc n) marks zero = marks zero
 marked_below (suc n) marks (suc k) = marked_below n (λ j. marks (suc j)) k
+
+-- what was cleared below a place is cleared below another one
+abbrev pub IsClearedOn : {V : Type 0} → (ℕ → Bool) → (from to : ℕ) → (old new : List (Object V)) → Type 0
+IsClearedOn {V} marks from to old new = (all : List (Object V)) → old ≡ cleared (marked_below from marks) all → new ≡ cleared (marked_below to marks) all

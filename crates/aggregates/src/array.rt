@@ -8,17 +8,17 @@ ghost use Rattle.model.specs.Language.Operators.{with_item};
 ghost use Rattle.aggregates.specs.Made.{StandBelow};
 ghost use Rattle.aggregates.specs.Objects.{if_stored};
 
-use crate::bounds::{Bounds, place_of, place_of_one};
+use crate::bounds::{Bounds, place_of};
+use crate::dimensions::Dimensions;
 use crate::element::Element;
 use crate::elements::Elements;
-use crate::items::copied;
 use std::alloc::{AllocError, Global};
 use std::marker::Model;
 
 /// An array. Contracts see its dimensions, and its elements, those of the last dimension side by side.
 #[derive(Drop)]
 pub(crate) struct Array<V> {
-    bounds: Vec<Bounds>,
+    bounds: Dimensions,
     elements: Elements<V>,
 }
 
@@ -26,15 +26,15 @@ impl<V> Model for Array<V> {
     ghost use Rattle.std.specs.Prelude.{◌≡◌, ◌<◌, ◌≤◌, ◌^◌, List, length};
     ghost use Rattle.model.specs.Language.Values as values;
     ghost use Rattle.model.specs.Language.Prototypes.{elements_in};
-    ghost use Rattle.aggregates.specs.Elements.{all_of};
+    ghost use Rattle.aggregates.specs.Elements.{all_of, dimensions_of};
 
     ghost Value = { List values.Bounds × List V };
 
-    ghost view = { λ a. (a.bounds.items, all_of a.elements) };
+    ghost view = { λ a. (dimensions_of a.bounds, all_of a.elements) };
 
     ghost invariant = { λ a.
-        (length (all_of a.elements) ≡ elements_in a.bounds.items) × (0 < elements_in a.bounds.items)
-        × (elements_in a.bounds.items < 2 ^ 63) × (length a.bounds.items ≤ 8) };
+        (length (all_of a.elements) ≡ elements_in (dimensions_of a.bounds)) × (0 < elements_in (dimensions_of a.bounds))
+        × (elements_in (dimensions_of a.bounds) < 2 ^ 63) × (length (dimensions_of a.bounds) ≤ 8) };
 }
 
 impl<V: Element> Array<V> {
@@ -46,7 +46,7 @@ impl<V: Element> Array<V> {
         ensures { result ≡ (bounds.items, elements.items) }
     {
         Array {
-            bounds,
+            bounds: Dimensions::of(bounds),
             elements: Elements::of(elements),
         }
     }
@@ -64,14 +64,17 @@ impl<V: Element> Array<V> {
     {
         let count = crate::bounds::elements_in(&bounds);
         let elements = Elements::filled(alloc, value, count)?;
-        Ok(Array { bounds, elements })
+        Ok(Array {
+            bounds: Dimensions::of(bounds),
+            elements,
+        })
     }
 
     /// A copy of the array, with its bounds and a clone of each element.
     pub(crate) fn copy(&self, alloc: Global) -> Result<Array<V>, AllocError>
         ensures { IfOk result (λ array. array ≡ self.now) }
     {
-        let bounds = copied(alloc, &self.bounds)?;
+        let bounds = self.bounds.copy(alloc)?;
         let elements = self.elements.copy(alloc)?;
         Ok(Array { bounds, elements })
     }
@@ -88,7 +91,7 @@ impl<V: Element> Array<V> {
     pub(crate) fn bounds(&self) -> &[Bounds]
         ensures { result.now ≡ self.now.0 }
     {
-        &self.bounds
+        self.bounds.as_slice()
     }
 
     /// How many elements it has.
@@ -110,14 +113,14 @@ impl<V: Element> Array<V> {
         ensures count { result ≡ length self.now.0 }
         ensures few { result ≤ 8 }
     {
-        self.bounds.len()
+        self.bounds.as_slice().len()
     }
 
     /// The place of the element with these subscripts.
     pub(crate) fn place(&self, subscripts: &[i64]) -> Option<usize>
         ensures { result ≡ place_from 0 self.now.0 subscripts.now }
     {
-        place_of(&self.bounds, subscripts)
+        place_of(self.bounds.as_slice(), subscripts)
     }
 
     /// The place of the element with this subscript alone.
@@ -125,7 +128,7 @@ impl<V: Element> Array<V> {
     pub(crate) fn place_of_one(&self, subscript: i64) -> Option<usize>
         ensures { result ≡ place_from 0 self.now.0 (subscript ∷ []) }
     {
-        place_of_one(&self.bounds, subscript)
+        self.bounds.place_of_one(subscript)
     }
 
     /// Another element at a place, if one is written there.

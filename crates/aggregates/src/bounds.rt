@@ -141,6 +141,15 @@ pub(crate) fn place_of_one(bounds: &[Bounds], subscript: i64) -> Option<usize>
     let [dimension] = bounds else {
         return None;
     };
+    place_in(dimension, subscript)
+}
+
+/// The place of the element with this subscript in the only dimension. Takes no memory.
+#[inline(always)]
+#[tactic(auto, using(crate::proofs::Subscripts::one_place, crate::proofs::Subscripts::no_one_place))]
+pub(crate) fn place_in(dimension: &Bounds, subscript: i64) -> Option<usize>
+    ensures { result ≡ place_from 0 (dimension.now ∷ []) (subscript ∷ []) }
+{
     match dimension.offset(subscript) {
         Some(offset) => Some(offset as usize),
         None => None,

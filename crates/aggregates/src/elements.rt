@@ -8,7 +8,7 @@ ghost use Rattle.aggregates.specs.Made.{StandBelow};
 ghost use Rattle.aggregates.specs.Objects.{if_stored};
 
 use crate::element::Element;
-use crate::items::{copied, put};
+use crate::items::{copied, put, reserve_first};
 use std::alloc::{AllocError, Global};
 
 /// How many elements are written in one go beyond those that are asked for.
@@ -34,14 +34,13 @@ impl<V: Element> Elements<V> {
         }
     }
 
-    /// This value, so many times. There is room for all of them, and none is written.
+    /// This value, so many times. None is written, and room for them is asked for where the first one is.
     pub(crate) fn filled(alloc: Global, value: &V, count: usize) -> Result<Elements<V>, AllocError>
         ensures { IfOk result (λ it. all_of it ≡ replicate count value.now) }
     {
-        let written = Vec::with_capacity(alloc, count)?;
         let rest = Some(value.clone()?);
         Ok(Elements {
-            written,
+            written: Vec::new(alloc),
             rest,
             unwritten: count,
         })
@@ -136,6 +135,7 @@ impl<V: Element> Elements<V> {
         let Some(value) = &self.rest else {
             return Ok(());
         };
+        reserve_first(&mut self.written, self.unwritten)?;
         let count = more.saturating_add(AHEAD).min(self.unwritten);
         value.append(&mut self.written, count)?;
         self.unwritten -= count;

@@ -33,6 +33,9 @@ use strings::Text;
 /// How many objects have a place without a page.
 const FIRST: usize = 4096;
 
+/// As how many values an object counts, beside those that it held when it was made.
+const EACH_OBJECT: usize = 2;
+
 /// The objects of a run. Contracts see the list of them in the order of making; an object's number is its place there.
 #[derive(Drop)]
 pub struct Heap<V> {
@@ -42,6 +45,8 @@ pub struct Heap<V> {
     rest: Pages<V>,
     // How many were made.
     count: usize,
+    // How much was made, counted in values.
+    made: usize,
 }
 
 impl<V> Model for Heap<V> {
@@ -64,6 +69,7 @@ impl<V: Element> Heap<V> {
             first: Page::new(alloc),
             rest: Pages::new(alloc),
             count: 0,
+            made: 0,
         }
     }
 
@@ -73,16 +79,6 @@ impl<V: Element> Heap<V> {
         ensures { result ≡ length self.now }
     {
         self.count
-    }
-
-    /// How many values an object holds.
-    pub fn size(&self, object: usize) -> usize
-        ensures { result ≡ length (values_in (slice_get self.now object)) }
-    {
-        match self.object(object) {
-            Some(object) => object.size(),
-            None => 0,
-        }
     }
 
     /// Below which place each value stands that an object holds.
@@ -361,6 +357,13 @@ impl<V: Element> Heap<V> {
         self.rest.clear(alloc, marks, self.first.count());
     }
 
+    /// How much was made so far, counted in values: each object, and the values that it held when it was made. No contract
+    /// speaks of it.
+    #[inline(always)]
+    pub fn made_size(&self) -> usize {
+        self.made
+    }
+
     /// How much is held, told in values: what objects hold, and the room for objects. No contract speaks of it.
     pub fn held_size(&self) -> usize {
         self.rest.held_size().saturating_add(self.first.held_size())
@@ -385,16 +388,22 @@ impl<V: Element> Heap<V> {
         ensures refused { OnErr result (self.new ≡ self.old) }
     {
         let number = self.count;
+        let made = self
+            .made
+            .saturating_add(object.size())
+            .saturating_add(EACH_OBJECT);
         let Some(next) = number.checked_add(1) else {
             return Err(AllocError);
         };
         if number < FIRST && number == self.first.count() {
             self.first.push(object)?;
             self.count = next;
+            self.made = made;
             return Ok(number);
         }
         self.rest.push(object)?;
         self.count = next;
+        self.made = made;
         Ok(number)
     }
 }

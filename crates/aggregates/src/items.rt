@@ -32,6 +32,17 @@ pub(crate) fn push<T: Drop>(items: &mut Vec<T>, item: T) -> Result<(), AllocErro
     Ok(())
 }
 
+/// Room for so many items, if there is none for any.
+#[inline(always)]
+pub(crate) fn reserve_first<T: Drop>(items: &mut Vec<T>, count: usize) -> Result<(), AllocError>
+    ensures { items.new.items ≡ items.old.items }
+{
+    if items.capacity() == 0 {
+        items.reserve_exact(count)?;
+    }
+    Ok(())
+}
+
 /// Another item at an index, if there is one.
 #[inline(always)]
 #[tactic(auto, using(crate::proofs::Lists::with_item_past, crate::proofs::Lists::with_item_set))]

@@ -14,6 +14,7 @@
 
 mod array;
 mod bounds;
+mod dimensions;
 mod element;
 mod elements;
 mod field_values;

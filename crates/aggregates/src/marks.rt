@@ -37,7 +37,7 @@ impl Marks {
     {
         let mut pages = Vec::with_capacity(alloc, count / PAGE + 1)?;
         for _page in 0..count / PAGE + 1 {
-            pages.push(Flags::new(alloc))?;
+            pages.push_reserved(Flags::new(alloc));
         }
         Ok(Marks {
             pages,
@@ -92,12 +92,15 @@ impl Marks {
         self.pages[number / PAGE].is_set(number % PAGE)
     }
 
-    /// Whether no object of a page has a mark and each might have one, if a page begins with this number.
-    pub(crate) fn has_none(&self, first: usize) -> bool
-        ensures { result ≡ true → (j : ℕ) → j < 512 → marks_in self.now (first + j) ≡ false }
+    /// Whether no object of a page has a mark and each might have one, if a page begins with the number `first + index`.
+    pub(crate) fn has_none(&self, first: usize, index: usize) -> bool
+        ensures { result ≡ true → (j : ℕ) → j < 512 → marks_in self.now (first + (index + j)) ≡ false }
     {
-        let page = first / PAGE;
-        if first % PAGE != 0 || page >= self.count / PAGE {
+        let Some(number) = first.checked_add(index) else {
+            return false;
+        };
+        let page = number / PAGE;
+        if number % PAGE != 0 || page >= self.count / PAGE {
             return false;
         }
         self.pages[page].is_empty()

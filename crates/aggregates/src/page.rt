@@ -1,16 +1,17 @@
 //! A page of objects: those that have numbers one after the other.
 
-ghost use Rattle.std.specs.Prelude.{◌≡◌, ◌<◌, ◌+◌, ◌++◌, ◌∷◌, [], length, slice_get, slice_set, Some, true, false, IfOk, OnOk, OnErr, option_map};
+ghost use Rattle.std.specs.Prelude.{◌≡◌, ◌<◌, ◌≤◌, ◌+◌, ◌++◌, ◌∷◌, [], length, slice_get, slice_set, Some, true, false, IfOk, OnOk, OnErr, option_map};
 ghost use Rattle.std.specs.Option.{option_copied};
 ghost use Rattle.model.specs.Language.Operators.{with_element, with_value_for};
 ghost use Rattle.model.specs.Language.Values as values;
 ghost use Rattle.model.specs.Machine.Living.{cleared};
-ghost use Rattle.aggregates.specs.Made.{object_of};
+ghost use Rattle.aggregates.specs.Made.{object_of, IsClearedOn};
 ghost use Rattle.aggregates.specs.Marked.{marks_in};
 ghost use Rattle.aggregates.specs.Objects.{stored_at, put_at, if_stored, index_in};
 ghost use Rattle.aggregates.specs.Paged.{whole};
 
 use crate::element::Element;
+use crate::flags::PAGE;
 use crate::items::push;
 use crate::marks::Marks;
 use crate::object::Object;
@@ -192,18 +193,48 @@ impl<V: Element> Page<V> {
     pub(crate) fn clear(&mut self, alloc: Global, marks: &Marks, first: usize)
         ensures { self.new ≡ cleared (λ j. marks_in marks.now (first + j)) self.old }
     {
-        for i in 0..self.objects.len() {
-            if !marks.is_marked(first, i) {
-                self.objects[i].clear(alloc);
-            }
+        let count = self.objects.len();
+        let mut place = 0;
+        while place < count {
+            place = self.clear_part(alloc, marks, first, place);
         }
     }
 
+    // The same from a place on, as far as a page of marks goes: the place behind.
+    fn clear_part(&mut self, alloc: Global, marks: &Marks, first: usize, place: usize) -> usize
+        requires { place < length self.old }
+        ensures cleared { IsClearedOn (λ j. marks_in marks.now (first + j)) place result self.old self.new }
+        ensures long { length self.new ≡ length self.old }
+        ensures on { place < result }
+        ensures within { result ≤ length self.old }
+    {
+        let none = marks.has_none(first, place);
+        let end = place.saturating_add(PAGE).min(self.objects.len());
+        for i in place..end {
+            if is_unmarked(marks, first, i, none) {
+                self.objects[i].clear(alloc);
+            }
+        }
+        end
+    }
+
     /// The same, for a page: it holds nothing from then on where none of its objects has a mark. Takes no memory.
+    #[inline(always)]
     pub(crate) fn give_back(&mut self, alloc: Global, marks: &Marks, first: usize)
         ensures { whole self.new ≡ cleared (λ j. marks_in marks.now (first + j)) (whole self.old) }
     {
-        if marks.has_none(first) {
+        if self.objects.len() == 0 {
+            return;
+        }
+        self.give_back_held(alloc, marks, first);
+    }
+
+    // The same, where some are held.
+    #[inline(never)]
+    fn give_back_held(&mut self, alloc: Global, marks: &Marks, first: usize)
+        ensures { whole self.new ≡ cleared (λ j. marks_in marks.now (first + j)) (whole self.old) }
+    {
+        if marks.has_none(first, 0) {
             *self = Page::new(alloc);
             return;
         }
@@ -218,4 +249,17 @@ impl<V: Element> Page<V> {
         }
         size
     }
+}
+
+// Whether an object has no mark, or none of those beside it has one.
+#[inline(always)]
+fn is_unmarked(marks: &Marks, first: usize, index: usize, none: bool) -> bool
+    requires { none ≡ true → marks_in marks.now (first + index) ≡ false }
+    ensures unmarked { result ≡ true → marks_in marks.now (first + index) ≡ false }
+    ensures marked { result ≡ false → marks_in marks.now (first + index) ≡ true }
+{
+    if none {
+        return true;
+    }
+    !marks.is_marked(first, index)
 }

@@ -20,6 +20,9 @@ use crate::table::Table;
 use std::alloc::{AllocError, Global};
 use std::marker::Model;
 
+/// As how many values a page counts, beside those that are held in it.
+const EACH_PAGE: usize = 8;
+
 /// Objects by their numbers. Contracts see the list of them; an empty table stands for each that was given back.
 #[derive(Drop)]
 pub(crate) struct Pages<V> {
@@ -174,7 +177,7 @@ impl<V: Element> Pages<V> {
 
     /// How much is held, told in values. No contract speaks of it.
     pub(crate) fn held_size(&self) -> usize {
-        let mut size = self.pages.len();
+        let mut size = self.pages.len().saturating_mul(EACH_PAGE);
         for page in self.pages.as_slice() {
             size = size.saturating_add(page.held_size());
         }

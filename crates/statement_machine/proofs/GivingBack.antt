@@ -165,12 +165,5 @@ state_lives s variables operands saved last vars more ops more' values grown obj
 
 -- ---- runs that are the same but for what was given back
 
-pub same_on : (a b c : Run) → IsSameRun a b → IsSameRun b c → IsSameRun a c
-same_on a b c h k = record {
-  same = k.same ∙ ap (λ (r : Run). record r { state = record r.state { world = c.state.world }; pace = c.pace }) h.same;
-  names = k.names ∙ h.names;
-  collected = λ im io. collected_on _ _ _ (h.collected im io) (k.collected im io);
-}
-
 pub given_world : (old : Run) (pace : CollectionSchedule) (w : WorldView) (marks : MarksView) → IsInCalls old → StateLives old.state marks → w ≡ without_unmarked old.state.world marks → IsSameRun old (record old { state = record old.state { world = w }; pace = pace })
 given_world old pace w marks calls lives e = given_back old _ marks calls lives (ap (λ v. record old { state = record old.state { world = v }; pace = pace }) e)

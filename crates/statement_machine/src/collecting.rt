@@ -12,26 +12,16 @@ use instruction_steps::State;
 use std::alloc::AllocError;
 use world::{World, mark_values};
 
-/// How much objects hold that are made before any is given back.
+/// How much is made before objects are given back, at least.
 const LEAST: usize = 1 << 16;
 
-/// How many objects joined steps make before they leave a constructor to a plain step. Objects are counted, and given back,
-/// only where the loop of joined steps is left. A loop whose calls are all joined never leaves it: without this bound, a run
-/// that makes nothing but records would give none back.
-const UNCOUNTED: usize = 256;
-
-/// As how many values an object counts, beside those that it held when it was made.
-const EACH_OBJECT: usize = 2;
-
-/// When objects are given back: once five eighths as much was made as stayed the last time. It counts objects and the values
-/// that they held when they were made.
+/// When objects are given back: once five eighths as much was made as stayed the last time. What is made is counted in
+/// values: the objects, and the values that they held when they were made.
 #[derive(Clone, Copy)]
 pub(crate) struct CollectionSchedule {
-    // How many objects were counted.
-    counted: usize,
-    // How much was made since objects were given back.
-    made: usize,
-    // How much is made before objects are given back.
+    // How much was made, over the whole run, when objects were given back the last time.
+    begun: usize,
+    // How much was made when they are given back again.
     due: usize,
 }
 
@@ -39,34 +29,26 @@ impl CollectionSchedule {
     /// Nothing was made.
     pub(crate) fn new() -> CollectionSchedule {
         CollectionSchedule {
-            counted: 0,
-            made: 0,
+            begun: 0,
             due: LEAST,
         }
     }
 
-    /// Whether so many objects weren't counted that the next is left to a plain step, behind which they are.
+    /// Whether objects are to be given back.
     #[inline(always)]
-    pub(crate) fn is_behind(&self, world: &World) -> bool {
-        world.object_count() >= self.counted.saturating_add(UNCOUNTED)
+    pub(crate) fn is_due(&self, world: &World) -> bool {
+        world.made_size() >= self.due
     }
 
-    // Counts the objects that were made. Whether objects are to be given back.
-    #[inline(never)]
-    fn count(&mut self, world: &World) -> bool {
-        let count = world.object_count();
-        for object in self.counted..count {
-            let size = world.object_size(object);
-            self.made = self.made.saturating_add(size).saturating_add(EACH_OBJECT);
-        }
-        self.counted = count;
-        self.made >= self.due
+    // How much was made since objects were given back.
+    fn made(&self, world: &World) -> usize {
+        world.made_size().saturating_sub(self.begun)
     }
 
     // From now on nothing was made. So much stayed.
-    fn begin(&mut self, stayed: usize) {
-        self.made = 0;
-        self.due = (stayed / 8 * 5).max(LEAST);
+    fn begin(&mut self, world: &World, stayed: usize) {
+        self.begun = world.made_size();
+        self.due = self.begun.saturating_add((stayed / 8 * 5).max(LEAST));
     }
 }
 
@@ -102,8 +84,8 @@ impl Run {
     fn collect(&mut self)
         ensures { IsSameRun self.old self.new }
     {
-        let made = self.pace.made;
-        self.pace.begin(made);
+        let made = self.pace.made(&self.state.world);
+        self.pace.begin(&self.state.world, made);
         if !self.is_in_calls() {
             return;
         }
@@ -112,7 +94,7 @@ impl Run {
         };
         self.state.world.drop_unmarked(self.state.alloc, &marks);
         let stayed = self.state.world.held_size();
-        self.pace.begin(stayed);
+        self.pace.begin(&self.state.world, stayed);
     }
 
     /// Gives back the objects that nothing reaches, if they are due.
@@ -120,11 +102,9 @@ impl Run {
     pub(crate) fn collect_if_due(&mut self)
         ensures { IsSameRun self.old self.new }
     {
-        if self.state.world.object_count() == self.pace.counted {
+        if !self.pace.is_due(&self.state.world) {
             return;
         }
-        if self.pace.count(&self.state.world) {
-            self.collect();
-        }
+        self.collect();
     }
 }

@@ -90,16 +90,10 @@ impl Value {
 }
 
 impl World {
-    /// How many objects there are.
-    pub fn object_count(&self) -> usize
-        ensures { result ≡ length self.now.objects }
-    {
-        self.heap.count()
-    }
-
-    /// How many values an object holds. No meaning sees it.
-    pub fn object_size(&self, object: usize) -> usize {
-        self.heap.size(object)
+    /// How much was made of objects so far, counted in values. No contract speaks of it.
+    #[inline(always)]
+    pub fn made_size(&self) -> usize {
+        self.heap.made_size()
     }
 
     /// No mark on any object.

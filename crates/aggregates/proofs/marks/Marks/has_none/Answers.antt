@@ -7,12 +7,15 @@ use Rattle.aggregates.proofs.marks.Marks.has_none.Goals as goal
 pub returns : goal.returns
 returns c is j less =
     let first = c.args.first in
-    let i = first / 512 in
+    let k = c.args.index in
+    let n = c.in-Some.number in
+    let i = n / 512 in
     let ps = c.self.inside.pages.items in
     let p = c.index.result.now in
     let s = start_is i in
-    let lt : first + j < c.self.inside.count = omega arith in
-    let at : first + j ≡ start 512 i + j = omega (arith, s) in
+    let same : first + (k + j) ≡ n + j = omega (arith, c.in-Some.ensures) in
+    let lt : n + j < c.self.inside.count = omega arith in
+    let at : n + j ≡ start 512 i + j = omega (arith, s) in
     let there : i < length ps = omega arith in
-    ap (λ m. marks_in m (first + j)) (sym c.self.view_is)
-    ∙ marked_at c.self.inside.count i j (first + j) ps p p lt at less there (sym c.index.ensures) ∙ ap (λ q. slice_index_or q j false) (c.is_empty.ensures is)
+    ap (marks_in c.args.self.now) same ∙ ap (λ m. marks_in m (n + j)) (sym c.self.view_is)
+    ∙ marked_at c.self.inside.count i j (n + j) ps p p lt at less there (sym c.index.ensures) ∙ ap (λ q. slice_index_or q j false) (c.is_empty.ensures is)

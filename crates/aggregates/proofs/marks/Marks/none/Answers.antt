@@ -13,4 +13,4 @@ returns c =
     let n = c.args.count in
     let m = c.loop-page._page in
     let le : n ≤ 512 * m = omega arith in
-    ap (λ bs. view_of bs c.new-2.result.items) (ap (λ ps. take n (paged false 512 ps)) c.loop-page.invariant ∙ none_set n m le) ∙ ap (view_of (replicate n false)) c.new-2.ensures.items
+    ap (λ bs. view_of bs c.new-2.result.items) (ap (λ ps. take n (paged false 512 ps)) c.loop-page.invariant.items ∙ none_set n m le) ∙ ap (view_of (replicate n false)) c.new-2.ensures.items

@@ -1,10 +1,13 @@
-use Rattle.std.proofs.Common.{◌≡◌, ◌+◌, length}
-use Rattle.model.specs.Machine.Living.{cleared}
-use Rattle.aggregates.specs.Made.{objects_of, marked_below}
+use Rattle.std.proofs.Common.{◌≡◌, ◌+◌, ◌-◌, length}
+use Rattle.aggregates.specs.Made.{IsClearedOn}
 use Rattle.aggregates.specs.Marked.{marks_in}
 use Rattle.aggregates.proofs.page.Page.clear.Given as goal
 
-abbrev pub invariant-loop-i : goal.invariant-loop-i
-invariant-loop-i g l =
-    (objects_of l.self-inside.objects.items ≡ cleared (marked_below l.i (λ j. marks_in l.marks (l.first + j))) (objects_of l.initial.self-inside.objects.items))
-    × (length l.self-inside.objects.items ≡ length l.initial.self-inside.objects.items)
+abbrev pub invariant-loop-place : goal.invariant-loop-place
+invariant-loop-place g l = record {
+  cleared : IsClearedOn (λ j. marks_in l.marks (l.first + j)) 0 l.place l.initial.self l.self;
+  long : length l.self ≡ length l.initial.self;
+}
+
+abbrev pub decreases-loop-place : goal.decreases-loop-place
+decreases-loop-place g l = l.count - l.place

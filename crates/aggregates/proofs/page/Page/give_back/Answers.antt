@@ -1,11 +1,17 @@
-use Rattle.std.proofs.Common.{◌+◌, ap, ◌∙◌}
+use Rattle.std.proofs.Common.{◌≡◌, ◌+◌, ◌≤◌, List, length, [], refl, sym, ap, arith, ◌∙◌}
+use Rattle.model.specs.Language.Values.{Object}
+use Rattle.model.specs.Machine.Living.{cleared}
+use Rattle.aggregates.specs.Made.{objects_of}
 use Rattle.aggregates.specs.Marked.{marks_in}
 use Rattle.aggregates.specs.Paged.{whole}
-use Rattle.aggregates.proofs.Clearing.{padded_cleared, page_dropped}
+use Rattle.aggregates.proofs.Objects.{objects_length}
+use Rattle.aggregates.proofs.Clearing.{nothing_held}
 use Rattle.aggregates.proofs.page.Page.give_back.Goals as goal
 
-pub returns-then-has_none : goal.returns-then-has_none
-returns-then-has_none g c = ap whole c.new.ensures ∙ page_dropped 512 (λ j. marks_in c.args.marks.now (c.args.first + j)) c.args.self.now (c.has_none.ensures c.if-has_none.true)
-
-pub returns : goal.returns
-returns g c = ap whole c.clear.ensures ∙ padded_cleared 512 (λ j. marks_in c.args.marks.now (c.args.first + j)) c.args.self.now
+pub returns-then-len-eq0 : goal.returns-then-len-eq0
+returns-then-len-eq0 g c =
+    let xs = c.self.inside.objects.items in
+    let same = objects_length xs in
+    let is = ap length c.self.view_is in
+    let none : length c.args.self.now ≤ 0 = omega (arith, same, is, c.len.ensures, c.if-len-eq0.true) in
+    nothing_held 512 (λ j. marks_in c.args.marks.now (c.args.first + j)) c.args.self.now none
