@@ -27,12 +27,22 @@ use world::Fault;
 
 /// The place of the statement that a label names, if it is no return. The label may be the string of this number, which
 /// saves the look-up.
+#[inline(always)]
 pub fn entry_of(program: &Module, label: &Text, number: u32) -> Option<usize>
     ensures { IfSome result (λ place. IsLabelled program.now label.now place) }
 {
-    if let Some(place) = program.place_labelled(label, number) {
-        return Some(place);
+    match program.place_labelled(label, number) {
+        Some(place) => Some(place),
+        None => find_entry(program, label),
     }
+}
+
+// The same by a look-up.
+#[cold]
+#[inline(never)]
+fn find_entry(program: &Module, label: &Text) -> Option<usize>
+    ensures { IfSome result (λ place. IsLabelled program.now label.now place) }
+{
     let bytes = label.as_slice();
     let None = ReturnKind::named(bytes) else {
         return None;

@@ -2,7 +2,7 @@ use Rattle.std.proofs.Common.{◌≡◌, None, Some, ◌∙◌, List, ℕ, subst
 use Rattle.model.specs.Language.Calls.{return_of}
 use Rattle.model.specs.Module.Images.{end_of, statement_labelled}
 use Rattle.instruction_steps.proofs.Called.{entry_there}
-use Rattle.instruction_steps.proofs.gotos.entry_of.Goals as goal
+use Rattle.instruction_steps.proofs.gotos.find_entry.Goals as goal
 
 pub returns : goal.returns
 returns c =
