@@ -81,6 +81,33 @@ note_is v n es self l s e h =
     none_of None h = refl
     none_of (Some x) h = cc
 
+-- a label that had no number
+pub new_is : (v : Text) (n : ℕ) (es : List (Text × ℕ)) (self : List (List ℕ × ℕ)) (earlier : Option ℕ) → map entry_of es ≡ self → earlier ≡ lookup (λ k. pointwise nat_eq v.now k.now) es → earlier ≡ None → map entry_of (insert_entry same es v n) ≡ with_label v.now n self
+new_is v n es self earlier s e none = note_is v n es self v.now s refl (ap is_some (ap (λ x. number_in x v.now) (sym s) ∙ sym (find_is v.now es) ∙ sym e ∙ none))
+
+-- a label that stands at a place has the number there
+pub near_is : (key : Text) (l : Bytes) (n : ℕ) (es : List (Text × ℕ)) (self : List (List ℕ × ℕ)) → map entry_of es ≡ self → lookup (λ k. pointwise nat_eq key.now k.now) es ≡ Some n → key.now ≡ l → number_in self l ≡ Some n
+near_is key l n es self s h e = ap (λ x. number_in x l) (sym s) ∙ sym (find_is l es) ∙ ap (λ (y : Bytes). lookup (λ k. pointwise nat_eq y k.now) es) (sym e) ∙ h
+
+-- the number that a label had is put back
+back_is : (v : Text) (n first : ℕ) (es : List (Text × ℕ)) → lookup (λ k. pointwise nat_eq v.now k.now) es ≡ Some first → insert_entry same (insert_entry same es v n) v first ≡ es
+back_is v n first [] h = cc
+back_is v n first (e ∷ es) h = by (back_is v n first es) (same v e.0) refl
+  where
+    by : (lookup (λ k. pointwise nat_eq v.now k.now) es ≡ Some first → insert_entry same (insert_entry same es v n) v first ≡ es) → (b : Bool) → same v e.0 ≡ b → insert_entry same (insert_entry same (e ∷ es) v n) v first ≡ e ∷ es
+    by rec true t =
+        let is : Some e.1 ≡ Some first = rw t at h in
+        rw t (rw t (ap (λ k. (e.0, k) ∷ es) (let z : first ≡ e.1 = cc in z)))
+    by rec false t =
+        let rest : lookup (λ k. pointwise nat_eq v.now k.now) es ≡ Some first = rw t at h in
+        rw t (rw t (ap (λ l. e ∷ l) (rec rest)))
+
+pub old_is : (v : Text) (n first : ℕ) (es : List (Text × ℕ)) (self : List (List ℕ × ℕ)) (earlier : Option ℕ) → map entry_of es ≡ self → earlier ≡ lookup (λ k. pointwise nat_eq v.now k.now) es → earlier ≡ Some first → map entry_of (insert_entry same (insert_entry same es v n) v first) ≡ with_label v.now n self
+old_is v n first es self earlier s e some =
+    ap (map entry_of) (back_is v n first es (sym e ∙ some))
+    ∙ s
+    ∙ sym (ap (λ b. if b then self else self ++ (v.now, n) ∷ []) (ap is_some (ap (λ x. number_in x v.now) (sym s) ∙ sym (find_is v.now es) ∙ sym e ∙ some)))
+
 -- ---- the loop over the labels that statements give
 
 -- what stands at a place of a list doesn't hang on what would stand past its end

@@ -142,9 +142,12 @@ impl<'n, 'a> ImageBuilder<'n, 'a> {
         ensures { IfOk result (HasPut (map name_of names.now) []) }
     {
         let labels = labels_of(alloc, names)?;
+        // Each label becomes a string.
+        let mut generator = Generator::new(alloc, arena);
+        generator.reserve_strings(labels.count())?;
         Ok(ImageBuilder {
             labels,
-            generator: Generator::new(alloc, arena),
+            generator,
             offsets: Vec::new(alloc),
             entry: None,
         })
@@ -162,6 +165,7 @@ impl<'n, 'a> ImageBuilder<'n, 'a> {
         let number = next_number(self.offsets.as_slice());
         let at = self.generator.at();
         self.offsets.push(at)?;
+        self.labels.pass(s);
         statement(alloc, &mut self.generator, &self.labels, number, s)?;
         self.entry = entry_after(&self.labels, self.entry, s);
         Ok(())

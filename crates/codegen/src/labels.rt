@@ -1,6 +1,6 @@
 //! The table of labels.
 
-ghost use Rattle.std.specs.Prelude.{◌≡◌, ◌≤◌, ◌<◌, ◌^◌, List, [], ℕ, map, length, option_map, OnOk, OnErr, IfOk};
+ghost use Rattle.std.specs.Prelude.{◌≡◌, ◌≤◌, ◌<◌, ◌^◌, List, [], ℕ, map, length, option_map, OnOk, OnErr, IfOk, IfSome, Some};
 ghost use Rattle.model.specs.Deck.TreeViews.{stmt_of};
 ghost use Rattle.codegen.specs.Labels.{but_end, entry_by, entry_of, entry_with, name_of, number_in};
 ghost use Rattle.codegen.specs.Labels.{number_among, with_label, with_name};
@@ -8,16 +8,23 @@ ghost use Rattle.codegen.specs.Labels.{number_among, with_label, with_name};
 use indexmap::IndexMap;
 use model::Stmt;
 use std::alloc::{AllocError, Global};
+use std::cell::Cell;
 use std::marker::Model;
 
 /// Labels with the numbers of their statements.
 pub struct Labels<'a> {
     numbers: IndexMap<&'a [u8], u32>,
+    /// How many labels were passed on the way through the statements. The last of them and the next one are looked at
+    /// before all others.
+    passed: Cell<usize>,
 }
 
 impl<'a> Drop for Labels<'a> {
     fn drop(self) {
-        let Labels { numbers: _ } = self;
+        let Labels {
+            numbers: _,
+            passed: _,
+        } = self;
     }
 }
 
@@ -34,6 +41,43 @@ impl<'a> Labels<'a> {
     {
         Labels {
             numbers: IndexMap::new(alloc),
+            passed: Cell::new(0),
+        }
+    }
+
+    // No labels, and room for so many.
+    fn with_room(alloc: Global, count: usize) -> Result<Labels<'a>, AllocError>
+        ensures { IfOk result (λ labels. labels ≡ []) }
+    {
+        Ok(Labels {
+            numbers: IndexMap::with_capacity(alloc, count)?,
+            passed: Cell::new(0),
+        })
+    }
+
+    /// How many labels there are.
+    pub(crate) fn count(&self) -> usize {
+        self.numbers.len()
+    }
+
+    // The number of a label, if it is the one at a place of the table.
+    #[inline(always)]
+    fn number_at(&self, place: usize, label: &[u8]) -> Option<u32>
+        ensures { IfSome result (λ n. number_in self.now label.now ≡ Some n) }
+    {
+        let (key, number) = self.numbers.get_index(place)?;
+        if *key == label { Some(*number) } else { None }
+    }
+
+    // The number of a label, if it is the last one that was passed, or the next one.
+    #[inline(always)]
+    fn number_near(&self, label: &[u8]) -> Option<u32>
+        ensures { IfSome result (λ n. number_in self.now label.now ≡ Some n) }
+    {
+        let passed = self.passed.get();
+        match self.number_at(passed.saturating_sub(1), label) {
+            Some(number) => Some(number),
+            None => self.number_at(passed, label),
         }
     }
 
@@ -41,7 +85,17 @@ impl<'a> Labels<'a> {
     pub fn find(&self, label: &[u8]) -> Option<u32>
         ensures { result ≡ number_in self.now label.now }
     {
-        self.numbers.get(label).copied()
+        match self.number_near(label) {
+            Some(number) => Some(number),
+            None => self.numbers.get(label).copied(),
+        }
+    }
+
+    /// Notes that a statement is passed.
+    pub(crate) fn pass(&self, statement: &Stmt) {
+        if let Stmt::Plain { label: Some(_), .. } = statement {
+            self.passed.set(self.passed.get().saturating_add(1));
+        }
     }
 
     /// Notes the number of a label's statement, unless the label has one.
@@ -49,10 +103,10 @@ impl<'a> Labels<'a> {
         ensures noted { OnOk result (self.new ≡ with_label label.now number self.old) }
         ensures refused { OnErr result (self.new ≡ self.old) }
     {
-        if self.find(label).is_some() {
-            return Ok(());
+        let earlier = self.numbers.insert(label, number)?;
+        if let Some(first) = earlier {
+            self.numbers.insert(label, first)?;
         }
-        self.numbers.insert(label, number)?;
         Ok(())
     }
 
@@ -108,13 +162,22 @@ pub(crate) fn entry_after(labels: &Labels<'_>, entry: Option<u32>, s: &Stmt) -> 
     }
 }
 
+// How many statements give a label.
+fn count_given(names: &[Option<&[u8]>]) -> usize {
+    let mut count: usize = 0;
+    for name in names {
+        count = count.saturating_add(usize::from(name.is_some()));
+    }
+    count
+}
+
 /// The labels of a program's statements, by the label that each gives.
 pub fn labels_of<'a>(alloc: Global, names: &[Option<&'a [u8]>]) -> Result<Labels<'a>, AllocError>
     requires { length names.now < 2 ^ 31 }
     ensures { IfOk result (λ labels.
         (l : List ℕ) → number_in labels l ≡ number_among 1 (map name_of names.now) l) }
 {
-    let mut labels = Labels::new(alloc);
+    let mut labels = Labels::with_room(alloc, count_given(names))?;
     let mut number = 1;
     for name in names {
         labels.note_given(*name, number)?;

@@ -54,6 +54,13 @@ impl<'a> Generator<'a> {
         }
     }
 
+    /// Makes room for so many more strings.
+    pub fn reserve_strings(&mut self, count: usize) -> Result<(), AllocError>
+        ensures { gen_of self.new ≡ gen_of self.old }
+    {
+        self.strings.reserve(count)
+    }
+
     /// The offset behind the code so far.
     pub fn at(&self) -> u32
         ensures { result ≡ length (gen_of self.now).code }

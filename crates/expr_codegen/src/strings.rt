@@ -38,6 +38,13 @@ impl<'a> Strings<'a> {
         }
     }
 
+    /// Makes room for so many more strings.
+    pub fn reserve(&mut self, count: usize) -> Result<(), AllocError>
+        ensures { self.new ≡ self.old }
+    {
+        self.set.reserve(count)
+    }
+
     /// The number of a string, which is put last unless it is there.
     pub fn number(&mut self, text: &[u8]) -> Result<u32, AllocError>
         requires { length self.old < 2 ^ 31 }

@@ -3,8 +3,6 @@ use Rattle.std.proofs.Common.{◌≡◌, ◌∙◌, refl, sym, ap, ◌||◌, ◌
 use Rattle.std.specs.Str.{bytes_eq}
 use Rattle.std.specs.List.{list_any}
 use Rattle.std.specs.Cmp.Lexicographic.{pointwise}
-use Rattle.std.specs.Prelude.{Result, Ok, Err, OnOk}
-use Rattle.std.specs.declared.alloc.AllocError.{AllocError}
 use Rattle.std.proofs.lemmas.List.{map-append}
 use Rattle.std.proofs.lemmas.Slice.Eq.{bytes_eq-Decides}
 use Rattle.std.proofs.Math.Bool.{or-false, or_assoc}
@@ -49,9 +47,8 @@ put_same l old ls same x =
     ] refl ∙ sym (among_both x ls (l ∷ []))
 
 -- what a call that puts a label says
-pub is_put : (r : Result Unit AllocError) (new old : List Bytes) (l : Bytes) (given : List Bytes) → OnOk r (new ≡ with_label old l) → l ∷ [] ≡ given → OnOk r ((ls : List Bytes) → AreSame old ls → AreSame new (ls ++ given))
-is_put (Ok u) new old l given e g = λ ls same. rw (e, sym g) (put_same l old ls same)
-is_put (Err x) new old l given e g = tt
+pub is_put : (new old : List Bytes) (l : Bytes) (given : List Bytes) → new ≡ with_label old l → l ∷ [] ≡ given → (ls : List Bytes) → AreSame old ls → AreSame new (ls ++ given)
+is_put new old l given e g ls same = rw (e, sym g) (put_same l old ls same)
 
 pub taken_same : (old ls : List Bytes) → AreSame old ls → (given : List Bytes) → is_taken old given ≡ is_taken ls given
 taken_same old ls same [] = refl

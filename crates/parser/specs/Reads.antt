@@ -1,5 +1,5 @@
 -- Statements as they are read, one after the other.
-use Rattle.std.specs.Prelude.{◌≡◌, ◌≢◌, ◌++◌, not, true, List, [], ◌∷◌, Option, Some, None, Result, Ok, Err, if◌then◌else◌}
+use Rattle.std.specs.Prelude.{◌≡◌, ◌≢◌, ◌++◌, Bool, not, true, List, [], ◌∷◌, Option, Some, None, Result, Ok, Err, if◌then◌else◌}
 use Rattle.model.specs.declared.cards.Statement.{Statement}
 use Rattle.model.specs.declared.causes.Cause.{Cause}
 use Rattle.model.specs.declared.causes.Cause.TheVariants as cause
@@ -27,13 +27,17 @@ IsRead found (Err c) = c ≢ cause.Memory → found ≡ Err c
 
 -- ---- the rules that a statement may break, by whether they ask for the labels of later statements
 
--- the least of those that don't
-abbrev pub early_rule : (earlier : List Bytes) → Stmt → Option Cause
-early_rule earlier s =
-    if is_taken earlier (label_given s) then Some cause.LabelTaken
+-- the least of those that don't, of a statement whose label is taken or isn't
+abbrev pub rule_if : (is_taken : Bool) → Stmt → Option Cause
+rule_if is_taken s =
+    if is_taken then Some cause.LabelTaken
     else (if not (throughout call_fits s) then Some cause.TooManyArguments
     else (if not (throughout keyword_known s) then Some cause.UnknownKeyword
     else (if not (targets_fit s) then Some cause.NotATarget else None)))
+
+-- the same where the earlier statements give these labels
+abbrev pub early_rule : (earlier : List Bytes) → Stmt → Option Cause
+early_rule earlier s = rule_if (is_taken earlier (label_given s)) s
 
 -- the one that does
 abbrev pub entry_rule : (all : List Bytes) → Stmt → Option Cause

@@ -1,13 +1,11 @@
 //! The labels that statements give.
 
-ghost use Rattle.std.specs.Prelude.{◌≡◌, ◌++◌, [], ◌∷◌, List, ℕ, map, OnOk, option_map, option_to_list};
+ghost use Rattle.std.specs.Prelude.{◌≡◌, ◌++◌, [], ◌∷◌, List, ℕ, map, IfOk, OnOk, option_map, option_to_list};
 ghost use Rattle.model.specs.Deck.Faults as faults;
 ghost use Rattle.model.specs.Deck.Trees.{Bytes};
-ghost use Rattle.model.specs.Deck.TreeViews.{stmt_of};
 ghost use Rattle.parser.specs.Labels.{AreSame, with_label};
 
 use indexmap::IndexSet;
-use model::Stmt;
 use std::alloc::{AllocError, Global};
 use std::marker::Model;
 
@@ -28,19 +26,12 @@ impl<'a> Model for Labels<'a> {
     ghost view = { λ s. map (λ k. k.now) s.set.keys };
 }
 
-/// The label that a statement gives.
-pub(crate) fn label_given(statement: &Stmt) -> Option<&[u8]>
-    ensures { option_to_list (option_map (λ l. l.now) result)
-        ≡ faults.label_given (stmt_of statement.now) }
+fn is_return(label: &[u8]) -> bool
+    ensures { result ≡ faults.is_one_of label.now faults.returns }
 {
-    match statement {
-        Stmt::Plain {
-            label: Some(label),
-            ..
-        } => Some(label.as_slice()),
-        Stmt::Plain { label: None, .. } => None,
-        Stmt::End { .. } => Some(b"END".as_slice()),
-    }
+    label == b"RETURN".as_slice()
+        || label == b"FRETURN".as_slice()
+        || label == b"NRETURN".as_slice()
 }
 
 impl<'a> Labels<'a> {
@@ -53,22 +44,28 @@ impl<'a> Labels<'a> {
         }
     }
 
-    // Puts a label, unless it is there.
-    fn insert(&mut self, label: &'a [u8]) -> Result<(), AllocError>
-        ensures { OnOk result (self.new ≡ with_label self.old label.now) }
+    // Puts a label, unless it is there. Whether it was.
+    fn insert(&mut self, label: &'a [u8]) -> Result<bool, AllocError>
+        ensures put { OnOk result (self.new ≡ with_label self.old label.now) }
+        ensures was { IfOk result (λ there. there ≡ faults.is_one_of label.now self.old) }
     {
-        self.set.insert(label)?;
-        Ok(())
+        let is_new = self.set.insert(label)?;
+        Ok(!is_new)
     }
 
-    /// Puts the label that a statement gives, if it gives one.
-    pub(crate) fn insert_given(&mut self, label: Option<&'a [u8]>) -> Result<(), AllocError>
-        ensures { OnOk result ((ls : List Bytes) → AreSame self.old ls
+    /// Puts the label that a statement gives, if it gives one. Whether it is one that returns have, or was there.
+    pub(crate) fn insert_given(&mut self, label: Option<&'a [u8]>) -> Result<bool, AllocError>
+        ensures put { OnOk result ((ls : List Bytes) → AreSame self.old ls
             → AreSame self.new (ls ++ option_to_list (option_map (λ l. l.now) label.entry))) }
+        ensures taken { IfOk result (λ taken. taken
+            ≡ faults.is_taken self.old (option_to_list (option_map (λ l. l.now) label.entry))) }
     {
         match label {
-            Some(label) => self.insert(label),
-            None => Ok(()),
+            Some(label) => {
+                let there = self.insert(label)?;
+                Ok(is_return(label) || there)
+            }
+            None => Ok(false),
         }
     }
 

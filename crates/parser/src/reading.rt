@@ -216,8 +216,8 @@ impl<'a> Reader<'a> {
             → HasRead (ss ++ statement.now ∷ []) self.new) }
         ensures given { IfOk result (IsGiven statement.now self.old) }
     {
-        let cause = rule_broken(&tree.statement, &self.labels);
-        self.labels.insert_given(first_name(statement.text()))?;
+        let is_taken = self.labels.insert_given(first_name(statement.text()))?;
+        let cause = rule_broken(&tree.statement, is_taken);
         let number = statement.number();
         match cause {
             Some(cause) => {

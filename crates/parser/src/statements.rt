@@ -1,13 +1,12 @@
 //! The rules that statements keep.
 
-ghost use Rattle.std.specs.Prelude.{◌≡◌, option_map, option_to_list};
+ghost use Rattle.std.specs.Prelude.{◌≡◌};
 ghost use Rattle.model.specs.Deck.Faults as faults;
 ghost use Rattle.model.specs.Language.Names.{key_named};
 ghost use Rattle.model.specs.Deck.TreeViews.{body_of, goto_of, object_of, place_of, stmt_of};
-ghost use Rattle.parser.specs.Reads.{early_rule};
+ghost use Rattle.parser.specs.Reads.{rule_if};
 ghost use Rattle.parser.specs.Rules.{AreKept};
 
-use crate::labels::{Labels, label_given};
 use crate::rules::{Kept, is_target, keeps};
 use model::{Body, Cause, Expr, Goto, KeyId, Place, Stmt};
 
@@ -94,32 +93,13 @@ fn targets_fit(statement: &Stmt, kept: Kept) -> bool
     }
 }
 
-fn is_return(label: &[u8]) -> bool
-    ensures { result ≡ faults.is_one_of label.now faults.returns }
-{
-    label == b"RETURN".as_slice()
-        || label == b"FRETURN".as_slice()
-        || label == b"NRETURN".as_slice()
-}
-
-// Whether a label is one that returns have, or an earlier statement gives it.
-fn is_taken(label: Option<&[u8]>, earlier: &Labels<'_>) -> bool
-    ensures { result ≡ faults.is_taken earlier.now
-        (option_to_list (option_map (λ l. l.now) label.entry)) }
-{
-    match label {
-        Some(label) => is_return(label) || earlier.contains(label),
-        None => false,
-    }
-}
-
-/// The least rule that a statement breaks, where the earlier statements give these labels, but for the one that asks for
-/// the labels of later ones.
-pub(crate) fn rule_broken(statement: &Stmt, earlier: &Labels<'_>) -> Option<Cause>
-    ensures { result ≡ early_rule earlier.now (stmt_of statement.now) }
+/// The least rule that a statement breaks, whose label is taken or isn't, but for the one that asks for the labels of
+/// later ones.
+pub(crate) fn rule_broken(statement: &Stmt, is_taken: bool) -> Option<Cause>
+    ensures { result ≡ rule_if is_taken (stmt_of statement.now) }
 {
     let kept = statement_keeps(statement);
-    if is_taken(label_given(statement), earlier) {
+    if is_taken {
         Some(Cause::LabelTaken)
     } else if !kept.calls {
         Some(Cause::TooManyArguments)

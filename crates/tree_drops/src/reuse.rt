@@ -27,6 +27,22 @@ pub struct FreeParts {
     lists: Vec<Vec<Argument>>,
 }
 
+// An expression that is a text: a box of its kind with another text, or a new one.
+macro_rules! leaf {
+    ($parts:expr, $list:ident, $kind:ident, $text:expr) => {{
+        if let Some(found) = $parts.$list.pop() {
+            let mut node = found;
+            if let Expr::$kind(text) = &mut *node {
+                text.clear();
+                text.extend_from_slice($text)?;
+                return Ok(node);
+            }
+        }
+        let text = Vec::from_slice($parts.alloc, $text)?;
+        Ok(Box::new($parts.alloc, Expr::$kind(text))?)
+    }};
+}
+
 impl Drop for FreeParts {
     fn drop(self) {
         let FreeParts {
@@ -80,16 +96,7 @@ impl FreeParts {
     pub fn name(&mut self, text: &[u8]) -> Result<Box<Expr>, AllocError>
         ensures { IfOk result (λ e. expr_of e.value ≡ trees.Name text.now) }
     {
-        if let Some(found) = self.names.pop() {
-            let mut node = found;
-            if let Expr::Name(name) = &mut *node {
-                name.clear();
-                name.extend_from_slice(text)?;
-                return Ok(node);
-            }
-        }
-        let name = Vec::from_slice(self.alloc, text)?;
-        Ok(Box::new(self.alloc, Expr::Name(name))?)
+        leaf!(self, names, Name, text)
     }
 
     /// A literal of these bytes.
@@ -97,16 +104,7 @@ impl FreeParts {
     pub fn literal(&mut self, text: &[u8]) -> Result<Box<Expr>, AllocError>
         ensures { IfOk result (λ e. expr_of e.value ≡ trees.Literal text.now) }
     {
-        if let Some(found) = self.literals.pop() {
-            let mut node = found;
-            if let Expr::Literal(literal) = &mut *node {
-                literal.clear();
-                literal.extend_from_slice(text)?;
-                return Ok(node);
-            }
-        }
-        let literal = Vec::from_slice(self.alloc, text)?;
-        Ok(Box::new(self.alloc, Expr::Literal(literal))?)
+        leaf!(self, literals, Literal, text)
     }
 
     /// A keyword by its name.
@@ -114,16 +112,7 @@ impl FreeParts {
     pub fn keyword(&mut self, text: &[u8]) -> Result<Box<Expr>, AllocError>
         ensures { IfOk result (λ e. expr_of e.value ≡ trees.Keyword text.now) }
     {
-        if let Some(found) = self.keywords.pop() {
-            let mut node = found;
-            if let Expr::Keyword(name) = &mut *node {
-                name.clear();
-                name.extend_from_slice(text)?;
-                return Ok(node);
-            }
-        }
-        let name = Vec::from_slice(self.alloc, text)?;
-        Ok(Box::new(self.alloc, Expr::Keyword(name))?)
+        leaf!(self, keywords, Keyword, text)
     }
 
     /// An integer.
