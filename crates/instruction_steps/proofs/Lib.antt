@@ -1,4 +1,5 @@
 pub mod Asked
+pub mod Assigning
 pub mod Beginning
 pub mod Called
 pub mod Calling

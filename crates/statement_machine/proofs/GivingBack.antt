@@ -1,13 +1,15 @@
 -- Runs that give objects back between steps.
-use Rattle.std.proofs.Common.{◌≡◌, ℕ, Bool, List, ◌-◌, ◌≤◌, arith, ◌++◌, map, refl, sym, ap, ◌∙◌, subst, Option}
+use Rattle.std.proofs.Common.{◌≡◌, ℕ, suc, Bool, true, false, List, [], ◌∷◌, ◌-◌, ◌≤◌, arith, ◌++◌, length, map, refl, sym, ap, ◌∙◌, subst, Option, if◌then◌else◌}
 use Rattle.model.specs.declared.image.Image.{Image}
 use Rattle.model.specs.declared.run.Ending.{Ending}
 use Rattle.model.specs.Language.Io.{Io}
 use Rattle.model.specs.Language.Told.{IfTold}
 use Rattle.model.specs.Laws.Agreement.{seen_at}
-use Rattle.model.specs.Machine.Living.{AlikeBy, runs, matches, ended, stuck, Collected, never, once_more, Grows, OperandsLive, ValueLives, ValuesLive}
+use Rattle.model.specs.Language.Values.{Object}
+use Rattle.model.specs.Machine.InRange.{ObjectIn, ObjectsIn, StateIn, WorldIn}
+use Rattle.model.specs.Machine.Living.{AlikeBy, runs, matches, ended, stuck, Collected, never, once_more, Grows, OperandsLive, ValueLives, ValuesLive, cleared, no_object}
 use Rattle.model.specs.Machine.Steps as m
-use Rattle.model.specs.Machine.Steps.{steps}
+use Rattle.model.specs.Machine.Steps.{MVal, steps}
 use Rattle.model.specs.Module.Images.{module_of}
 use Rattle.model.proofs.Machine.Collecting.{operands_on, steps_collected, value_on}
 use Rattle.model.proofs.Machine.StepsLiving.{seen_alike}
@@ -15,7 +17,7 @@ use Rattle.segments.proofs.Leading.{steps_rest}
 use Rattle.statement_machine.proofs.Running.{some_made}
 use Rattle.unit_io.proofs.Serving.{told_then}
 use Rattle.instruction_steps.specs.Held.{handlers_in, state_of, waiting}
-use Rattle.statement_machine.specs.Runs.{LacksNothing, TaskStands, left_at, run_of, state_at}
+use Rattle.statement_machine.specs.Runs.{IsInRange, LacksNothing, TaskStands, left_at, run_of, state_at}
 use Rattle.statement_machine.specs.Collecting.{IsInCalls, IsSameRun, StateLives}
 use Rattle.statement_machine.specs.declared.collecting.CollectionSchedule.{CollectionSchedule}
 use Rattle.statement_machine.specs.declared.run.Run.{Run}
@@ -110,11 +112,27 @@ ended_given im left e now mid s io io' total given h over = subst (λ x. Collect
 stands_in : (im : Image) (t : Task) (fs : List Frame) (s : State) (w : WorldView) → TaskStands im t fs s → TaskStands im t fs (record s { world = w })
 stands_in im task.Code fs s w h = h
 stands_in im (task.Match g) fs s w h = h
-stands_in im task.Stuck fs s w h = h
 
 pub lacks_nothing : (im : Image) (old new : Run) → IsSameRun old new → LacksNothing im old → LacksNothing im new
 lacks_nothing im old new h k =
     subst (λ r. LacksNothing im r) (sym h.same) (k.0, stands_in im old.task old.frames.top old.state new.state.world k.1)
+
+-- ---- each expression that a run holds
+
+cleared_in : (n : ℕ) (marked : ℕ → Bool) (os : List (Object MVal)) → ObjectsIn n os → ObjectsIn n (cleared marked os)
+cleared_in n marked [] h = tt
+cleared_in n marked (o ∷ os) h = (first (marked 0), cleared_in n (λ k. marked (suc k)) os h.1)
+  where
+    first : (b : Bool) → ObjectIn n (if b then o else no_object)
+    first true = h.0
+    first false = tt
+
+world_left : (n : ℕ) (w : WorldView) (marks : MarksView) (io : Io) → WorldIn n (world_of w io) → WorldIn n (world_of (without_unmarked w marks) io)
+world_left n w marks io h = subst (λ (x : m.MW). WorldIn n x) (sym (left_world w marks io)) (record { vars = h.vars; objects = cleared_in n (marks_in marks) (world_of w io).objects h.objects })
+
+left_in : (im : Image) (n : ℕ) (t : Task) (fs : List Frame) (s : State) (marks : MarksView) (io : Io) → StateIn n (state_at im t fs s io) → StateIn n (state_at im t fs (record s { world = without_unmarked s.world marks }) io)
+left_in im n task.Code fs s marks io h = (h.0, h.1, world_left n s.world marks io h.2)
+left_in im n (task.Match g) fs s marks io h = (h.0, h.1, h.2, world_left n s.world marks io h.3)
 
 -- nothing was given back
 pub as_it_was : (old new : Run) → new ≡ record old { pace = new.pace } → IsSameRun old new
@@ -122,6 +140,7 @@ as_it_was old new e = record {
   same = e ∙ ap (λ w. record old { state = record old.state { world = w }; pace = new.pace }) (sym world);
   names = ap (λ (r : Run). r.state.world.names) e;
   collected = λ im io. collected_same (run_of im old io) (run_of im new io) (ap (λ (r : Run). run_of im r io) (sym e));
+  in_range = λ im h. subst (λ (r : Run). IsInRange im r) (sym e) h;
 }
   where
     world : new.state.world ≡ old.state.world
@@ -133,6 +152,7 @@ given_back old new marks calls lives e = record {
   same = e ∙ ap (λ w. record old { state = record old.state { world = w }; pace = new.pace }) (sym world);
   names = ap (λ (w : WorldView). w.names) world;
   collected = λ im io. subst (λ r. Collected (run_of im old io) (run_of im r io)) (sym e) (subst (λ t. Collected (state_at im t old.frames.top old.state io) (state_at im t old.frames.top left io)) (sym calls.0) (in_code im io));
+  in_range = λ im h. subst (λ (r : Run). IsInRange im r) (sym e) (λ io. left_in im (length im.expressions) old.task old.frames.top old.state marks io (h io));
 }
   where
     world : new.state.world ≡ without_unmarked old.state.world marks

@@ -8,6 +8,7 @@ pub mod Running
 pub mod GivingBack
 pub mod Seeing
 pub mod Printing
+pub mod Ranges
 pub mod AtOnce
 pub mod Calling
 pub mod Flowing

@@ -8,7 +8,7 @@ use Rattle.frames.specs.Frames.{AreCalls}
 use Rattle.frames.specs.View.{operands_of}
 use Rattle.world.specs.Marking.{ObjectsLive, VariablesLive}
 use Rattle.world.specs.Values.{value_of}
-use Rattle.statement_machine.specs.Runs.{run_of}
+use Rattle.statement_machine.specs.Runs.{IsInRange, run_of}
 use Rattle.statement_machine.specs.declared.run.Run.{Run}
 use Rattle.statement_machine.specs.declared.run.Task.TheVariants as task
 use Rattle.instruction_steps.specs.declared.state.State.{State}
@@ -29,3 +29,4 @@ pub record IsSameRun (old new : Run) : Type 0 where
   pub same : new ≡ record old { state = record old.state { world = new.state.world }; pace = new.pace }
   pub names : new.state.world.names ≡ old.state.world.names
   pub collected : (im : Image) (io : Io) → Collected (run_of im old io) (run_of im new io)
+  pub in_range : (im : Image) → IsInRange im old → IsInRange im new

@@ -12,7 +12,7 @@ ghost use Rattle.statement_machine.specs.Asking.{StopsWhereAsked, StopsWithin};
 ghost use Rattle.statement_machine.specs.Runs.{Holds, IsRun, IsStoppedRun};
 ghost use Rattle.instruction_steps.specs.Printing.{PrintsWithin};
 ghost use Rattle.statement_machine.specs.Stopped.{IfRan, IfStop, ending_of, status_at, stop_of_run, stopped_now};
-ghost use Rattle.unit_io.specs.Service.{Served};
+ghost use Rattle.unit_io.specs.Service.{ServedAll};
 ghost use Rattle.instruction_steps.specs.declared.status.Halt.{Halt as RustHalt};
 
 use crate::run::Run;
@@ -42,7 +42,7 @@ impl<'m, 'a> Model for Machine<'m, 'a> {
     ghost use Rattle.parts.specs.Parts.{IsParts};
     ghost use Rattle.segments.specs.Leading.{IsRunnable};
     ghost use Rattle.segments.specs.Segments.{IsForm};
-    ghost use Rattle.statement_machine.specs.Runs.{MachineView, IsGoing, LacksNothing};
+    ghost use Rattle.statement_machine.specs.Runs.{MachineView, IsGoing, IsInRange, LacksNothing};
 
     ghost Value = { MachineView };
 
@@ -51,7 +51,8 @@ impl<'m, 'a> Model for Machine<'m, 'a> {
     ghost invariant = { λ m.
         IsRunnable m.program.now × IsGoing m.halt (LacksNothing m.program.now m.run)
         × IsForm m.program.now m.run.state.world.names m.form
-        × IsParts m.program.now m.run.state.world.names m.parts };
+        × IsParts m.program.now m.run.state.world.names m.parts
+        × IsGoing m.halt (IsInRange m.program.now m.run) };
 }
 
 impl<'m, 'a> Machine<'m, 'a> {
@@ -82,7 +83,7 @@ impl<'m, 'a> Machine<'m, 'a> {
     pub fn run<U: Units>(&mut self, units: &mut U, bound: u64) -> Status
         ensures image { self.new.image ≡ self.old.image }
         ensures status { result ≡ status_at self.new.halt }
-        ensures served { Served U.Units
+        ensures served { ServedAll U.Units
             (stopped_now self.old.halt result) units.old units.new (λ io io'.
             IfRan result ((st : m.State) → Holds self.old io st
             → Holds self.new io' (steps (module_of self.old.image) bound st))) }
@@ -108,7 +109,7 @@ impl<'m, 'a> Machine<'m, 'a> {
     ) -> Status
         ensures image { self.new.image ≡ self.old.image }
         ensures status { result ≡ status_at self.new.halt }
-        ensures served { Served U.Units
+        ensures served { ServedAll U.Units
             (stopped_now self.old.halt result) units.old units.new (λ io io'.
             IfRan result ((st : m.State) → Holds self.old io st
             → Holds self.new io' (steps (module_of self.old.image) bound st))) }
@@ -155,7 +156,7 @@ pub fn run_from_entry<U: Units>(
     bound: u64,
 ) -> Status
     // What was printed follows what was printed before.
-    ensures served { Served U.Units (stop_of_run result) units.old units.new (λ io io'.
+    ensures served { ServedAll U.Units (stop_of_run result) units.old units.new (λ io io'.
         IfRan result (IsRun program.now bound (ending_of result) io io')) }
     // A run that stopped has printed a prefix of what the machine prints.
     ensures printed { IfStop result

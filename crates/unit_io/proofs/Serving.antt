@@ -6,7 +6,7 @@ use Rattle.model.specs.Language.Units.{IsCounted}
 use Rattle.model.specs.declared.run.Stop.{Stop}
 use Rattle.model.specs.declared.run.Stop.TheVariants as stop
 use Rattle.unit_io.specs.Counts.{Same}
-use Rattle.unit_io.specs.Service.{IsQuiet, IsStop, KeepsCounts, KeepsIo, ReadsOne, Served}
+use Rattle.unit_io.specs.Service.{IsQuiet, IsStop, KeepsCounts, KeepsIo, OfAny, OfSome, OfThese, ReadsOne, Served, ServedAll}
 use Rattle.unit_io.specs.Ways.{Way, MayFail, FailsNoMore}
 use Rattle.unit_io.specs.declared.units.Units.{Ghosts as Units}
 
@@ -37,18 +37,22 @@ told_then (Some a) None n P Q R f g h = absurd g
 told_then (Some a) (Some b) None P Q R f g h = absurd h
 told_then (Some a) (Some b) (Some c) P Q R f g h = f a b c g h
 
+pub some_on : {P Q : Io → Io → Type 0} → ((a b : Io) → P a b → Q a b) → OfSome P → OfSome Q
+some_on f (OfAny h) = OfAny (λ io. f io io (h io))
+some_on f (OfThese a b h) = OfThese a b (f a b h)
+
 -- what follows from what was said of the units, where the call around stopped as this one did
 pub served_on : {U : Type 0} {units : Units U} {why : Option Stop} {old new : U} {P Q : Io → Io → Type 0} → Served units why old new P → ((a b : Io) → P a b → Q a b) → Served units why old new Q
-served_on {P = P} {Q = Q} s f = record { told = told_on _ _ P Q f s.told; counts = s.counts; sound = s.sound }
+served_on {P = P} {Q = Q} s f = record { told = told_on _ _ P Q f s.told; some = some_on f s.some; counts = s.counts; sound = s.sound }
 
 -- the same where the call around has its own reason
 pub served_for : {U : Type 0} {units : Units U} {why why' : Option Stop} {old new : U} {P Q : Io → Io → Type 0} → Served units why old new P
     → (KeepsCounts why (units.failures old) (units.failures new) → KeepsCounts why' (units.failures old) (units.failures new)) → ((a b : Io) → P a b → Q a b) → Served units why' old new Q
-served_for {P = P} {Q = Q} s counts f = record { told = told_on _ _ P Q f s.told; counts = counts s.counts; sound = s.sound }
+served_for {P = P} {Q = Q} s counts f = record { told = told_on _ _ P Q f s.told; some = some_on f s.some; counts = counts s.counts; sound = s.sound }
 
 -- no unit was used
 pub served_none : {U : Type 0} (units : Units U) (u : U) {P : Io → Io → Type 0} → ((io : Io) → P io io) → Served units None u u P
-served_none units u {P} h = record { told = told_same (units.told u) P h; counts = λ unit. refl; sound = no_more _ }
+served_none units u {P} h = record { told = told_same (units.told u) P h; some = OfAny h; counts = λ unit. refl; sound = no_more _ }
 
 -- ---- one call after another
 
@@ -61,7 +65,18 @@ pub counts_since : (why : Option Stop) (a b c : ℕ → ℕ) → Same a b → Ke
 counts_since None a b c s h = λ u. h u ∙ s u
 counts_since (Some e) a b c s h = stop_since e a b c s h
 
-pub served_then : {U : Type 0} {units : Units U} {why : Option Stop} {a b c : U} {P Q : Io → Io → Type 0} (R : Io → Io → Type 0) → Served units None a b P → Served units why b c Q → ((x y z : Io) → P x y → Q y z → R x z) → Served units why a c R
+-- calls of which no units need be told
+pub all_on : {U : Type 0} {units : Units U} {why : Option Stop} {old new : U} {P Q : Io → Io → Type 0} → ServedAll units why old new P → ((a b : Io) → P a b → Q a b) → ServedAll units why old new Q
+all_on {P = P} {Q = Q} s f = record { told = told_on _ _ P Q f s.told; counts = s.counts; sound = s.sound }
+
+-- and some that may be told, after all
+pub with_some : {U : Type 0} {units : Units U} {why : Option Stop} {old new : U} {P : Io → Io → Type 0} → ServedAll units why old new P → OfSome P → Served units why old new P
+with_some s some = record { told = s.told; some = some; counts = s.counts; sound = s.sound }
+
+pub all_none : {U : Type 0} (units : Units U) (u : U) {P : Io → Io → Type 0} → ((io : Io) → P io io) → ServedAll units None u u P
+all_none units u {P} h = record { told = told_same (units.told u) P h; counts = λ unit. refl; sound = no_more _ }
+
+pub served_then : {U : Type 0} {units : Units U} {why : Option Stop} {a b c : U} {P Q : Io → Io → Type 0} (R : Io → Io → Type 0) → ServedAll units None a b P → Served units why b c Q → ((x y z : Io) → P x y → Q y z → R x z) → ServedAll units why a c R
 served_then {why = why} {P = P} {Q = Q} R s t f = record { told = told_then _ _ _ P Q R f s.told t.told; counts = counts_since why _ _ _ s.counts t.counts; sound = no_more_since _ _ _ s.sound t.sound }
 
 -- ---- calls that stopped

@@ -20,8 +20,21 @@ abbrev pub KeepsCounts : Option Stop → (ℕ → ℕ) → (ℕ → ℕ) → Typ
 KeepsCounts None old new = Same old new
 KeepsCounts (Some why) old new = IsStop why old new
 
--- units served a call that stopped so, or didn't stop: P holds of what they told before and tell after, if they tell
+-- P holds of what some units hold before and after: of any that stay as they are, or of these
+pub data OfSome (P : Io → Io → Type 0) : Type 0 where
+  OfAny : ((io : Io) → P io io) → OfSome P
+  OfThese : (io io' : Io) → P io io' → OfSome P
+
+-- units served a call that stopped so, or didn't stop: P holds of what they told before and tell after, if they tell; and if
+-- they don't, of what some units may hold
 pub record Served {U : Type 0} (units : Units U) (why : Option Stop) (old new : U) (P : Io → Io → Type 0) : Type 0 where
+  pub told : IfTold (units.told old) (units.told new) P
+  pub some : OfSome P
+  pub counts : KeepsCounts why (units.failures old) (units.failures new)
+  pub sound : FailsNoMore (units.may_fail old) (units.may_fail new)
+
+-- the same of calls one after another; no units need be such that all of these come to what they came to
+pub record ServedAll {U : Type 0} (units : Units U) (why : Option Stop) (old new : U) (P : Io → Io → Type 0) : Type 0 where
   pub told : IfTold (units.told old) (units.told new) P
   pub counts : KeepsCounts why (units.failures old) (units.failures new)
   pub sound : FailsNoMore (units.may_fail old) (units.may_fail new)

@@ -19,7 +19,10 @@ use Rattle.model.specs.Deck.Target as target
 use Rattle.pattern_compiler.specs.View.{name_of}
 use Rattle.pattern_compiler.specs.declared.instr.Name.{Name}
 use Rattle.pattern_compiler.specs.declared.instr.Name.TheVariants as name
+use Rattle.unit_io.specs.Service.{OfAny, OfSome, OfThese, Served}
+use Rattle.unit_io.specs.declared.units.Units.{Ghosts as Units}
 use Rattle.unit_io.specs.Ways.{Way}
+use Rattle.unit_io.proofs.Serving.{served_on}
 use Rattle.world.specs.Values.{value_of}
 use Rattle.world.specs.Answers.{AnswersAs, AnswersOrFails, LeadsTo, done}
 use Rattle.world.specs.Held.{WorldView, IsSet, IsSetOrKept, world_of, variable_at, value_in, input_in, output_in, taken}
@@ -85,6 +88,12 @@ read_takes x u got line h new o n r is reads f =
     told_read o n u (Some line) _ (subst (λ z. Reads u z o n) is reads)
     (λ io e. subst (λ p. AnswersOrFails r (world_of new (after_read u io)) p) (sym (reads_one x u (io.left u) line h io e)) (f (after_read u io)))
 
+pub read_some : (x : Bytes) (u : ℕ) (got : Option Bytes) (line : Bytes) (h new : WorldView) (o n : Option Io) (r : Result (Option MVal) Fault) → got ≡ Some line → Reads u got o n
+    → ((io : Io) → AnswersOrFails r (world_of new io) (taken x line (world_of h io)))
+    → OfSome (λ io io'. AnswersOrFails r (world_of new io') (take_record x u (io.left u) (world_of h io)))
+read_some x u got line h new o n r is (io, c, e) f =
+    OfThese io (after_read u io) (subst (λ p. AnswersOrFails r (world_of new (after_read u io)) p) (sym (reads_one x u (io.left u) line h io (sym is ∙ e))) (f (after_read u io)))
+
 reads_none : (x : Bytes) (u : ℕ) (rows : List Bytes) (w : MW) → None ≡ first_of rows → take_record x u rows w ≡ Refuses w
 reads_none x u [] w e = refl
 reads_none x u (r ∷ rs) w e = absurd (cc)
@@ -92,6 +101,9 @@ reads_none x u (r ∷ rs) w e = absurd (cc)
 pub read_ends : (x : Bytes) (u : ℕ) (got : Option Bytes) (h : WorldView) (o n : Option Io) → got ≡ None → Reads u got o n → IfTold o n (λ io io'. take_record x u (io.left u) (world_of h io) ≡ Refuses (world_of h io'))
 read_ends x u got h o n is reads =
     told_read o n u None _ (subst (λ z. Reads u z o n) is reads) (λ io e. reads_none x u (io.left u) (world_of h io) e ∙ ap (λ z. Refuses (world_of h z)) (sym (end_stays u io e)))
+
+pub end_some : (x : Bytes) (u : ℕ) (got : Option Bytes) (h : WorldView) (o n : Option Io) → got ≡ None → Reads u got o n → OfSome (λ io io'. take_record x u (io.left u) (world_of h io) ≡ Refuses (world_of h io'))
+end_some x u got h o n is (io, c, e) = OfThese io io (reads_none x u (io.left u) (world_of h io) (sym is ∙ e))
 
 -- ---- fetching
 
@@ -116,6 +128,9 @@ fetched_null x h v o none null =
     ∙ ap (λ z. Gives (value_in z) (world_of h io)) none
     ∙ ap (λ z. Gives z (world_of h io)) (sym null))
 
+pub null_some : (x : Bytes) (h : WorldView) (v : Value) → variable_at x h.variables ≡ None → value_of v ≡ Str [] → OfSome (λ io io'. fetch_op (Variable x) (world_of h io) ≡ Gives (value_of v) (world_of h io'))
+null_some x h v none null = OfAny (λ io. fetched_null x h v (Some io) none null)
+
 -- a variable's own value
 pub fetched_value : (x : Bytes) (h : WorldView) (variable : var.Variable) (v : Value) (i : Option ℕ) (o : Option Io) → variable_at x h.variables ≡ Some variable → i ≡ (if is_zero h.keys.input then None else variable.input) → i ≡ None → v ≡ variable.value
     → IfTold o o (λ io io'. fetch_op (Variable x) (world_of h io) ≡ Gives (value_of v) (world_of h io'))
@@ -125,6 +140,10 @@ fetched_value x h variable v i o at reads none same =
     ∙ value_unread (is_zero h.keys.input) x variable.input (world_of h io) refl (sym reads ∙ none)
     ∙ ap (λ z. Gives (value_in z) (world_of h io)) at
     ∙ ap (λ z. Gives (value_of z) (world_of h io)) (sym same))
+
+pub value_some : (x : Bytes) (h : WorldView) (variable : var.Variable) (v : Value) (i : Option ℕ) → variable_at x h.variables ≡ Some variable → i ≡ (if is_zero h.keys.input then None else variable.input) → i ≡ None → v ≡ variable.value
+    → OfSome (λ io io'. fetch_op (Variable x) (world_of h io) ≡ Gives (value_of v) (world_of h io'))
+value_some x h variable v i at reads none same = OfAny (λ io. fetched_value x h variable v i (Some io) at reads none same)
 
 -- a record of the unit that a variable reads from
 pub reads_unit : (x : Bytes) (u : ℕ) (h : WorldView) (variable : var.Variable) (i : Option ℕ) → variable_at x h.variables ≡ Some variable → i ≡ (if is_zero h.keys.input then None else variable.input) → i ≡ Some u
@@ -139,6 +158,10 @@ fetched_unit x u h new variable i r o m at reads unit records =
     told_on o m _ _
     (λ io io' a. subst (λ p. AnswersOrFails r (world_of new io') p) (sym (reads_unit x u h variable i at reads unit io)) a)
     records
+
+pub unit_served : {U : Type 0} {units : Units U} {why : Option Stop} {a b : U} (x : Bytes) (u : ℕ) (h new : WorldView) (variable : var.Variable) (i : Option ℕ) (r : Result (Option MVal) Fault) → variable_at x h.variables ≡ Some variable → i ≡ (if is_zero h.keys.input then None else variable.input) → i ≡ Some u
+    → Served units why a b (λ io io'. AnswersOrFails r (world_of new io') (take_record x u (io.left u) (world_of h io))) → Served units why a b (λ io io'. AnswersOrFails r (world_of new io') (fetch_op (Variable x) (world_of h io)))
+unit_served x u h new variable i r at reads unit s = served_on s (λ io io' p. fetched_unit x u h new variable i r (Some io) (Some io') at reads unit p)
 
 pub fetch_asks : (may : Way → ℕ → Bool) (x : Bytes) (u : ℕ) (h : WorldView) (variable : var.Variable) (i : Option ℕ) (why : Option Stop) → variable_at x h.variables ≡ Some variable → i ≡ (if is_zero h.keys.input then None else variable.input) → i ≡ Some u
     → Takes may why (λ io. io_after (take_record x u (io.left u) (world_of h io))) → Takes may why (λ io. io_after (fetch_op (Variable x) (world_of h io)))
@@ -159,6 +182,10 @@ written u v v' h r o n same on prints =
     told_on o n _ _
     (λ io io' f. subst (λ p. AnswersAs r (world_of h io') p) (sym (written_text u v v' h same on io)) (f h))
     prints
+
+pub written_served : {U : Type 0} {units : Units U} {why : Option Stop} {a b : U} (u : ℕ) (v v' : MVal) (h : WorldView) (r : Result (record {}) Fault) → v ≡ v' → is_zero h.keys.output ≡ false
+    → Served units why a b (λ io io'. (k : WorldView) → AnswersAs r (world_of k io') (print_text u (to_text v) (world_of k io))) → Served units why a b (λ io io'. AnswersAs r (world_of h io') (write_var (Some u) v' (world_of h io)))
+written_served u v v' h r same on s = served_on s (λ io io' f. written u v v' h r (Some io) (Some io') same on f)
 
 pub write_asks : (may : Way → ℕ → Bool) (u : ℕ) (v v' : MVal) (h : WorldView) (why : Option Stop) → v ≡ v' → is_zero h.keys.output ≡ false
     → ((k : WorldView) → Prints may why (λ io. io_after (print_text u (to_text v) (world_of k io)))) → Prints may why (λ io. io_after (write_var (Some u) v' (world_of h io)))

@@ -32,6 +32,7 @@ invariant_of-self g c =
       goes_on it.halt _ c.in-Ok.ensures.sound,
       subst (λ ns. IsForm im ns c.make_steps.new.form) (sym c.make_steps.ensures.names) c.make_steps.ensures.form,
       subst (λ ns. IsParts im ns it.parts) (sym c.make_steps.ensures.names) c.self.invariant.3,
+      goes_on it.halt _ c.in-Ok.ensures.in_range,
     )
 
 pub invariant_of-self-in-Err : goal.invariant_of-self-in-Err
@@ -42,6 +43,7 @@ invariant_of-self-in-Err g c =
       tt,
       subst (λ ns. IsForm im ns c.make_steps.new.form) (sym c.make_steps.ensures.names) c.make_steps.ensures.form,
       subst (λ ns. IsParts im ns it.parts) (sym c.make_steps.ensures.names) c.self.invariant.3,
+      tt,
     )
 
 pub returns-in-Err-clause-stops : goal.returns-in-Err-clause-stops

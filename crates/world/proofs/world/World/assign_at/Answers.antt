@@ -1,18 +1,21 @@
-use Rattle.std.proofs.Common.{rules, ap, sym, ◌∙◌}
+use Rattle.std.proofs.Common.{rules, ap, sym, ◌∙◌, Some}
 use Rattle.pattern_compiler.specs.declared.instr.Name.TheVariants as name
 use Rattle.world.proofs.UnitCalls.{assigned_there, assigned_key, set_there, set_key}
 use Rattle.world.proofs.Asked.{no_unit, prints_on}
 use Rattle.model.specs.Language.Operators.{assign_op}
 use Rattle.pattern_compiler.specs.View.{name_of}
-use Rattle.world.specs.Answers.{stopped_by}
+use Rattle.unit_io.specs.Service.{OfAny}
+use Rattle.world.specs.Answers.{done, stopped_by}
 use Rattle.world.specs.Asking.{io_after}
 use Rattle.world.specs.Held.{world_of}
 use Rattle.world.specs.Values.{value_of}
+use Rattle.unit_io.proofs.Serving.{served_on}
 use Rattle.world.proofs.world.World.assign_at.Goals as goal
 
 pub returns-in-Element-clause-served : goal.returns-in-Element-clause-served
 returns-in-Element-clause-served g c = record {
   told = assigned_there c.args.name.now _ _ c.args.self.now c.store.new.self _ _ c.in-Element.is c.store.ensures.stored;
+  some = OfAny (λ io. assigned_there c.args.name.now _ (value_of c.args.value) c.args.self.now c.store.new.self (done c.store.result) (Some io) c.in-Element.is c.store.ensures.stored);
   counts = search rules;
   sound = search rules;
 }
@@ -25,6 +28,7 @@ returns-in-IntegerKey-clause-served g c =
     let stored = c.store-in-IntegerKey in
     record {
       told = assigned_key c.args.name.now c.in-IntegerKey.object c.in-IntegerKey.key _ _ c.args.self.now stored.new.self stored.result c.in-IntegerKey.is (search rules) stored.ensures.stored _;
+      some = OfAny (λ io. assigned_key c.args.name.now c.in-IntegerKey.object c.in-IntegerKey.key _ (value_of c.args.value) c.args.self.now stored.new.self stored.result c.in-IntegerKey.is (search rules) stored.ensures.stored (Some io));
       counts = search rules;
       sound = search rules;
     }
@@ -40,6 +44,8 @@ returns-in_ok-clone-in-StringKey-clause-served g c =
     record {
       told = assigned_there c.args.name.now (name.StringKey c.in-StringKey.object c.in_ok-clone-in-StringKey.field-0) _ c.args.self.now stored.new.self _ _
           (c.in-StringKey.is ∙ ap (name.StringKey c.in-StringKey.object) (sym c.in_ok-clone-in-StringKey.ensures.cases)) stored.ensures.stored;
+      some = OfAny (λ io. assigned_there c.args.name.now (name.StringKey c.in-StringKey.object c.in_ok-clone-in-StringKey.field-0) (value_of c.args.value) c.args.self.now stored.new.self (done stored.result) (Some io)
+          (c.in-StringKey.is ∙ ap (name.StringKey c.in-StringKey.object) (sym c.in_ok-clone-in-StringKey.ensures.cases)) stored.ensures.stored);
       counts = search rules;
       sound = search rules;
     }
@@ -62,3 +68,6 @@ returns-in_ok-clone-in-StringKey-clause-asked g c = no_unit c.store-in-StringKey
 pub returns-in-Variable-clause-asked : goal.returns-in-Variable-clause-asked
 returns-in-Variable-clause-asked g c =
     prints_on _ (stopped_by c.assign_variable.result) _ _ (λ io. ap (λ n. io_after (assign_op (name_of n) (value_of c.args.value) (world_of c.args.self.now io))) c.in-Variable.is) c.assign_variable.ensures.asked
+
+pub returns-in-Variable-clause-served : goal.returns-in-Variable-clause-served
+returns-in-Variable-clause-served g c = served_on c.assign_variable.ensures.served (λ io io' p. rw c.in-Variable.is p)

@@ -5,8 +5,12 @@ use Rattle.world.specs.Asking.{io_after}
 use Rattle.world.specs.Calling.{given_of}
 use Rattle.world.specs.Held.{world_of}
 use Rattle.world.proofs.Asked.{takes_on}
+use Rattle.unit_io.proofs.Serving.{served_on}
 use Rattle.world.proofs.world.World.returned_value.Goals as goal
 
 pub returns-in-Name-clause-asked : goal.returns-in-Name-clause-asked
 returns-in-Name-clause-asked g c =
     takes_on _ (stopped_by c.fetch.result) _ _ (λ io. ap (λ x. io_after (as_value (given_of x) (world_of c.args.self.now io))) c.in-Name.is) c.fetch.ensures.asked
+
+pub returns-in-Name-clause-served : goal.returns-in-Name-clause-served
+returns-in-Name-clause-served g c = served_on c.fetch.ensures.served (λ io io' p. rw c.in-Name.is p)

@@ -1,10 +1,12 @@
-use Rattle.std.proofs.Common.{Err, ap, rules, inl, refl}
+use Rattle.std.proofs.Common.{Err, ap, rules, inl, refl, Some}
+use Rattle.unit_io.specs.Service.{OfAny}
+use Rattle.unit_io.proofs.Serving.{some_on}
 use Rattle.model.specs.Language.Operators.{assign_op, splice_op}
 use Rattle.pattern_compiler.specs.View.{name_of}
 use Rattle.world.specs.Values.{value_of}
 use Rattle.world.proofs.UnitCalls.{no_more, not_replaced, replaced_by}
 use Rattle.world.proofs.Asked.{no_unit, passed_on, prints_on}
-use Rattle.world.specs.Answers.{stopped_by}
+use Rattle.world.specs.Answers.{done, stopped_by}
 use Rattle.world.specs.Asking.{io_after}
 use Rattle.world.proofs.world.World.splice_at.Goals as goal
 
@@ -20,6 +22,9 @@ returns-in_err-whole-clause-served g c = record {
   told = not_replaced c.in_err-whole.field-0.0 c.from_residual.result c.args.self.now (assign_op (name_of c.args.name.now))
       (splice_op (name_of c.args.name.now) c.args.span.now.subject c.args.span.now.start c.args.span.now.end (value_of c.args.value.now)) _ c.from_residual.ensures.1
       (λ io. c.in_err-whole.ensures.value io (name_of c.args.name.now));
+  some = OfAny (λ io. not_replaced c.in_err-whole.field-0.0 c.from_residual.result c.args.self.now (assign_op (name_of c.args.name.now))
+      (splice_op (name_of c.args.name.now) c.args.span.now.subject c.args.span.now.start c.args.span.now.end (value_of c.args.value.now)) (Some io) c.from_residual.ensures.1
+      (λ x. c.in_err-whole.ensures.value x (name_of c.args.name.now)));
   counts = search rules;
   sound = search rules;
 }
@@ -29,6 +34,9 @@ returns-clause-served g c = record {
   told = replaced_by c.args.self.now c.assign_at.new.self (assign_op (name_of c.args.name.now) (value_of c.in_ok-whole.whole))
       (splice_op (name_of c.args.name.now) c.args.span.now.subject c.args.span.now.start c.args.span.now.end (value_of c.args.value.now)) _ _ _
       (λ io. c.in_ok-whole.ensures.value io (name_of c.args.name.now)) c.assign_at.ensures.served.told;
+  some = some_on (λ io io' a. replaced_by c.args.self.now c.assign_at.new.self (assign_op (name_of c.args.name.now) (value_of c.in_ok-whole.whole))
+      (splice_op (name_of c.args.name.now) c.args.span.now.subject c.args.span.now.start c.args.span.now.end (value_of c.args.value.now)) (done c.assign_at.result) (Some io) (Some io')
+      (λ x. c.in_ok-whole.ensures.value x (name_of c.args.name.now)) a) c.assign_at.ensures.served.some;
   counts = search rules;
   sound = search rules;
 }
