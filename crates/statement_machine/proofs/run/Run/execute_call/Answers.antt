@@ -175,3 +175,9 @@ returns-in-PrimN-clause-asked g c =
     let im = c.args.program.now in
     let r = c.args.self.now in
     takes_on _ (halted_by c.primitive-in-PrimN.result) _ _ (λ io. ap (λ i. io_at (after im i c.args.next r.frames.top r.state io)) c.in-PrimN.is) c.primitive-in-PrimN.ensures.asked
+
+pub returns-in-Return-clause-served : goal.returns-in-Return-clause-served
+returns-in-Return-clause-served g c = served_on c.return_from.ensures.served (λ io io' l. rw c.in-Return.is (l c.args.program.now))
+
+pub returns-in-GotoV-clause-served : goal.returns-in-GotoV-clause-served
+returns-in-GotoV-clause-served g c = served_on c.go_to_value.ensures.served (λ io io' l. rw c.in-GotoV.is l)
