@@ -56,6 +56,12 @@ abbrev pub exit_of_outcome : Option FinalReport → ℕ
 exit_of_outcome (Some told) = exit_of told
 exit_of_outcome None = 0
 
+-- what is reported of a command line that asks for nothing: it is a bad one, or memory was refused
+abbrev pub IsOfBadWords : FinalReport → Type 0
+IsOfBadWords told.BadCommandLine = Unit {0}
+IsOfBadWords told.NoMemory = Unit {0}
+IsOfBadWords _ = ⊥
+
 -- ---- the exit statuses that each word can have
 
 abbrev pub IsOneOf : ℕ → List ℕ → Type 0

@@ -1,5 +1,8 @@
 //! The words of the program `sno`.
 
+ghost use Rattle.std.specs.Prelude.{IfErr};
+ghost use Rattle.driver.specs.Exits.{IsOfBadWords};
+
 use crate::telling::FinalReport;
 use clap::error::ErrorKind;
 use clap::{Arg, ArgAction, ArgMatches, Command, Error};
@@ -163,7 +166,9 @@ fn unit_file<'a>(word: &'a str) -> Option<UnitFile<'a>> {
 fn unit_files<'a>(
     alloc: Global,
     words: &[&'a str],
-) -> Result<Vec<UnitFile<'a>>, FinalReport<'static>> {
+) -> Result<Vec<UnitFile<'a>>, FinalReport<'static>>
+    ensures { IfErr result IsOfBadWords }
+{
     let mut files: Vec<UnitFile<'a>> = Vec::new(alloc);
     for word in words {
         let given = unit_file(word).ok_or(FinalReport::BadCommandLine)?;
@@ -182,7 +187,9 @@ fn run_job<'a>(
     alloc: Global,
     module: &'a str,
     matches: &ArgMatches<'a>,
-) -> Result<Job<'a>, FinalReport<'static>> {
+) -> Result<Job<'a>, FinalReport<'static>>
+    ensures { IfErr result IsOfBadWords }
+{
     let steps = steps(matches).ok_or(FinalReport::BadCommandLine)?;
     let files = unit_files(alloc, matches.get_strs("UNIT=FILE").unwrap_or(&[]))?;
     Ok(Job::Run {
@@ -193,7 +200,9 @@ fn run_job<'a>(
 }
 
 // What the words of `go` ask for.
-fn go_job<'a>(alloc: Global, matches: &ArgMatches<'a>) -> Result<Job<'a>, FinalReport<'static>> {
+fn go_job<'a>(alloc: Global, matches: &ArgMatches<'a>) -> Result<Job<'a>, FinalReport<'static>>
+    ensures { IfErr result IsOfBadWords }
+{
     let deck = matches.get_str("DECK").ok_or(FinalReport::BadCommandLine)?;
     let steps = steps(matches).ok_or(FinalReport::BadCommandLine)?;
     let files = unit_files(alloc, matches.get_strs("UNIT=FILE").unwrap_or(&[]))?;
@@ -201,7 +210,9 @@ fn go_job<'a>(alloc: Global, matches: &ArgMatches<'a>) -> Result<Job<'a>, FinalR
 }
 
 // What the words of `upgrade` ask for.
-fn upgrade_job<'a>(matches: &ArgMatches<'a>) -> Result<Job<'a>, FinalReport<'static>> {
+fn upgrade_job<'a>(matches: &ArgMatches<'a>) -> Result<Job<'a>, FinalReport<'static>>
+    ensures { IfErr result IsOfBadWords }
+{
     let old = matches.get_str("OLD").ok_or(FinalReport::BadCommandLine)?;
     let new = matches.get_str("NEW").ok_or(FinalReport::BadCommandLine)?;
     Ok(Job::Upgrade { old, new })
@@ -212,7 +223,9 @@ fn subcommand_job<'a>(
     alloc: Global,
     name: &str,
     matches: &ArgMatches<'a>,
-) -> Result<Job<'a>, FinalReport<'static>> {
+) -> Result<Job<'a>, FinalReport<'static>>
+    ensures { IfErr result IsOfBadWords }
+{
     if name == "upgrade" {
         return upgrade_job(matches);
     }
@@ -234,7 +247,9 @@ fn subcommand_job<'a>(
     }
 }
 
-fn told(error: &Error) -> FinalReport<'static> {
+fn told(error: &Error) -> FinalReport<'static>
+    ensures { IsOfBadWords result }
+{
     match error.kind() {
         ErrorKind::OutOfMemory => FinalReport::NoMemory,
         _ => FinalReport::BadCommandLine,
@@ -242,7 +257,9 @@ fn told(error: &Error) -> FinalReport<'static> {
 }
 
 /// What the words after the program's name ask for; every other command line is a bad one.
-pub fn read_words<'a>(alloc: Global, words: &'a [&'a str]) -> Result<Job<'a>, FinalReport<'a>> {
+pub fn read_words<'a>(alloc: Global, words: &'a [&'a str]) -> Result<Job<'a>, FinalReport<'a>>
+    ensures { IfErr result IsOfBadWords }
+{
     let Ok(command) = command(alloc) else {
         return Err(FinalReport::NoMemory);
     };

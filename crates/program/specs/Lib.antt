@@ -1,2 +1,3 @@
 pub mod Fresh
+pub mod Runs
 pub mod Words

@@ -3,15 +3,21 @@
 ghost use Rattle.std.specs.Prelude.{None, Some, codes, IfErr, IfOk, OnOk};
 ghost use Rattle.program.specs.Words.{IsNotDone};
 
-use driver::FinalReport;
+use crate::system::RunSystem;
+use driver::{FinalReport, UnitFile};
+use std::alloc::AllocError;
 use std::fs::{self, Files, OpenFile, OpenOptions, Permissions};
-use std::io::{self, ErrorKind, Input, Read, Write};
+use std::io::{self, ErrorKind, Input, Print, Read, Write};
 use std::path::{Path, PathBuf};
+use unit_io::UnitSystem;
 
-/// Files that are read and written whole, by their names, and standard input. Contracts say by its ghost members what a
-/// word reads and writes.
-pub(crate) trait WholeFiles {
+/// Files that are read and written whole, by their names, and standard input; and the system on which units open theirs.
+/// Contracts say by its ghost members what a word reads and writes.
+pub trait WholeFiles {
     ghost use Rattle.std.specs.Prelude.{List, ℕ};
+
+    /// The system on which the units of a run open their files.
+    type System: UnitSystem + Drop;
 
     /// The file with this name holds these bytes.
     ghost holds: { Self → List ℕ → List ℕ → Type 0 };
@@ -33,10 +39,13 @@ pub(crate) trait WholeFiles {
     /// Writes a file, whose old bytes go.
     fn write_whole(&mut self, name: &str, bytes: &[u8]) -> io::Result<()>
         ensures { OnOk result (writes self.old self.new name.now bytes.now) };
+
+    /// The system for a run to which these files are given.
+    fn system(&self, files: &[UnitFile<'_>]) -> Result<Self::System, AllocError>;
 }
 
 /// The files of the system. Nothing is known of what they hold.
-pub(crate) struct SystemFiles<'a, R> {
+pub struct SystemFiles<'a, R> {
     rt: &'a R,
 }
 
@@ -47,12 +56,15 @@ impl<R> Drop for SystemFiles<'_, R> {
 }
 
 impl<'a, R> SystemFiles<'a, R> {
-    pub(crate) fn new(rt: &'a R) -> SystemFiles<'a, R> {
+    /// Those of this system.
+    pub fn new(rt: &'a R) -> SystemFiles<'a, R> {
         SystemFiles { rt }
     }
 }
 
-impl<R: Files + Input + AllocGlobal> WholeFiles for SystemFiles<'_, R> {
+impl<'a, R: Files + Input + Print + AllocGlobal> WholeFiles for SystemFiles<'a, R> {
+    type System = RunSystem<'a, R>;
+
     ghost holds = { λ _ _ _. Unit {0} };
 
     ghost input_holds = { λ _ _. Unit {0} };
@@ -71,6 +83,10 @@ impl<R: Files + Input + AllocGlobal> WholeFiles for SystemFiles<'_, R> {
 
     fn write_whole(&mut self, name: &str, bytes: &[u8]) -> io::Result<()> {
         write_whole(self.rt, name, bytes)
+    }
+
+    fn system(&self, files: &[UnitFile<'_>]) -> Result<RunSystem<'a, R>, AllocError> {
+        RunSystem::new(self.rt, files)
     }
 }
 

@@ -1,16 +1,13 @@
 //! What is done for each row of the table of words.
 
-ghost use Rattle.std.specs.Prelude.{◌≡◌, ℕ, List, codes, Err, IfErr, IfOk, OnOk};
+ghost use Rattle.std.specs.Prelude.{◌≡◌, [], codes, Err, IfErr, IfOk, OnOk};
 ghost use Rattle.loader.specs.Answers.{IsAnswer};
 ghost use Rattle.driver.specs.Compiled.{IsModuleOf, IsRefusalOf};
 ghost use Rattle.driver.specs.Exits.{IsOneOf, exit_of_outcome, exits_of};
-ghost use Rattle.unit_io.specs.Ways.{any_may_fail};
-ghost use Rattle.driver.specs.OnFiles.{IsRunOnFiles, WritesMeaning};
 ghost use Rattle.driver.specs.Upgraded.{IsUpgradeOf};
-ghost use Rattle.driver.specs.Whole.{IsModuleRun, IsRunOf};
-ghost use Rattle.unit_io.specs.Files.{FilesView};
 ghost use Rattle.program.specs.Fresh.{AreFresh};
-ghost use Rattle.program.specs.Words.{HasDone, HasWritten, IsAccepted, IsDeckFailure, IsFailure, IsModuleFailure, IsNotDone, IsOldFailure, IsTaken, OfBytesIn, UnlessWriting, told_of_run, told_of_work};
+ghost use Rattle.program.specs.Runs.{HasRunDeck, HasRunModule};
+ghost use Rattle.program.specs.Words.{HasDone, HasWritten, IsDeckFailure, IsFailure, IsModuleFailure, IsNotDone, IsOldFailure, IsTaken, OfBytesIn, UnlessWriting, told_of_run, told_of_work};
 
 use crate::files::{WholeFiles, read_file, read_input, write_file};
 use crate::system::RunSystem;
@@ -20,7 +17,7 @@ use driver::{
 };
 use std::alloc::Global;
 use std::fs::Files;
-use std::io::{self, BufWriter, Input, Print, Write};
+use std::io::{self, BufWriter, Print, Write};
 use unit_io::{FileUnits, UnitSystem};
 
 /// The system on which the units of a run open their files.
@@ -57,128 +54,120 @@ pub fn units_of<'a, 'f: 'a, S: UnitSystem>(
     Ok(units)
 }
 
-/// A run, and its units then.
-#[derive(Drop)]
-struct RunOnUnits<'a, S: UnitSystem> {
-    ran: Ran,
-    units: FileUnits<'a, S>,
-}
-
 /// Runs the module that bytes spell, on the units of a system to which these files are given.
 #[tactic(auto, using(crate::proofs::Failures::no_memory))]
-fn run_on<'a, 'f: 'a, S: UnitSystem>(
+fn run_on<S: UnitSystem>(
     alloc: Global,
-    system: &'a S,
+    system: &S,
     bytes: &[u8],
     steps: u64,
-    files: &[UnitFile<'f>],
-) -> Result<RunOnUnits<'a, S>, FinalReport<'static>>
-    // In bytes, of a module that compile_deck wrote: the run writes what its deck means.
-    ensures meaning { IfOk result (λ done. (deck : List ℕ) → IsModuleOf deck bytes.now
-        → (fresh : FilesView S) × AreFresh S.exposes S.input_bytes S.source_bytes system.now files.now fresh
-        × WritesMeaning S.exposes deck steps done.ran.status fresh done.units) }
-    ensures run { IfOk result (λ done.
-        (fresh : FilesView S) × AreFresh S.exposes S.input_bytes S.source_bytes system.now files.now fresh
-        × IsRunOnFiles S.exposes (IsModuleRun bytes.now steps any_may_fail) done.ran.status fresh done.units) }
+    files: &[UnitFile<'_>],
+) -> Result<Ran, FinalReport<'static>>
+    ensures ran { IfOk result
+        (HasRunModule S.exposes S.input_bytes S.source_bytes bytes.now steps files.now) }
     ensures refused { IfErr result
         (IsFailure (λ _. ⊥) (λ fault. IsAnswer bytes.now (Err fault)) None None) }
 {
     let mut units = units_of(alloc, system, files)?;
     match run_module_on_files(alloc, bytes, &mut units, steps) {
-        Ok(ran) => Ok(RunOnUnits { ran, units }),
+        Ok(ran) => Ok(ran),
         Err(fault) => Err(FinalReport::BadModule(fault)),
     }
 }
 
 /// Compiles a deck and runs its module, on the units of a system to which these files are given.
 #[tactic(auto, using(crate::proofs::Failures::no_memory))]
-fn run_deck_on<'a, 'f: 'a, S: UnitSystem>(
+fn run_deck_on<S: UnitSystem>(
     alloc: Global,
-    system: &'a S,
+    system: &S,
     deck: &[u8],
     steps: u64,
-    files: &[UnitFile<'f>],
-) -> Result<RunOnUnits<'a, S>, FinalReport<'static>>
+    files: &[UnitFile<'_>],
+) -> Result<Ran, FinalReport<'static>>
     // In the deck's own words, and in bytes: the deck has no fault, and the run writes what it means.
-    ensures meaning { IfOk result (λ done.
-        (fresh : FilesView S) × AreFresh S.exposes S.input_bytes S.source_bytes system.now files.now fresh
-        × WritesMeaning S.exposes deck.now steps done.ran.status fresh done.units) }
-    ensures run { IfOk result (λ done.
-        (fresh : FilesView S) × AreFresh S.exposes S.input_bytes S.source_bytes system.now files.now fresh
-        × IsRunOnFiles S.exposes (IsRunOf deck.now steps any_may_fail) done.ran.status fresh done.units) }
+    ensures ran { IfOk result
+        (HasRunDeck S.exposes S.input_bytes S.source_bytes deck.now steps files.now) }
     ensures refused { IfErr result
         (IsFailure (IsRefusalOf deck.now) (λ _. ⊥) None None) }
 {
     let mut units = units_of(alloc, system, files)?;
     match run_deck_on_files(alloc, deck, &mut units, steps) {
-        Ok(ran) => Ok(RunOnUnits { ran, units }),
+        Ok(ran) => Ok(ran),
         Err(refusal) => Err(FinalReport::Refused(refusal)),
     }
 }
 
 /// Runs the module that bytes spell on the units of the program.
 #[tactic(auto, using(crate::proofs::Failures::no_memory))]
-fn run<R: Files + Input + Print + AllocGlobal>(
-    rt: &R,
+fn run<F: WholeFiles>(
+    alloc: Global,
+    whole: &F,
     bytes: &[u8],
     steps: u64,
     files: &[UnitFile<'_>],
 ) -> Result<Ran, FinalReport<'static>>
-    ensures accepted { OnOk result (IsTaken bytes.now) }
+    ensures ran { IfOk result
+        (HasRunModule F.System.exposes F.System.input_bytes F.System.source_bytes bytes.now steps files.now) }
     ensures refused { IfErr result
         (IsFailure (λ _. ⊥) (λ fault. IsAnswer bytes.now (Err fault)) None None) }
 {
-    let system = system_of(rt, files)?;
-    let done = run_on(rt.alloc(), &system, bytes, steps, files)?;
-    Ok(done.ran)
+    let Ok(system) = whole.system(files) else {
+        return Err(FinalReport::NoMemory);
+    };
+    run_on(alloc, &system, bytes, steps, files)
 }
 
 /// Compiles a deck and runs its module on the units of the program.
 #[tactic(auto, using(crate::proofs::Failures::no_memory))]
-fn compile_and_run<R: Files + Input + Print + AllocGlobal>(
-    rt: &R,
+fn compile_and_run<F: WholeFiles>(
+    alloc: Global,
+    whole: &F,
     deck: &[u8],
     steps: u64,
     files: &[UnitFile<'_>],
 ) -> Result<Ran, FinalReport<'static>>
-    // A deck that is run has no fault; one that is refused is refused by exactly its faults.
-    ensures accepted { OnOk result (IsAccepted deck.now) }
+    // A run does what its deck means; a deck that is refused is refused by exactly its faults.
+    ensures ran { IfOk result
+        (HasRunDeck F.System.exposes F.System.input_bytes F.System.source_bytes deck.now steps files.now) }
     ensures refused { IfErr result
         (IsFailure (IsRefusalOf deck.now) (λ _. ⊥) None None) }
 {
-    let system = system_of(rt, files)?;
-    let done = run_deck_on(rt.alloc(), &system, deck, steps, files)?;
-    Ok(done.ran)
+    let Ok(system) = whole.system(files) else {
+        return Err(FinalReport::NoMemory);
+    };
+    run_deck_on(alloc, &system, deck, steps, files)
 }
 
 #[tactic(auto, using(crate::proofs::Failures::not_read))]
-fn run_input<R: Files + Input + Print + AllocGlobal, F: WholeFiles>(
-    rt: &R,
+fn run_input<F: WholeFiles>(
+    alloc: Global,
     whole: &F,
     steps: u64,
 ) -> Result<Ran, FinalReport<'static>>
-    ensures accepted { OnOk result (OfBytesIn (F.input_holds whole.now) IsAccepted) }
+    ensures ran { IfOk result (λ ran. OfBytesIn (F.input_holds whole.now) (λ deck.
+        HasRunDeck F.System.exposes F.System.input_bytes F.System.source_bytes deck steps [] ran)) }
     ensures failure { IfErr result
         (IsDeckFailure (F.input_holds whole.now) (Some (codes "standard input")) None) }
 {
     let deck = read_input(whole)?;
-    compile_and_run(rt, &deck, steps, &[])
+    compile_and_run(alloc, whole, &deck, steps, &[])
 }
 
 #[tactic(auto, using(crate::proofs::Failures::not_read))]
-fn run_deck_file<'a, R: Files + Input + Print + AllocGlobal, F: WholeFiles>(
-    rt: &R,
+fn run_deck_file<'a, F: WholeFiles>(
+    alloc: Global,
     whole: &F,
     deck: &'a str,
     steps: u64,
     files: &[UnitFile<'_>],
 ) -> Result<Ran, FinalReport<'a>>
-    ensures accepted { OnOk result (OfBytesIn (F.holds whole.now deck.now) IsAccepted) }
+    ensures ran { IfOk result (λ ran. OfBytesIn (F.holds whole.now deck.now) (λ text.
+        HasRunDeck F.System.exposes F.System.input_bytes F.System.source_bytes text steps files.now ran)) }
     ensures failure { IfErr result
         (IsDeckFailure (F.holds whole.now deck.now) (Some deck.now) None) }
 {
     let bytes = read_file(whole, deck)?;
-    compile_and_run(rt, &bytes, steps, files)
+    compile_and_run(alloc, whole, &bytes, steps, files)
 }
 
 #[tactic(auto, using(crate::proofs::Failures::not_read, crate::proofs::Failures::untouched, crate::proofs::Failures::not_written_as, crate::proofs::Failures::writing_all))]
@@ -190,7 +179,8 @@ fn compile<'a, F: WholeFiles>(
 ) -> Result<(), FinalReport<'a>>
     // The module of the deck that the one file holds is written to the other.
     ensures written { OnOk result (OfBytesIn (F.holds whole.old deck.now) (λ text.
-        HasWritten F.holds F.input_holds F.writes whole.old whole.new file.now (IsModuleOf text))) }
+        HasWritten F.holds F.input_holds F.writes F.System.exposes F.System.input_bytes F.System.source_bytes
+        whole.old whole.new file.now (IsModuleOf text))) }
     ensures failure { IfErr result
         (IsDeckFailure (F.holds whole.old deck.now) (Some deck.now) (Some file.now)) }
     ensures untouched { IfErr result (λ told. UnlessWriting told (whole.new ≡ whole.old)) }
@@ -211,7 +201,8 @@ fn upgrade_file<'a, F: WholeFiles>(
 ) -> Result<(), FinalReport<'a>>
     // The module that the one file holds is written to the other in version 2.
     ensures written { OnOk result (OfBytesIn (F.holds whole.old old.now) (λ older.
-        HasWritten F.holds F.input_holds F.writes whole.old whole.new new.now (IsUpgradeOf older))) }
+        HasWritten F.holds F.input_holds F.writes F.System.exposes F.System.input_bytes F.System.source_bytes
+        whole.old whole.new new.now (IsUpgradeOf older))) }
     ensures failure { IfErr result
         (IsOldFailure (F.holds whole.old old.now) (Some old.now) (Some new.now)) }
     ensures untouched { IfErr result (λ told. UnlessWriting told (whole.new ≡ whole.old)) }
@@ -276,19 +267,20 @@ fn show_module<'a, R: Print + AllocGlobal, F: WholeFiles>(
 }
 
 #[tactic(auto, using(crate::proofs::Failures::not_read))]
-fn run_file<'a, R: Files + Input + Print + AllocGlobal, F: WholeFiles>(
-    rt: &R,
+fn run_file<'a, F: WholeFiles>(
+    alloc: Global,
     whole: &F,
     file: &'a str,
     steps: u64,
     files: &[UnitFile<'_>],
 ) -> Result<Ran, FinalReport<'a>>
-    ensures accepted { OnOk result (OfBytesIn (F.holds whole.now file.now) IsTaken) }
+    ensures ran { IfOk result (λ ran. OfBytesIn (F.holds whole.now file.now) (λ bytes.
+        HasRunModule F.System.exposes F.System.input_bytes F.System.source_bytes bytes steps files.now ran)) }
     ensures failure { IfErr result
         (IsModuleFailure (F.holds whole.now file.now) (Some file.now) None) }
 {
     let bytes = read_file(whole, file)?;
-    run(rt, &bytes, steps, files)
+    run(alloc, whole, &bytes, steps, files)
 }
 
 /// What is reported of a job that leads to a run, or fails.
@@ -313,18 +305,19 @@ fn failure_of<'a>(done: Result<(), FinalReport<'a>>) -> Option<FinalReport<'a>>
 
 /// Does what it is asked to do, and says what is to be reported, if anything. Its exit status is one of those that
 /// docs/program.md has for the word.
-pub(crate) fn perform<'a, R: Files + Input + Print + AllocGlobal, F: WholeFiles>(
+pub(crate) fn perform<'a, R: Print + AllocGlobal, F: WholeFiles>(
     rt: &R,
     whole: &mut F,
     job: Job<'a>,
 ) -> Option<FinalReport<'a>>
     ensures exit { IsOneOf (exit_of_outcome result) (exits_of job.entry) }
     // What the word was to do is done, or the result says why it is not.
-    ensures done { HasDone F.holds F.input_holds F.writes job.entry whole.old whole.new result }
+    ensures done { HasDone F.holds F.input_holds F.writes F.System.exposes F.System.input_bytes F.System.source_bytes
+        job.entry whole.old whole.new result }
 {
     let alloc = rt.alloc();
     match job {
-        Job::CompileAndRun { steps } => told_of(run_input(rt, whole, steps)),
+        Job::CompileAndRun { steps } => told_of(run_input(alloc, whole, steps)),
         Job::Compile { deck, module } => failure_of(compile(alloc, whole, deck, module)),
         Job::Upgrade { old, new } => failure_of(upgrade_file(alloc, whole, old, new)),
         Job::Check { module } => failure_of(check(rt, whole, module)),
@@ -333,7 +326,7 @@ pub(crate) fn perform<'a, R: Files + Input + Print + AllocGlobal, F: WholeFiles>
             module,
             steps,
             files,
-        } => told_of(run_file(rt, whole, module, steps, &files)),
-        Job::Go { deck, steps, files } => told_of(run_deck_file(rt, whole, deck, steps, &files)),
+        } => told_of(run_file(alloc, whole, module, steps, &files)),
+        Job::Go { deck, steps, files } => told_of(run_deck_file(alloc, whole, deck, steps, &files)),
     }
 }

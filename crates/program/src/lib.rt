@@ -4,34 +4,36 @@
 //! does what they ask by the calls of `driver`, reports what is to be reported as lines of `errors`, and returns the
 //! exit status. docs/program.md has the rules.
 //!
-//!     let status = run(&runtime, &runtime.stdin(), &runtime.stdout(), &mut errors);
+//!     let mut files = SystemFiles::new(&runtime);
+//!     let status = run(&runtime, &mut files, &runtime.stdin(), &runtime.stdout(), &mut errors);
 //!
 //! The program `snobol` too runs decks on the units that `units_of` gives, on the system of `system_of`.
 //!
-//! Promised: the exit status is a function of what is reported, and one of those that docs/program.md has for the word;
-//! a deck is run only if it has no fault, and is refused by exactly its faults. What files and terminals hold and give
-//! isn't stated. Decks and commands of tests/ show the rest.
+//! Promised, whatever the files are (`WholeFiles`): some word is done, as `HasDone` says, or nothing is; what is reported
+//! stands on standard error, and the exit status is a function of it, and one of those that docs/program.md has for the
+//! word. Which word it is, and what the system's files and terminals hold and give, isn't stated. Decks and commands of
+//! tests/ show the rest.
 #![tactic(auto)]
 
-ghost use Rattle.std.specs.Prelude.{Option, Some};
+ghost use Rattle.std.specs.Prelude.{IfErr, Option, Some};
 ghost use Rattle.std.specs.Process.{exit_status};
 ghost use Rattle.driver.specs.declared.telling.FinalReport.{FinalReport as AnyTold};
-ghost use Rattle.program.specs.Words.{IsReported};
+ghost use Rattle.driver.specs.Exits.{IsOfBadWords};
+ghost use Rattle.program.specs.Words.{HasAnswered, IsOfNoWord, IsReported};
 
 mod files;
 mod jobs;
 mod records;
 mod system;
 
-use crate::files::SystemFiles;
 use crate::jobs::perform;
 use driver::{FinalReport, read_words, report};
-pub use files::write_whole;
+pub use files::{SystemFiles, WholeFiles, write_whole};
 pub use jobs::{system_of, units_of};
 use std::alloc::AllocError;
 use std::env::{self, Env};
 use std::fs::Files;
-use std::io::{ErrorKind, Input, Print, Write};
+use std::io::{ErrorKind, Print, Write};
 use std::os::fd::AsFd;
 use std::process::ExitCode;
 use streams::{Stream, Streams};
@@ -41,7 +43,9 @@ pub use system::RunSystem;
 const NOTHING_TOLD: u8 = 6;
 
 /// The words after the program's name. One that isn't UTF-8 makes the command line a bad one.
-fn read_arguments<R: Env + AllocGlobal>(rt: &R) -> Result<Vec<String>, FinalReport<'static>> {
+fn read_arguments<R: Env + AllocGlobal>(rt: &R) -> Result<Vec<String>, FinalReport<'static>>
+    ensures { IfErr result IsOfBadWords }
+{
     let arguments = match env::args(rt) {
         Ok(arguments) => arguments,
         Err(error) if error.kind() == ErrorKind::OutOfMemory => return Err(FinalReport::NoMemory),
@@ -67,13 +71,17 @@ fn borrowed<'a, R: AllocGlobal>(
     Ok(words)
 }
 
-fn answer<'a, R: Files + Input + Print + AllocGlobal>(
+/// Does what words ask for, and says what is to be reported, if anything.
+fn answer<'a, R: Print + AllocGlobal, F: WholeFiles>(
     rt: &R,
+    whole: &mut F,
     words: &'a [&'a str],
-) -> Option<FinalReport<'a>> {
-    let mut whole = SystemFiles::new(rt);
+) -> Option<FinalReport<'a>>
+    ensures { HasAnswered F.holds F.input_holds F.writes F.System.exposes F.System.input_bytes F.System.source_bytes
+        whole.old whole.new result }
+{
     match read_words(rt.alloc(), words) {
-        Ok(job) => perform(rt, &mut whole, job),
+        Ok(job) => perform(rt, whole, job),
         Err(told) => Some(told),
     }
 }
@@ -89,7 +97,9 @@ fn tell<W: Write>(told: &FinalReport<'_>, errors: &mut W) -> ExitCode
 }
 
 /// What is reported where the number of a standard stream can't be held.
-fn not_held(stream: Stream) -> FinalReport<'static> {
+fn not_held(stream: Stream) -> FinalReport<'static>
+    ensures { IsOfNoWord result }
+{
     match stream {
         Stream::Input => FinalReport::CannotRead("standard input"),
         Stream::Output => FinalReport::CannotWrite("standard output"),
@@ -107,11 +117,14 @@ fn finish<W: Write>(outcome: Option<FinalReport<'_>>, errors: &mut W) -> ExitCod
     }
 }
 
-fn perform_words<R: Env + Files + Input + Print + AllocGlobal, W: Write>(
+fn perform_words<R: Env + Print + AllocGlobal, F: WholeFiles, W: Write>(
     rt: &R,
+    whole: &mut F,
     errors: &mut W,
 ) -> ExitCode
-    ensures { (told : Option AnyTold) × IsReported told (exit_status result) (W.contents errors.old) (W.contents errors.new) }
+    ensures { (told : Option AnyTold) × IsReported told (exit_status result) (W.contents errors.old) (W.contents errors.new)
+        × HasAnswered F.holds F.input_holds F.writes F.System.exposes F.System.input_bytes F.System.source_bytes
+        whole.old whole.new told }
 {
     let arguments = match read_arguments(rt) {
         Ok(arguments) => arguments,
@@ -120,22 +133,25 @@ fn perform_words<R: Env + Files + Input + Print + AllocGlobal, W: Write>(
     let Ok(words) = borrowed(rt, &arguments) else {
         return tell(&FinalReport::NoMemory, errors);
     };
-    finish(answer(rt, &words), errors)
+    finish(answer(rt, whole, &words), errors)
 }
 
 /// Does what the program's words ask for, reports what is to be reported as lines of `errors`, and returns the exit
 /// status. The standard streams that are closed are held first.
-pub fn run<R: Env + Files + Input + Print + AllocGlobal, I: AsFd, O: AsFd, W: Write + AsFd>(
+pub fn run<R: Env + Files + Print + AllocGlobal, F: WholeFiles, I: AsFd, O: AsFd, W: Write + AsFd>(
     rt: &R,
+    whole: &mut F,
     input: &I,
     output: &O,
     errors: &mut W,
 ) -> ExitCode
-    // The lines on standard error report some outcome, and this is its exit status; or there are no lines.
-    ensures { (told : Option AnyTold) × IsReported told (exit_status result) (W.contents errors.old) (W.contents errors.new) }
+    // Some word is done, or nothing is; the lines on standard error report what came of it, and this is its exit status.
+    ensures { (told : Option AnyTold) × IsReported told (exit_status result) (W.contents errors.old) (W.contents errors.new)
+        × HasAnswered F.holds F.input_holds F.writes F.System.exposes F.System.input_bytes F.System.source_bytes
+        whole.old whole.new told }
 {
     match Streams::hold(rt, input, output, errors) {
-        Ok(_held) => perform_words(rt, errors),
+        Ok(_held) => perform_words(rt, whole, errors),
         Err(stream) => tell(&not_held(stream), errors),
     }
 }

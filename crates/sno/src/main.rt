@@ -1,9 +1,10 @@
 //! The program `sno`: compiles decks and runs modules.
 #![tactic(auto)]
 
-use program::run;
+use program::{SystemFiles, run};
 use std::process::ExitCode;
 
 fn main(rt: HostRuntime) -> ExitCode {
-    run(&rt, &rt.stdin(), &rt.stdout(), &mut rt.stderr())
+    let mut files = SystemFiles::new(&rt);
+    run(&rt, &mut files, &rt.stdin(), &rt.stdout(), &mut rt.stderr())
 }

@@ -1,7 +1,12 @@
 use Rattle.program.proofs.jobs.run_on.Goals as goal
 
-pub returns-in-Ok-clause-meaning : goal.returns-in-Ok-clause-meaning
-returns-in-Ok-clause-meaning g c deck m = (c.in_ok-units.units, c.in_ok-units.ensures.fresh, c.in-Ok.ensures.meaning deck m)
-
-pub returns-in-Ok-clause-run : goal.returns-in-Ok-clause-run
-returns-in-Ok-clause-run g c = (c.in_ok-units.units, c.in_ok-units.ensures.fresh, c.in-Ok.ensures.run)
+pub returns-in-Ok-clause-ran : goal.returns-in-Ok-clause-ran
+returns-in-Ok-clause-ran g c = record {
+  system = c.args.system.now;
+  fresh = c.in_ok-units.units;
+  after = c.run_module_on_files.new.units;
+  made = c.in_ok-units.ensures.fresh;
+  meaning = c.in-Ok.ensures.meaning;
+  run = c.in-Ok.ensures.run;
+  card = c.in-Ok.ensures.card;
+}
