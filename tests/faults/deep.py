@@ -251,11 +251,11 @@ class Large(typing.NamedTuple):
 
 # The process that runs them holds some 82 megabytes, and what it starts begins with as many.
 LARGE = {
-    "assignments of a string": Large(lambda n: " X = 'AAAAAAAAAAAAAAAAAAAAAAAA'\n", 88, 90),
-    "labels and gotos": Large(lambda n: f"L{n:06} A{n:06} = B :(L{n:06})\n", 116, 203),
-    "names of their own": Large(lambda n: f" NAME{n:06} = .OTHER{n:06} N\n", 113, 218),
-    "patterns": Large(lambda n: f" X ('A' | B{n:06} . C) LEN(1)\n", 96, 240),
-    "brackets": Large(lambda n: " X = (((A + 1) * (B + 2)) - (C + 3))\n", 88, 220),
+    "assignments of a string": Large(lambda n: " X = 'AAAAAAAAAAAAAAAAAAAAAAAA'\n", 88, 88),
+    "labels and gotos": Large(lambda n: f"L{n:06} A{n:06} = B :(L{n:06})\n", 116, 180),
+    "names of their own": Large(lambda n: f" NAME{n:06} = .OTHER{n:06} N\n", 113, 181),
+    "patterns": Large(lambda n: f" X ('A' | B{n:06} . C) LEN(1)\n", 96, 198),
+    "brackets": Large(lambda n: " X = (((A + 1) * (B + 2)) - (C + 3))\n", 88, 181),
 }
 
 

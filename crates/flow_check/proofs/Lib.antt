@@ -8,3 +8,4 @@ pub mod Telling
 pub mod Walking
 pub mod Seeding
 pub mod Whole
+pub mod Packing

@@ -1,11 +1,12 @@
 -- What is known of the shapes at an offset.
-use Rattle.std.specs.Prelude.{◌≡◌, true, false, ℕ, List, [], ◌∷◌, Option, Some, None, Bool, nat_lt, nat_eq, get_or, if◌then◌else◌}
+use Rattle.std.specs.Prelude.{◌≡◌, true, false, ℕ, List, [], ◌∷◌, Option, Some, None, Bool, nat_lt, nat_eq, if◌then◌else◌}
 use Rattle.flow_check.specs.declared.shapes.Shape.{Shape}
 use Rattle.indexmap.specs.IndexMap.{get}
 use Rattle.flow_check.specs.declared.marks.Marks.{Marks}
 use Rattle.flow_check.specs.declared.marks.Mark.{Mark}
-use Rattle.flow_check.specs.declared.marks.Slot.{Slot}
-use Rattle.flow_check.specs.declared.marks.Slot.TheVariants.{Free, Bare, Other}
+use Rattle.flow_check.specs.declared.slots.Slot.{Slot}
+use Rattle.flow_check.specs.declared.slots.Slot.TheVariants.{Free, Bare, Other}
+use Rattle.flow_check.specs.Slots.{slot_at}
 use Rattle.flow_check.specs.declared.shapes.Mode.TheVariants.{Goto}
 use Rattle.flow_check.specs.declared.marks.Mark.TheVariants.{One, Torn}
 use Rattle.model.specs.Module.Flow as flow
@@ -22,7 +23,7 @@ slotted Bare other = Some (One (empty_shape Goto))
 slotted Other other = other
 
 abbrev pub marked : Marks → ℕ → Option Mark
-marked m y = slotted (get_or m.slots.items y Other) (get nat_eq m.map y)
+marked m y = slotted (slot_at m.slots.bytes.items y) (get nat_eq m.map y)
 
 -- with one more way to the offset
 abbrev pub joined : Shape → Option Mark → Option Mark

@@ -17,5 +17,6 @@ mod operands;
 mod pool;
 mod rules;
 mod shapes;
+mod slots;
 
 pub use check::check_flow;

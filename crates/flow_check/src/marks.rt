@@ -1,15 +1,16 @@
 //! Which shapes reach an offset.
 
-ghost use Rattle.std.specs.Prelude.{◌≡◌, ℕ, true, None, Some, OnOk, IfOk, get_or, nat_eq, if◌then◌else◌};
+ghost use Rattle.std.specs.Prelude.{◌≡◌, ℕ, true, None, Some, OnOk, IfOk, nat_eq, if◌then◌else◌};
 ghost use Rattle.flow_check.specs.Marks.{joined, met, marked, noted, followed};
 ghost use Rattle.flow_check.specs.Shapes.{empty_shape};
 ghost use Rattle.flow_check.specs.declared.marks.Mark.TheVariants.{One};
-ghost use Rattle.flow_check.specs.declared.marks.Slot.TheVariants.{Other};
+ghost use Rattle.flow_check.specs.Slots.{slot_at};
 ghost use Rattle.flow_check.specs.declared.shapes.Mode.TheVariants.{Goto};
 
 use crate::flow::empty;
 use crate::pool::EMPTY;
 use crate::shapes::{Mode, Shape};
+use crate::slots::{Slot, Slots};
 use indexmap::IndexMap;
 use std::alloc::{AllocError, Global};
 
@@ -53,23 +54,12 @@ fn is_bare(mark: Mark) -> bool
     )
 }
 
-/// What is known of an offset without the map.
-#[derive(Clone, Copy)]
-pub(crate) enum Slot {
-    /// It has no mark.
-    Free,
-    /// It has the usual one.
-    Bare,
-    /// The map says it.
-    Other,
-}
-
 /// The mark of each offset that is reached by a way other than from the instruction before it.
 #[derive(Drop)]
 pub(crate) struct Marks {
     /// What is known without the map, of the first offsets. Most have no mark, and most that have one have the usual
     /// one.
-    slots: Vec<Slot>,
+    slots: Slots,
     map: IndexMap<u32, Mark>,
 }
 
@@ -79,18 +69,15 @@ impl Marks {
         ensures { IfOk result (λ marks. (y : ℕ) → marked marks y ≡ None) }
     {
         Ok(Marks {
-            slots: vec![in alloc; Slot::Free; slots]?,
+            slots: Slots::new(alloc, slots)?,
             map: IndexMap::new(alloc),
         })
     }
 
     fn slot(&self, at: u32) -> Slot
-        ensures { result ≡ get_or self.now.slots.items at Other }
+        ensures { result ≡ slot_at self.now.slots.bytes.items at }
     {
-        match self.slots.as_slice().get(at as usize) {
-            Some(slot) => *slot,
-            None => Slot::Other,
-        }
+        self.slots.get(at as usize)
     }
 
     /// Whether it is known without the map that an offset has no mark.
@@ -175,16 +162,16 @@ impl Marks {
             ≡ (if nat_eq target y then Some mark else marked self.old y)) }
     {
         let place = target as usize;
-        if place >= self.slots.len() {
+        if !self.slots.has(place) {
             self.map.insert(target, mark)?;
             return Ok(());
         }
         if is_bare(mark) {
-            self.slots[place] = Slot::Bare;
+            self.slots.set(place, Slot::Bare);
             return Ok(());
         }
         self.map.insert(target, mark)?;
-        self.slots[place] = Slot::Other;
+        self.slots.set(place, Slot::Other);
         Ok(())
     }
 

@@ -1,5 +1,6 @@
 pub mod Judging
 pub mod Leading
+pub mod Keeping
 pub mod Labelling
 pub mod Numbers
 pub mod Coding

@@ -1,6 +1,6 @@
 //! The instructions of the code.
 
-ghost use Rattle.std.specs.Prelude.{◌≡◌, ◌<◌, ◌+◌, ◌^◌, ◌==◌, ◌&&◌, nat_lt};
+ghost use Rattle.std.specs.Prelude.{◌≡◌, ◌<◌, ◌+◌, ◌^◌, ◌==◌, ◌&&◌, map, nat_lt};
 ghost use Rattle.std.specs.List.{list_any};
 ghost use Rattle.model.specs.Module.Flow.{is_fetched};
 ghost use Rattle.model.specs.Module.Images.{fetch_from, code_size};
@@ -8,9 +8,10 @@ ghost use Rattle.model.specs.Module.Spelling.{IsImage, IsTable, StatementFits, m
 ghost use Rattle.model.specs.Module.WellFormed.{begins_last, indices_fit, instr_rule};
 ghost use Rattle.model.specs.Module.WellFormed.{is_end_instr, is_last_instr, place_fits};
 ghost use Rattle.loader.specs.Parts.{code_fault};
+ghost use Rattle.loader.specs.Places.{place_of};
 
 use crate::code::PlacedCode;
-use crate::decoding::is_at;
+use crate::decoding::{is_at, next_place};
 use crate::names::{is_name, is_statement, is_string};
 use model::{Instr, ModuleFault, ModuleRule};
 use module_format::ImageView;
@@ -57,25 +58,53 @@ struct Here {
     begun: usize,
 }
 
+// Whether an instruction begins at an offset, where the next statement, one of those that lead to these places, is
+// looked at before others.
+fn begins(image: &ImageView<'_>, placed: &PlacedCode, places: &[u32], here: Here, at: u32) -> bool
+    requires placed { placed.now ≡ image.now.code }
+    requires places { places.now ≡ map (place_of image.now) image.now.statements }
+    ensures { result ≡ is_fetched (fetch_from 0 placed.now at) }
+{
+    match next_place(image, places, here.begun.saturating_add(1), at) {
+        Some(place) => placed.begins_at(place, at),
+        None => placed.begins(here.place, at),
+    }
+}
+
 // Whether an offset is one that an instruction may lead to.
-fn is_target(placed: &PlacedCode, here: Here, target: u32) -> bool
+fn is_target(
+    image: &ImageView<'_>,
+    placed: &PlacedCode,
+    places: &[u32],
+    here: Here,
+    target: u32,
+) -> bool
+    requires placed { placed.now ≡ image.now.code }
+    requires places { places.now ≡ map (place_of image.now) image.now.statements }
     ensures { result ≡ (nat_lt here.at target && is_fetched (fetch_from 0 placed.now target)) }
 {
-    here.at < target && placed.begins_next(here.begun.saturating_add(1), here.place, target)
+    here.at < target && begins(image, placed, places, here, target)
 }
 
 // Whether an instruction's targets and its own place are as they must be.
-fn place_fits(image: &ImageView<'_>, placed: &PlacedCode, here: Here, instr: Instr) -> bool
+fn place_fits(
+    image: &ImageView<'_>,
+    placed: &PlacedCode,
+    places: &[u32],
+    here: Here,
+    instr: Instr,
+) -> bool
     requires spelt { IsImage image.now }
     requires placed { placed.now ≡ image.now.code }
+    requires places { places.now ≡ map (place_of image.now) image.now.statements }
     ensures { result ≡ place_fits image.now here.at instr }
 {
     match instr {
         Instr::Begin(target) => {
-            is_target(placed, here, target)
+            is_target(image, placed, places, here, target)
                 && has_statement_near(image.statements(), here.begun, here.at)
         }
-        Instr::Try(target) => is_target(placed, here, target),
+        Instr::Try(target) => is_target(image, placed, places, here, target),
         _ => true,
     }
 }
@@ -110,12 +139,14 @@ fn begins_last(image: &ImageView<'_>, at: u32) -> bool
 fn instr_rule(
     image: &ImageView<'_>,
     placed: &PlacedCode,
+    places: &[u32],
     here: Here,
     size: u32,
     instr: Instr,
 ) -> Option<ModuleRule>
     requires spelt { IsImage image.now }
     requires placed { placed.now ≡ image.now.code }
+    requires places { places.now ≡ map (place_of image.now) image.now.statements }
     requires size { size ≡ code_size image.now.code }
     ensures { result ≡ instr_rule image.now here.at here.next instr }
 {
@@ -123,7 +154,7 @@ fn instr_rule(
         return Some(ModuleRule::BadIndex);
     }
     let goes_on = here.next != size || is_last_instr(instr);
-    if !place_fits(image, placed, here, instr) || !goes_on {
+    if !place_fits(image, placed, places, here, instr) || !goes_on {
         return Some(ModuleRule::BadTarget);
     }
     if begins_last(image, here.at) && !matches!(instr, Instr::End) {
@@ -133,21 +164,23 @@ fn instr_rule(
 }
 
 // 1 for BEGIN, and 0 for another instruction.
-fn begins(instr: Instr) -> usize {
+fn begin_count(instr: Instr) -> usize {
     match instr {
         Instr::Begin(_) => 1,
         _ => 0,
     }
 }
 
-/// The first fault of the instructions of the code, which begins at a place.
+/// The first fault of the instructions of the code, which begins at a place, and whose statements lead to these places.
 pub(crate) fn code_fault(
     image: &ImageView<'_>,
     placed: &PlacedCode,
+    places: &[u32],
     place: usize,
 ) -> Option<ModuleFault>
     requires spelt { IsImage image.now }
     requires placed { placed.now ≡ image.now.code }
+    requires places { places.now ≡ map (place_of image.now) image.now.statements }
     requires there { place + most_code < 2 ^ 60 }
     ensures { result ≡ code_fault place image.now }
 {
@@ -163,7 +196,7 @@ pub(crate) fn code_fault(
             place: before,
             begun,
         };
-        if let Some(rule) = instr_rule(image, placed, here, size, instr) {
+        if let Some(rule) = instr_rule(image, placed, places, here, size, instr) {
             return Some(ModuleFault {
                 offset: place + at as usize,
                 rule,
@@ -171,7 +204,7 @@ pub(crate) fn code_fault(
         }
         at = next;
         before = before.saturating_add(1);
-        begun = begun.saturating_add(begins(instr));
+        begun = begun.saturating_add(begin_count(instr));
     }
     None
 }

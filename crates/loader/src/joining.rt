@@ -1,9 +1,10 @@
 //! All conditions of well-formed modules.
 
-ghost use Rattle.std.specs.Prelude.{◌≡◌, IfOk};
+ghost use Rattle.std.specs.Prelude.{◌≡◌, IfOk, map};
 ghost use Rattle.model.specs.Module.Flow.{BreaksFlow, IsLeast};
 ghost use Rattle.model.specs.Module.Spelling.{IsImage};
 ghost use Rattle.model.specs.Module.WellFormed.{IsTold, flow_fault, lesser_fault, number_of, part_fault};
+ghost use Rattle.loader.specs.Places.{place_of};
 
 use crate::code::PlacedCode;
 use crate::instrs::code_fault;
@@ -16,16 +17,17 @@ use model::{ModuleFault, ModuleRule, Version};
 use module_format::ImageView;
 use std::alloc::{AllocError, Global};
 
-// The first fault of the parts. The statements' instructions are looked for first at these places.
+// The first fault of the parts of an image whose statements lead to these places.
 fn part_fault(
     alloc: Global,
     version: Version,
     image: &ImageView<'_>,
     placed: &PlacedCode,
-    statements: &[usize],
+    statements: &[u32],
 ) -> Result<Option<ModuleFault>, AllocError>
     requires spelt { IsImage image.now }
     requires placed { placed.now ≡ image.now.code }
+    requires places { statements.now ≡ map (place_of image.now) image.now.statements }
     ensures { IfOk result (λ fault. fault ≡ part_fault version image.now) }
 {
     let places = places_of(version, image);
@@ -35,7 +37,7 @@ fn part_fault(
             .or(statement_fault(image, placed, statements, places.statements))
             .or(expression_fault(image, placed, places.expressions))
             .or(patterns_fault(image, places.patterns))
-            .or(code_fault(image, placed, places.code)),
+            .or(code_fault(image, placed, statements, places.code)),
     )
 }
 
@@ -75,17 +77,18 @@ fn flow_fault(version: Version, image: &ImageView<'_>, flow: Option<u32>) -> Opt
     })
 }
 
-/// The least fault of an image that is spelt in a version of the format, with its code by the offsets. The statements'
-/// instructions are looked for first at these places.
+/// The least fault of an image that is spelt in a version of the format, with its code by the offsets and the places
+/// that its statements lead to.
 pub(crate) fn fault_of(
     alloc: Global,
     version: Version,
     image: &ImageView<'_>,
     placed: &PlacedCode,
-    statements: &[usize],
+    statements: &[u32],
 ) -> Result<Option<ModuleFault>, AllocError>
     requires spelt { IsImage image.now }
     requires placed { placed.now ≡ image.now.code }
+    requires places { statements.now ≡ map (place_of image.now) image.now.statements }
     ensures { IfOk result (λ fault. IsTold version image.now fault) }
 {
     let parts = part_fault(alloc, version, image, placed, statements)?;

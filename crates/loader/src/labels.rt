@@ -114,9 +114,12 @@ pub(crate) fn label_numbers(
         ≡ statement_labelled image.now.strings image.now.labels name None }
     ensures { IfOk result (λ numbers. AreNumbers image.now numbers.items) }
 {
-    let mut numbers = Vec::new(alloc);
-    numbers.resize(image.strings().len(), 0)?;
     let labels = image.labels();
+    let mut numbers = Vec::new(alloc);
+    if labels.is_empty() {
+        return Ok(numbers);
+    }
+    numbers.resize(image.strings().len(), 0)?;
     // The map has them from the last to the first.
     let mut place = labels.len();
     for label in labels {

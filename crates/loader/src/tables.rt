@@ -1,12 +1,13 @@
 //! The entry, and the tables of offsets.
 
-ghost use Rattle.std.specs.Prelude.{◌≡◌, ◌<◌, ◌+◌, ◌*◌, ◌^◌, get_or, length, if◌then◌else◌};
+ghost use Rattle.std.specs.Prelude.{◌≡◌, ◌<◌, ◌+◌, ◌*◌, ◌^◌, length, map, if◌then◌else◌};
 ghost use Rattle.model.specs.declared.format.ModuleRule.TheVariants.{BadTarget, NoEnd};
 ghost use Rattle.model.specs.Module.Flow.{is_fetched};
 ghost use Rattle.model.specs.Module.Images.{fetch_from};
 ghost use Rattle.model.specs.Module.Spelling.{IsImage};
 ghost use Rattle.model.specs.Module.WellFormed.{is_begin, unless};
 ghost use Rattle.loader.specs.Parts.{entry_fault, expression_fault, statement_fault};
+ghost use Rattle.loader.specs.Places.{place_by_offset, place_of};
 
 use crate::code::PlacedCode;
 use crate::names::{is_statement, rule};
@@ -27,46 +28,30 @@ pub(crate) fn entry_fault(version: Version, image: &ImageView<'_>) -> Option<Mod
     })
 }
 
-// The rule that the statement of a number, from 0, breaks at an offset, where the last is another. Its place is looked
-// for first from another on.
-fn statement_rule(
-    placed: &PlacedCode,
-    number: usize,
-    near: usize,
-    is_last: bool,
-    at: u32,
-) -> Option<ModuleRule>
+// The rule that a statement breaks at an offset that leads to this place, where the last is another.
+fn statement_rule(placed: &PlacedCode, place: u32, is_last: bool, at: u32) -> Option<ModuleRule>
+    requires { place ≡ place_by_offset 0 placed.now at }
     ensures { result ≡ (if is_last then unless NoEnd
         (is_fetched (fetch_from 0 placed.now at)) else unless BadTarget
         (is_begin (fetch_from 0 placed.now at))) }
 {
     if is_last {
-        rule(ModuleRule::NoEnd, placed.begins(near, at))
+        rule(ModuleRule::NoEnd, placed.begins_at(place, at))
     } else {
-        rule(ModuleRule::BadTarget, placed.is_begin(number, at))
+        rule(ModuleRule::BadTarget, placed.is_begin_at(place, at))
     }
 }
 
-// Where to look for the instruction of a statement.
-fn near_of(places: &[usize], k: usize) -> usize
-    ensures { result ≡ get_or places.now k 0 }
-{
-    match places.get(k) {
-        Some(place) => *place,
-        None => 0,
-    }
-}
-
-/// The first fault of the statements, which begin at a place of the module. Their instructions are looked for first at
-/// the other places.
+/// The first fault of the statements, which stand from a place of the module on and lead to the other places.
 pub(crate) fn statement_fault(
     image: &ImageView<'_>,
     placed: &PlacedCode,
-    places: &[usize],
+    places: &[u32],
     place: usize,
 ) -> Option<ModuleFault>
     requires spelt { IsImage image.now }
     requires placed { placed.now ≡ image.now.code }
+    requires places { places.now ≡ map (place_of image.now) image.now.statements }
     requires there { place + 4 * length image.now.statements < 2 ^ 60 }
     ensures { result ≡ statement_fault place image.now }
 {
@@ -74,8 +59,8 @@ pub(crate) fn statement_fault(
     let count = statements.len();
     let mut offset = place;
     for k in 0..count {
-        let near = near_of(places, k);
-        if let Some(rule) = statement_rule(placed, k, near, k + 1 == count, statements[k]) {
+        let is_last = k + 1 == count;
+        if let Some(rule) = statement_rule(placed, places[k], is_last, statements[k]) {
             return Some(ModuleFault { offset, rule });
         }
         offset += 4;

@@ -794,10 +794,11 @@ fn are_same_few(left: &Text, right: &Text) -> bool
     else {
         return false;
     };
-    if first_word(*len, array) != first_word(*other_len, others) {
+    let word = first_word(*len, array);
+    if word != first_word(*other_len, others) {
         return false;
     }
-    if *len <= 7 {
+    if word % 256 <= 7 {
         return true;
     }
     same_rest(array, others)
