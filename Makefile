@@ -136,8 +136,8 @@ decks: build/sno build/snobol ## the decks and commands of tests/ alone, on the 
 coverage: toolchain ## which ways of the machine the decks of tests/ take; nothing is proved, in some two minutes
 	@tools/counted $(COUNTED) && tests/run --coverage $(COUNTED)
 
-collecting: toolchain ## all decks of tests/ on a program that gives objects back at each step; nothing is proved
-	@tools/collecting build/collecting/sno && tests/run build/collecting/sno
+collecting: toolchain ## the decks of tests/ and random ones on a program that gives objects back at each step; nothing is proved
+	@tools/collecting build/collecting/sno && SECONDS=600 tests/run build/collecting/sno && tests/bound --decks 100 build/collecting/sno
 
 pages: build/sno build/sno_list build/snobol ## what the pages name and show, on the proved programs
 	@tests/docs build/sno build/sno_list build/snobol
