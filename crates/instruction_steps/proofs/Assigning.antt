@@ -13,7 +13,7 @@ use Rattle.model.specs.Language.Operators.{assign_all, assign_op, print_text, pu
 use Rattle.model.specs.Language.Values.{IntegerAt, Object, Str, StringAt, keys_of, set_io, set_var}
 use Rattle.model.specs.Machine.Steps.{MVal, MW}
 use Rattle.match_machine.specs.View.{pending_of}
-use Rattle.match_machine.specs.declared.event.Assignment.{Assignment}
+use Rattle.backtrack.specs.declared.assignment.Assignment.{Assignment}
 use Rattle.pattern_compiler.specs.View.{name_of}
 use Rattle.unit_io.specs.Service.{OfAny, OfSome, OfThese, Served, ServedAll}
 use Rattle.unit_io.specs.declared.units.Units.{Ghosts as Units}

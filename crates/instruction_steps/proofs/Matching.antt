@@ -15,7 +15,7 @@ use Rattle.loader.specs.Places.{offset_at}
 use Rattle.frames.specs.View.{operands_of}
 use Rattle.frames.specs.declared.frame.Frame.{Frame}
 use Rattle.match_machine.specs.View.{pending_of}
-use Rattle.match_machine.specs.declared.event.Assignment.{Assignment}
+use Rattle.backtrack.specs.declared.assignment.Assignment.{Assignment}
 use Rattle.world.specs.Answers.{AnswersAs}
 use Rattle.world.specs.Held.{WorldView, world_of}
 use Rattle.world.specs.declared.fault.Fault.{Fault}

@@ -7,10 +7,9 @@ use Rattle.match_machine.specs.declared.event.Answer.TheVariants as answer
 use Rattle.match_machine.specs.declared.state.Mode.TheVariants as mode
 use Rattle.match_machine.specs.declared.state.Run.{Run}
 use Rattle.match_machine.specs.declared.state.Waiting.TheVariants as waiting
-use Rattle.match_machine.specs.Looks.{FailsAt}
+use Rattle.prefilter.specs.Looks.{FailsAt}
 use Rattle.match_machine.specs.View.{answers_of, choices_of, failed, state_by, state_of, thread_of, waits}
-use Rattle.match_machine.proofs.Glides.{Came, then_comes}
-use Rattle.match_machine.proofs.Looks.{step_on}
+use Rattle.prefilter.proofs.Going.{Came, then_comes, step_on}
 
 entered_fails : (u : List ℕ) (code a : Code) (t : Thread) (cs : List Choice) (x b left n : ℕ) → ((ns : List Note) → FailsAt u a ns 0 t.cursor n) → Came u code (n + 1) (Waits (ForPattern x) t cs b left (IsPattern a ∷ [])) (back cs b left [])
 entered_fails u code a t cs x b left n fails =

@@ -1,30 +1,17 @@
 -- How the kept state moves.
-use Rattle.std.proofs.Common.{◌≡◌, ℕ, zero, suc, ◌+◌, ◌-◌, ◌<◌, ◌≤◌, List, [], ◌∷◌, length, refl, sym, ◌∙◌, ap, arith, add-one, ◌⊎◌, inl, inr, Option, Some, None, true, false}
-use Rattle.std.specs.Prelude.{slice_get, get_or, drop}
+use Rattle.std.proofs.Common.{◌≡◌, ℕ, zero, suc, ◌+◌, ◌-◌, ◌<◌, ◌≤◌, List, [], ◌∷◌, length, refl, sym, ◌∙◌, ap, arith, add-one, ◌⊎◌, inl, inr, Some, None, true, false}
+use Rattle.std.specs.Prelude.{drop}
 use Rattle.std.proofs.lemmas.List.{drop-map, length-map}
-use Rattle.std.proofs.lemmas.Option.{none-some, same_Some, slice_get_cases, slice_get_past}
-use Rattle.model.specs.Pattern.Patterns.{Instr, Pending, Event, Running, Failed, Asks, Matched}
+use Rattle.std.proofs.lemmas.Option.{none-some, same_Some, slice_get_past}
+use Rattle.model.specs.Pattern.Patterns.{Pending, Event, Running, Failed, Asks, Matched}
 use Rattle.model.specs.Pattern.BasicEnds.{from_up}
 use Rattle.model.specs.Pattern.Steps as s
 use Rattle.model.specs.Pattern.Steps.{Code, settled}
-use Rattle.match_machine.specs.Standing.{Back, inside, fenced, unfenced, oldest}
+use Rattle.backtrack.specs.Standing.{Back, inside, fenced, unfenced, oldest}
 use Rattle.match_machine.specs.View.{choice_of, choices_of, is_running}
+use Rattle.prefilter.proofs.Going.{go_at}
 
 -- ---- entered patterns
-pub settled_left : (ns : List s.Note) (code code' : Code) (p p' c : ℕ) (a : Pending) → length code ≤ p → settled (s.Left code' p' ∷ ns) code p c a ≡ settled ns code' p' c a
-settled_left ns code code' p p' c a h =
-    ap (λ (o : Option Instr). elim o [ None ↦ settled ns code' p' c a | Some i ↦ record { code = code; place = p; cursor = c; notes = s.Left code' p' ∷ ns; pending = a } ]) (slice_get_past code p h)
-
-pub settled_within : (ns : List s.Note) (code : Code) (p c : ℕ) (a : Pending) → p < length code → settled ns code p c a ≡ record { code = code; place = p; cursor = c; notes = ns; pending = a }
-settled_within [] code p c a h = refl
-settled_within (s.Opened b ∷ ns) code p c a h = refl
-settled_within (s.Fenced k ∷ ns) code p c a h = refl
-settled_within (s.Left code' p' ∷ ns) code p c a h = go (slice_get_cases code p).1
-  where
-    go : ((x : Instr) × (p < length code) × (slice_get code p ≡ Some x) × (get_or code p x ≡ x)) ⊎ ((length code ≤ p) × (slice_get code p ≡ None)) → settled (s.Left code' p' ∷ ns) code p c a ≡ record { code = code; place = p; cursor = c; notes = s.Left code' p' ∷ ns; pending = a }
-    go (inl (x, l, e, g)) = ap (λ (o : Option Instr). elim o [ None ↦ settled ns code' p' c a | Some i ↦ record { code = code; place = p; cursor = c; notes = s.Left code' p' ∷ ns; pending = a } ]) e
-    go (inr (l, e)) = absurd (omega (arith, h, l))
-
 pub settled_outside : (ns : List s.Note) (code : Code) (p c : ℕ) (a : Pending) → inside ns ≡ false → settled ns code p c a ≡ record { code = code; place = p; cursor = c; notes = ns; pending = a }
 settled_outside [] code p c a h = refl
 settled_outside (s.Opened b ∷ ns) code p c a h = refl
@@ -44,16 +31,6 @@ kept_choices u k bs =
     sym (drop-map (choice_of u) (length bs - k) bs) ∙ ap (λ n. drop (n - k) (choices_of u bs)) (sym (length-map bs (choice_of u)))
 
 -- ---- on at a place
-go_at : (t : s.Thread) (cs : List s.Choice) (b left : ℕ) (o : Option Instr) → s.at_place t ≡ o → s.go t cs b left [] ≡ elim o [ None ↦ s.Over (s.Won b t.cursor t.pending) | Some i ↦ s.Going t cs b left [] ]
-go_at t cs b left o e = ap (λ (x : Option Instr). elim x [ None ↦ s.Over (s.Won b t.cursor t.pending) | Some i ↦ s.Going t cs b left [] ]) e
-
-pub go_within : (t : s.Thread) (cs : List s.Choice) (b left : ℕ) → t.place < length t.code → s.go t cs b left [] ≡ s.Going t cs b left []
-go_within t cs b left h = go (slice_get_cases t.code t.place).1
-  where
-    go : ((x : Instr) × (t.place < length t.code) × (slice_get t.code t.place ≡ Some x) × (get_or t.code t.place x ≡ x)) ⊎ ((length t.code ≤ t.place) × (slice_get t.code t.place ≡ None)) → s.go t cs b left [] ≡ s.Going t cs b left []
-    go (inl (x, l, e, g)) = go_at t cs b left (Some x) e
-    go (inr (l, e)) = absurd (omega (arith, h, l))
-
 pub go_past : (t : s.Thread) (cs : List s.Choice) (b left : ℕ) → length t.code ≤ t.place → s.go t cs b left [] ≡ s.Over (s.Won b t.cursor t.pending)
 go_past t cs b left h = go_at t cs b left None (slice_get_past t.code t.place h)
 

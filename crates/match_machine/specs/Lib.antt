@@ -1,14 +1,6 @@
-pub mod Standing
-pub mod Choices
-pub mod Logs
 pub mod View
 pub mod Moved
-pub mod Starts
 pub mod Turns
 pub mod Held
-pub mod Balance
-pub mod Act
 pub mod Again
 pub mod Straight
-pub mod Looks
-pub mod Filters

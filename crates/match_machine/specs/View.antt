@@ -14,15 +14,15 @@ use Rattle.match_machine.specs.declared.event.Event.TheVariants as event
 use Rattle.match_machine.specs.declared.event.Answer.{Answer}
 use Rattle.match_machine.specs.declared.event.Answer.TheVariants as answer
 use Rattle.match_machine.specs.declared.state.Thread.{Thread}
-use Rattle.match_machine.specs.declared.state.Kept.{Kept}
-use Rattle.match_machine.specs.declared.state.Kept.TheVariants as kept
+use Rattle.backtrack.specs.declared.way_back.WayBack.{WayBack}
+use Rattle.backtrack.specs.declared.way_back.WayBack.TheVariants as kept
 use Rattle.match_machine.specs.declared.state.Waiting.{Waiting}
 use Rattle.match_machine.specs.declared.state.Waiting.TheVariants as waiting
 use Rattle.match_machine.specs.declared.state.Mode.{Mode}
 use Rattle.match_machine.specs.declared.state.Mode.TheVariants as mode
 use Rattle.match_machine.specs.declared.state.Run.{Run}
-use Rattle.match_machine.specs.Standing.{Back}
-pub use Rattle.match_machine.specs.Logs.{assigned, pending_of}
+use Rattle.backtrack.specs.Standing.{Back}
+pub use Rattle.backtrack.specs.Logs.{assigned, pending_of}
 
 -- ---- events and answers
 abbrev pub want_of : Want → p.Want
@@ -53,13 +53,8 @@ abbrev pub thread_of : Thread → s.Thread
 thread_of t =
     record { code = t.trail.code; place = t.place; cursor = t.cursor; notes = t.trail.notes; pending = t.trail.pending }
 
--- an end of BAL and those behind it
-abbrev pub ends_from : List ℕ → Option ℕ → List ℕ
-ends_from u None = []
-ends_from u (Some e) = e ∷ balanced (drop e u) 0 e
-
 -- the choice of an attempt on the subject u
-abbrev pub kept_of : List ℕ → Kept → s.Thread → s.Choice
+abbrev pub kept_of : List ℕ → WayBack → s.Thread → s.Choice
 kept_of u (kept.To q) t = s.Retry q t.cursor [] t
 kept_of u (kept.Arb e) t = s.Retry (t.place + 1) e (drop 1 (from_up e (length u - e))) t
 kept_of u (kept.Bal e) t = s.Retry (t.place + 1) e (balanced (drop e u) 0 e) t
@@ -124,7 +119,7 @@ abbrev pub done : List ℕ → Run → s.Act → MatchState
 done u r x = after_act x (choices_of u r.thread.trail.backs) r.start r.left []
 
 -- what is kept with an attempt fits the subject and the attempt's code
-abbrev pub KeptFits : List ℕ → Thread → Kept → Type 0
+abbrev pub KeptFits : List ℕ → Thread → WayBack → Type 0
 KeptFits u t (kept.To q) = Unit {0}
 KeptFits u t (kept.Arb e) = (e ≤ length u) × (t.place < length t.trail.code)
 KeptFits u t (kept.Bal e) = (e ≤ length u) × (t.place < length t.trail.code)

@@ -1,5 +1,6 @@
 //! What a match asks and reports, and the answers that it takes.
 
+use backtrack::Assignment;
 use pattern_compiler::{Name, PatCode};
 use strings::Text;
 
@@ -19,13 +20,6 @@ pub enum Told {
     Text(Text),
     /// A cursor.
     Number(u64),
-}
-
-/// An assignment that is made after the match.
-#[derive(Drop)]
-pub struct Assignment {
-    pub name: Name,
-    pub value: Text,
 }
 
 /// What a match has come to, with names and values where they are.

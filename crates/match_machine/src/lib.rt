@@ -14,25 +14,20 @@
 mod act;
 mod again;
 mod answers;
-mod choice;
-mod ends;
 mod event;
 mod falls;
 mod glide;
-mod look;
 mod matcher;
-mod prefilter;
 mod run;
-mod search;
 mod starts;
 mod state;
 mod step;
 mod straight;
 mod tell;
-mod trail;
 mod turn;
 
-pub use event::{Answer, Assignment, Event, Told, Want};
+pub use backtrack::Assignment;
+pub use event::{Answer, Event, Told, Want};
 pub use matcher::Matcher;
 pub use run::between;
 pub use straight::{Capture, MatchedPart, Straight, match_straight};

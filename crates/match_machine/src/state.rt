@@ -1,7 +1,7 @@
 //! One state of a match.
 
 use crate::event::{Answer, Told};
-use crate::trail::Trail;
+use backtrack::Trail;
 use pattern_compiler::{Kind, Name};
 
 /// Where one attempt stands, with the choices.
@@ -10,17 +10,6 @@ pub struct Thread {
     pub place: usize,
     pub cursor: usize,
     pub trail: Trail,
-}
-
-/// What is gone back to: on at a place, at a further end of ARB or BAL, an instruction to be done again, or the end of
-/// the match.
-#[derive(Clone, Copy)]
-pub enum Kept {
-    To(usize),
-    Arb(usize),
-    Bal(usize),
-    Again,
-    Quit,
 }
 
 /// What an answer is awaited for.

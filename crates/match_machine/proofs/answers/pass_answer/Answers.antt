@@ -1,6 +1,6 @@
 use Rattle.std.proofs.Common.{◌<◌, List, subst, arith}
 use Rattle.model.specs.Pattern.Steps.{Code, Note}
-use Rattle.match_machine.specs.Looks.{FailsAt}
+use Rattle.prefilter.specs.Looks.{FailsAt}
 use Rattle.match_machine.proofs.Entered.{answer_passed}
 use Rattle.match_machine.proofs.answers.pass_answer.Goals as goal
 

@@ -1,9 +1,9 @@
 use Rattle.std.proofs.Common.{◌≡◌, ◌∙◌, refl, sym, ap, subst, arith}
 use Rattle.model.specs.Pattern.Steps.{IsSound, pattern_step, pattern_steps}
-use Rattle.match_machine.specs.Starts.{RunsOn}
+use Rattle.prefilter.specs.Starts.{RunsOn}
 use Rattle.match_machine.specs.View.{state_of}
 use Rattle.match_machine.specs.declared.state.Run.{Run}
-use Rattle.match_machine.proofs.Looks.{runs_one}
+use Rattle.prefilter.proofs.Going.{runs_one}
 use Rattle.match_machine.proofs.ManyEnds.{back_to, stands_back}
 use Rattle.match_machine.proofs.glide.return_on.Goals as goal
 

@@ -1,6 +1,6 @@
 use Rattle.std.proofs.Common.{◌≡◌, sym, ◌∙◌, ap, arith, ◌<◌, length, []}
 use Rattle.match_machine.specs.View.{choices_of}
-use Rattle.match_machine.proofs.Moves.{go_within, settled_within}
+use Rattle.prefilter.proofs.Going.{go_within, settled_within}
 use Rattle.model.specs.Pattern.Steps as s
 use Rattle.match_machine.proofs.run.onward.Goals as goal
 

@@ -1,7 +1,8 @@
 use Rattle.std.proofs.Common.{◌≡◌, List, sym, ◌∙◌, ap, arith, ◌<◌, ◌≤◌, length, []}
-use Rattle.match_machine.specs.Standing.{Back}
+use Rattle.backtrack.specs.Standing.{Back}
 use Rattle.match_machine.specs.View.{thread_of, choices_of}
-use Rattle.match_machine.proofs.Moves.{go_within, go_past}
+use Rattle.prefilter.proofs.Going.{go_within}
+use Rattle.match_machine.proofs.Moves.{go_past}
 use Rattle.model.specs.Pattern.Steps as s
 use Rattle.match_machine.proofs.run.onward_out.Goals as goal
 use Rattle.match_machine.proofs.run.onward_out.Goals.{then-run-len, else-run-len}

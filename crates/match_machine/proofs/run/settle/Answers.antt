@@ -1,7 +1,7 @@
 use Rattle.std.proofs.Common.{◌≡◌, ◌≤◌, ◌<◌, ◌∙◌, sym, ap, arith, length}
 use Rattle.model.specs.Pattern.Steps.{settled}
-use Rattle.match_machine.specs.Standing.{Standing}
-use Rattle.match_machine.proofs.Moves.{settled_left, settled_within}
+use Rattle.backtrack.specs.Standing.{Standing}
+use Rattle.prefilter.proofs.Going.{settled_left, settled_within}
 use Rattle.match_machine.proofs.run.settle.Goals as goal
 
 pub loop-thread-preserved : goal.loop-thread-preserved

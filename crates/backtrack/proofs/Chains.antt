@@ -1,0 +1,344 @@
+-- Lists of notes in a log that only grows, and logs that are cut to marks.
+use Rattle.std.proofs.Common.{◌≡◌, ℕ, zero, suc, ◌+◌, ◌-◌, ◌<◌, ◌≤◌, List, [], ◌∷◌, ◌++◌, reverse, length, refl, sym, ◌∙◌, ap, subst, arith, ◌⊎◌, inl, inr, Option, Some, None, Bool, true, false, cond, take}
+use Rattle.std.proofs.Math.Dec.{eqb, ltb, eqb-suc-zero}
+use Rattle.std.proofs.Math.Seq.{drop-append_seam}
+use Rattle.std.specs.Prelude.{slice_get, get_or, drop, min}
+use Rattle.std.proofs.lemmas.Bool.{ne_eqb, ltb-true, ltb-false}
+use Rattle.std.proofs.lemmas.Bool.Decides.{eqb_tells}
+use Rattle.std.proofs.lemmas.List.{reverse-append, reverse-reverse, length-reverse, length-append, length-drop, length-take, take-append-le, take-append-drop, take_all}
+use Rattle.std.proofs.lemmas.Option.{none-some, same_Some, slice_get_cases}
+use Rattle.model.specs.Pattern.Steps as s
+use Rattle.model.specs.Pattern.Steps.{Code}
+use Rattle.backtrack.specs.declared.assignment.Assignment.{Assignment}
+use Rattle.backtrack.specs.declared.trail.Entry.{Entry}
+use Rattle.backtrack.specs.Choices.{Choice}
+use Rattle.backtrack.specs.declared.way_back.WayBack.{WayBack}
+use Rattle.backtrack.specs.declared.way_back.WayBack.TheVariants as kept
+use Rattle.backtrack.specs.Standing.{Back, Standing, IsAtArb, no_backs, older, oldest}
+use Rattle.backtrack.specs.Logs.{note_of, pending_of, chain, entry_at, below_of, last_code, Logs, cut, back_of, backs, Marks}
+
+-- ---- lists of notes
+pub chain_top : (e : Entry) (es : List Entry) (h : ℕ) → h ≡ suc (length es) → chain (e ∷ es) h ≡ note_of e.note ∷ chain es e.below
+chain_top e es h q = go (eqb_tells h (suc (length es)))
+  where
+    go : ((eqb h (suc (length es)) ≡ true) × (h ≡ suc (length es))) ⊎ ((eqb h (suc (length es)) ≡ false) × (h ≡ suc (length es) → ⊥)) → chain (e ∷ es) h ≡ note_of e.note ∷ chain es e.below
+    go (inl (t, p)) = ap (λ b. cond b (note_of e.note ∷ chain es e.below) (chain es h)) t
+    go (inr (f, n)) = absurd (n q)
+
+chain_more : (e : Entry) (es : List Entry) (h : ℕ) → (h ≡ suc (length es) → ⊥) → chain (e ∷ es) h ≡ chain es h
+chain_more e es h n = ap (λ b. cond b (note_of e.note ∷ chain es e.below) (chain es h)) (ne_eqb h (suc (length es)) n)
+
+not_top : (h n : ℕ) → h ≤ n → h ≡ suc n → ⊥
+not_top h n l e = omega arith
+
+not_past : (h n : ℕ) → suc n < h → h ≡ suc n → ⊥
+not_past h n l e = omega arith
+
+not_zero : (n : ℕ) → 0 ≡ suc n → ⊥
+not_zero n e = omega arith
+
+chain_zero : (es : List Entry) → chain es 0 ≡ []
+chain_zero [] = refl
+chain_zero (e ∷ es) = chain_more e es 0 (not_zero (length es)) ∙ chain_zero es
+
+chain_past : (es : List Entry) (h : ℕ) → length es < h → chain es h ≡ []
+chain_past [] h l = refl
+chain_past (e ∷ es) h l = chain_more e es h (not_past h (length es) l) ∙ chain_past es h (omega (arith, l))
+
+chain_limit : (e : Entry) (es : List Entry) (h b : ℕ) → h ≡ suc (length es) → chain (e ∷ es) (below_of h b) ≡ chain es b
+chain_limit e es h b q = go (ltb b h) refl
+  where
+    go : (t : Bool) → ltb b h ≡ t → chain (e ∷ es) (cond t b 0) ≡ chain es b
+    go true p = let l : b ≤ length es = omega (arith, ltb-true b h p) in chain_more e es b (not_top b (length es) l)
+    go false p =
+        let l : length es < b = omega (arith, ltb-false b h p) in
+        chain_more e es 0 (not_zero (length es)) ∙ chain_zero es ∙ sym (chain_past es b l)
+
+below_le : (k b : ℕ) → below_of (suc k) b ≤ k
+below_le k b = go (ltb b (suc k)) refl
+  where
+    go : (t : Bool) → ltb b (suc k) ≡ t → cond t b 0 ≤ k
+    go true p = omega (arith, ltb-true b (suc k) p)
+    go false p = omega arith
+
+get_push : {A : Type 0} (xs : List A) (y z : A) (k : ℕ) → slice_get (xs ++ y ∷ []) k ≡ Some z → ((slice_get xs k ≡ Some z) × (k < length xs)) ⊎ ((k ≡ length xs) × (y ≡ z))
+get_push [] y z zero h = inr (refl, same_Some y z h)
+get_push [] y z (suc k) h = absurd (none-some z h)
+get_push (x ∷ xs) y z zero h = inl (h, omega arith)
+get_push (x ∷ xs) y z (suc k) h = go (get_push xs y z k h)
+  where
+    go : ((slice_get xs k ≡ Some z) × (k < length xs)) ⊎ ((k ≡ length xs) × (y ≡ z)) → ((slice_get xs k ≡ Some z) × (suc k < suc (length xs))) ⊎ ((suc k ≡ suc (length xs)) × (y ≡ z))
+    go (inl (g, l)) = inl (g, omega (arith, l))
+    go (inr (q, e)) = inr (ap suc q, e)
+
+chain_entry : (es : List Entry) (k : ℕ) (x : Entry) → slice_get (reverse es) k ≡ Some x → chain es (suc k) ≡ note_of x.note ∷ chain es (below_of (suc k) x.below)
+chain_entry [] k x h = absurd (none-some x h)
+chain_entry (e ∷ es) k x h =
+    go (chain_entry es k x) (get_push (reverse es) e x k (ap (λ l. slice_get l k) (sym (reverse-append (e ∷ []) es)) ∙ h))
+  where
+    go : (slice_get (reverse es) k ≡ Some x → chain es (suc k) ≡ note_of x.note ∷ chain es (below_of (suc k) x.below)) → ((slice_get (reverse es) k ≡ Some x) × (k < length (reverse es))) ⊎ ((k ≡ length (reverse es)) × (e ≡ x)) → chain (e ∷ es) (suc k) ≡ note_of x.note ∷ chain (e ∷ es) (below_of (suc k) x.below)
+    go deep (inl (g, l)) =
+        let m : suc k ≤ length es = omega (arith, l, length-reverse es) in
+        let b : below_of (suc k) x.below ≤ length es = omega (arith, m, below_le k x.below) in
+        chain_more e es (suc k) (not_top (suc k) (length es) m) ∙ deep g
+        ∙ ap (λ ns. note_of x.note ∷ ns) (sym (chain_more e es (below_of (suc k) x.below) (not_top (below_of (suc k) x.below) (length es) b)))
+    go deep (inr (q, p)) =
+        let m : suc k ≡ suc (length es) = omega (arith, q, length-reverse es) in
+        chain_top e es (suc k) m ∙ ap (λ ns. note_of e.note ∷ ns) (sym (chain_limit e es (suc k) e.below m))
+        ∙ ap (λ y. note_of y.note ∷ chain (e ∷ es) (below_of (suc k) y.below)) p
+
+-- the newest note, by its entry
+pub chain_head : (log : List Entry) (h : ℕ) (x : Entry) → entry_at log h ≡ Some x → chain (reverse log) h ≡ note_of x.note ∷ chain (reverse log) (below_of h x.below)
+chain_head log zero x e = absurd (none-some x e)
+chain_head log (suc k) x e = chain_entry (reverse log) k x (ap (λ l. slice_get l k) (reverse-reverse log) ∙ e)
+
+pub chain_no_head : (log : List Entry) (h : ℕ) → entry_at log h ≡ None → chain (reverse log) h ≡ []
+chain_no_head log zero e = chain_zero (reverse log)
+chain_no_head log (suc k) e = go (slice_get_cases log k).1
+  where
+    go : ((x : Entry) × (k < length log) × (slice_get log k ≡ Some x) × (get_or log k x ≡ x)) ⊎ ((length log ≤ k) × (slice_get log k ≡ None)) → chain (reverse log) (suc k) ≡ []
+    go (inl (x, l, g, o)) = absurd (none-some x (sym e ∙ g))
+    go (inr (l, g)) = chain_past (reverse log) (suc k) (omega (arith, l, length-reverse log))
+
+-- with an entry more
+pub chain_push : (log : List Entry) (e : Entry) (h : ℕ) → h ≡ length log + 1 → chain (reverse (log ++ e ∷ [])) h ≡ note_of e.note ∷ chain (reverse log) e.below
+chain_push log e h q =
+    ap (λ es. chain es h) (reverse-append log (e ∷ [])) ∙ chain_top e (reverse log) h (omega (arith, q, length-reverse log))
+
+-- ---- cuts
+pub last_code_push : (cs : List Code) (c : Code) → last_code (cs ++ c ∷ []) ≡ c
+last_code_push cs c = go (slice_get_cases (cs ++ c ∷ []) (length (cs ++ c ∷ []) - 1)).1
+  where
+    n : ℕ
+    n = length (cs ++ c ∷ []) - 1
+
+    size : length (cs ++ c ∷ []) ≡ length cs + 1
+    size = length-append cs (c ∷ [])
+
+    found : (x : Code) → ((slice_get cs n ≡ Some x) × (n < length cs)) ⊎ ((n ≡ length cs) × (c ≡ x)) → x ≡ c
+    found x (inl (g, l)) = absurd (omega (arith, l, size))
+    found x (inr (q, e)) = sym e
+
+    go : ((x : Code) × (n < length (cs ++ c ∷ [])) × (slice_get (cs ++ c ∷ []) n ≡ Some x) × (get_or (cs ++ c ∷ []) n x ≡ x)) ⊎ ((length (cs ++ c ∷ []) ≤ n) × (slice_get (cs ++ c ∷ []) n ≡ None)) → last_code (cs ++ c ∷ []) ≡ c
+    go (inl (x, l, g, o)) =
+        ap (λ (o : Option Code). elim o [ None ↦ [] | Some d ↦ d ]) g ∙ found x (get_push cs c x n g)
+    go (inr (l, g)) = absurd (omega (arith, l, size))
+
+-- the choices are the same for logs whose cuts are the same
+pub record Same (l l' : Logs) (xs : List Choice) : Type 0 where
+  pub marks : Marks l' xs
+  pub backs : backs l' xs ≡ backs l xs
+
+pub more_log : (cs : List Code) (log more : List Entry) (ps : List Assignment) (xs : List Choice) → Marks (record { codes = cs; log = log; pending = ps }) xs → Same (record { codes = cs; log = log; pending = ps }) (record { codes = cs; log = log ++ more; pending = ps }) xs
+more_log cs log more ps [] m = record { marks = tt; backs = refl }
+more_log cs log more ps (x ∷ xs) m =
+    let l : Logs = record { codes = cs; log = log; pending = ps } in
+    let l' : Logs = record { codes = cs; log = log ++ more; pending = ps } in
+    let e : cut l' x ≡ cut l x = ap (λ (es : List Entry). record { codes = take x.codes cs; log = es; pending = take x.pending ps }) (take-append-le x.log log more m.1) in
+    record {
+      marks = (m.0, omega (arith, m.1, length-append log more), m.2, subst (λ (k : Logs). Marks k xs) (sym e) m.3);
+      backs = ap (λ (k : Logs). back_of k x ∷ backs k xs) e;
+    }
+
+pub more_pending : (cs : List Code) (log : List Entry) (ps more : List Assignment) (xs : List Choice) → Marks (record { codes = cs; log = log; pending = ps }) xs → Same (record { codes = cs; log = log; pending = ps }) (record { codes = cs; log = log; pending = ps ++ more }) xs
+more_pending cs log ps more [] m = record { marks = tt; backs = refl }
+more_pending cs log ps more (x ∷ xs) m =
+    let l : Logs = record { codes = cs; log = log; pending = ps } in
+    let l' : Logs = record { codes = cs; log = log; pending = ps ++ more } in
+    let e : cut l' x ≡ cut l x = ap (λ (as' : List Assignment). record { codes = take x.codes cs; log = take x.log log; pending = as' }) (take-append-le x.pending ps more m.2) in
+    record {
+      marks = (m.0, m.1, omega (arith, m.2, length-append ps more), subst (λ (k : Logs). Marks k xs) (sym e) m.3);
+      backs = ap (λ (k : Logs). back_of k x ∷ backs k xs) e;
+    }
+
+pub more_codes : (cs more : List Code) (log : List Entry) (ps : List Assignment) (xs : List Choice) → Marks (record { codes = cs; log = log; pending = ps }) xs → Same (record { codes = cs; log = log; pending = ps }) (record { codes = cs ++ more; log = log; pending = ps }) xs
+more_codes cs more log ps [] m = record { marks = tt; backs = refl }
+more_codes cs more log ps (x ∷ xs) m =
+    let l : Logs = record { codes = cs; log = log; pending = ps } in
+    let l' : Logs = record { codes = cs ++ more; log = log; pending = ps } in
+    let e : cut l' x ≡ cut l x = ap (λ (c : List Code). record { codes = c; log = take x.log log; pending = take x.pending ps }) (take-append-le x.codes cs more m.0) in
+    record {
+      marks = (omega (arith, m.0, length-append cs more), m.1, m.2, subst (λ (k : Logs). Marks k xs) (sym e) m.3);
+      backs = ap (λ (k : Logs). back_of k x ∷ backs k xs) e;
+    }
+
+-- a choice whose marks don't cut
+uncut_by : (l : Logs) (x : Choice) → length l.codes ≤ x.codes → length l.log ≤ x.log → length l.pending ≤ x.pending → cut l x ≡ l
+uncut_by l x c n p =
+    let e : take x.codes l.codes ≡ l.codes = take_all x.codes l.codes c in
+    let f : take x.log l.log ≡ l.log = take_all x.log l.log n in
+    let g : take x.pending l.pending ≡ l.pending = take_all x.pending l.pending p in
+    λ i. record { codes = e i; log = f i; pending = g i }
+
+-- a choice whose marks are the lengths
+uncut : (l : Logs) (x : Choice) → x.codes ≡ length l.codes → x.log ≡ length l.log → x.pending ≡ length l.pending → cut l x ≡ l
+uncut l x c n p = uncut_by l x (omega (arith, c)) (omega (arith, n)) (omega (arith, p))
+
+-- a choice more, with codes added before it
+pub keep_marks : (cs cs' more : List Code) (log : List Entry) (ps : List Assignment) (xs xs' : List Choice) (x : Choice) → cs' ≡ cs ++ more → xs' ≡ xs ++ x ∷ [] → x.codes ≡ length cs' → x.log ≡ length log → x.pending ≡ length ps → Marks (record { codes = cs; log = log; pending = ps }) (reverse xs) → Marks (record { codes = cs'; log = log; pending = ps }) (reverse xs')
+keep_marks cs cs' more log ps xs xs' x e f c n p m =
+    let l : Logs = record { codes = cs'; log = log; pending = ps } in
+    let g : Marks l (reverse xs) = subst (λ (k : List Code). Marks (record { codes = k; log = log; pending = ps }) (reverse xs)) (sym e) (more_codes cs more log ps (reverse xs) m).marks in
+    let all : Marks l (x ∷ reverse xs) = (omega (arith, c), omega (arith, n), omega (arith, p), subst (λ (k : Logs). Marks k (reverse xs)) (sym (uncut l x c n p)) g) in
+    subst (λ (ys : List Choice). Marks l ys) (sym (ap reverse f ∙ reverse-append xs (x ∷ []))) all
+
+pub keep_backs : (cs cs' more : List Code) (log : List Entry) (ps : List Assignment) (xs xs' : List Choice) (x : Choice) → cs' ≡ cs ++ more → xs' ≡ xs ++ x ∷ [] → x.codes ≡ length cs' → x.log ≡ length log → x.pending ≡ length ps → Marks (record { codes = cs; log = log; pending = ps }) (reverse xs) → backs (record { codes = cs'; log = log; pending = ps }) (reverse xs') ≡ back_of (record { codes = cs'; log = log; pending = ps }) x ∷ backs (record { codes = cs; log = log; pending = ps }) (reverse xs)
+keep_backs cs cs' more log ps xs xs' x e f c n p m =
+    let l : Logs = record { codes = cs'; log = log; pending = ps } in
+    ap (backs l) (ap reverse f ∙ reverse-append xs (x ∷ [])) ∙ ap (λ (k : Logs). back_of k x ∷ backs k (reverse xs)) (uncut l x c n p)
+    ∙ ap (λ (k : List Code). back_of l x ∷ backs (record { codes = k; log = log; pending = ps }) (reverse xs)) e
+    ∙ ap (λ (bs : List Back). back_of l x ∷ bs) (more_codes cs more log ps (reverse xs) m).backs
+
+no_backs_of : (l : Logs) (xs : List Choice) → no_backs (backs l xs) ≡ eqb (length xs) 0
+no_backs_of l [] = refl
+no_backs_of l (x ∷ xs) = sym (eqb-suc-zero (length xs))
+
+pub no_choices : (l : Logs) (xs : List Choice) → no_backs (backs l (reverse xs)) ≡ eqb (length xs) 0
+no_choices l xs = no_backs_of l (reverse xs) ∙ ap (λ n. eqb n 0) (length-reverse xs)
+
+-- ---- the newest choice
+pub last_is : (xs : List Choice) (x : Choice) → slice_get xs (length xs - 1) ≡ Some x → (ys : List Choice) × (reverse xs ≡ x ∷ ys)
+last_is xs x h = go (reverse xs) refl
+  where
+    go : (zs : List Choice) → reverse xs ≡ zs → (ys : List Choice) × (reverse xs ≡ x ∷ ys)
+    go [] e =
+        let q : xs ≡ [] = sym (reverse-reverse xs) ∙ ap reverse e in
+        absurd (none-some x (ap (λ (l : List Choice). slice_get l (length l - 1)) (sym q) ∙ h))
+    go (z ∷ zs) e =
+        let q : xs ≡ reverse zs ++ z ∷ [] = sym (reverse-reverse xs) ∙ ap reverse e ∙ reverse-append (z ∷ []) zs in
+        let n : length xs - 1 ≡ length (reverse zs) = omega (arith, ap length q ∙ length-append (reverse zs) (z ∷ [])) in
+        last (get_push (reverse zs) z x (length (reverse zs)) (ap (λ (l : List Choice). slice_get l (length (reverse zs))) (sym q) ∙ ap (slice_get xs) (sym n) ∙ h))
+      where
+        last : ((slice_get (reverse zs) (length (reverse zs)) ≡ Some x) × (length (reverse zs) < length (reverse zs))) ⊎ ((length (reverse zs) ≡ length (reverse zs)) × (z ≡ x)) → (ys : List Choice) × (reverse xs ≡ x ∷ ys)
+        last (inl (g, l)) = absurd (omega (arith, l))
+        last (inr (g, p)) = (zs, e ∙ ap (λ (y : Choice). y ∷ zs) p)
+
+pub at_arb : (l : Logs) (xs : List Choice) (x : Choice) (e : ℕ) (st : Standing) → slice_get xs (length xs - 1) ≡ Some x → x.kept ≡ kept.Arb e → length l.codes ≤ x.codes → last_code l.codes ≡ st.code → st.backs ≡ backs l (reverse xs) → IsAtArb st x.place e
+at_arb l xs x e st h k n c b = go (last_is xs x h)
+  where
+    go : (ys : List Choice) × (reverse xs ≡ x ∷ ys) → IsAtArb st x.place e
+    go (ys, q) =
+        let t : s.Thread = (back_of (cut l x) x).thread in
+        let bs : List Back = backs (cut l x) ys in
+        (t, bs, b ∙ ap (backs l) q ∙ ap (λ (y : WayBack). let all : List Back = record { kept = y; thread = t } ∷ bs in all) k, refl, ap last_code (take_all x.codes l.codes n) ∙ c)
+
+-- ---- the oldest choices
+-- the marks of older choices are those of the whole logs too
+uncut_same : (l : Logs) (x : Choice) (xs : List Choice) → Marks (cut l x) xs → Same (cut l x) l xs
+uncut_same l x xs m =
+    let codes = take x.codes l.codes in
+    let log = take x.log l.log in
+    let pending = take x.pending l.pending in
+    let a = more_codes codes (drop x.codes l.codes) log pending xs m in
+    let b = more_log (codes ++ drop x.codes l.codes) log (drop x.log l.log) pending xs a.marks in
+    let c = more_pending (codes ++ drop x.codes l.codes) (log ++ drop x.log l.log) pending (drop x.pending l.pending) xs b.marks in
+    let e : record { codes = codes ++ drop x.codes l.codes; log = log ++ drop x.log l.log; pending = pending ++ drop x.pending l.pending } ≡ l =
+    λ i. record { codes = take-append-drop x.codes l.codes i; log = take-append-drop x.log l.log i; pending = take-append-drop x.pending l.pending i } in
+    record {
+      marks = subst (λ (k : Logs). Marks k xs) e c.marks;
+      backs = ap (λ (k : Logs). backs k xs) (sym e) ∙ c.backs ∙ b.backs ∙ a.backs;
+    }
+
+pub older_marks : (n : ℕ) (l : Logs) (xs : List Choice) → Marks l xs → Marks l (drop n xs)
+older_marks zero l xs m = m
+older_marks (suc n) l [] m = m
+older_marks (suc n) l (x ∷ xs) m = older_marks n l xs (uncut_same l x xs m.3).marks
+
+older_backs : (n : ℕ) (l : Logs) (xs : List Choice) → Marks l xs → backs l (drop n xs) ≡ drop n (backs l xs)
+older_backs zero l xs m = refl
+older_backs (suc n) l [] m = refl
+older_backs (suc n) l (x ∷ xs) m =
+    let same = uncut_same l x xs m.3 in
+    older_backs n l xs same.marks ∙ ap (drop n) same.backs
+
+length_backs : (l : Logs) (xs : List Choice) → length (backs l xs) ≡ length xs
+length_backs l [] = refl
+length_backs l (x ∷ xs) = ap suc (length_backs (cut l x) xs)
+
+pub count_choices : (l : Logs) (xs : List Choice) → length (backs l (reverse xs)) ≡ length xs
+count_choices l xs = length_backs l (reverse xs) ∙ length-reverse xs
+
+-- without the newest
+pub rest_marks : (l : Logs) (xs rest : List Choice) (x : Choice) → xs ≡ rest ++ x ∷ [] → Marks l (reverse xs) → Marks l (reverse rest)
+rest_marks l xs rest x e m =
+    older_marks 1 l (x ∷ reverse rest) (subst (Marks l) (ap reverse e ∙ reverse-append rest (x ∷ [])) m)
+
+-- the newest is the one that is taken off
+newest_is : (xs rest : List Choice) (x y : Choice) → xs ≡ rest ++ x ∷ [] → slice_get xs (length xs - 1) ≡ Some y → y ≡ x
+newest_is xs rest x y e h =
+    same (get_push rest x y (length xs - 1) (ap (λ (zs : List Choice). slice_get zs (length xs - 1)) (sym e) ∙ h))
+  where
+    same : ((slice_get rest (length xs - 1) ≡ Some y) × (length xs - 1 < length rest)) ⊎ ((length xs - 1 ≡ length rest) × (x ≡ y)) → y ≡ x
+    same (inl (g, l)) = absurd (omega (arith, l, ap length e ∙ length-append rest (x ∷ [])))
+    same (inr (g, z)) = sym z
+
+-- the logs cut to a choice of the code under way
+abbrev pub cut_here : Logs → Choice → Logs
+cut_here l x = record { codes = l.codes; log = take x.log l.log; pending = take x.pending l.pending }
+
+pub newest_marks : (l : Logs) (xs rest : List Choice) (x y : Choice) → xs ≡ rest ++ x ∷ [] → slice_get xs (length xs - 1) ≡ Some y → length l.codes ≤ y.codes → Marks l (reverse xs) → Marks (record { codes = l.codes; log = take y.log l.log; pending = take y.pending l.pending }) (reverse rest)
+newest_marks l xs rest x y e h c m =
+    let below : Marks (cut l x) (reverse rest) = (subst (Marks l) (ap reverse e ∙ reverse-append rest (x ∷ [])) m).3 in
+    let same : cut l x ≡ cut_here l y = ap (cut l) (sym (newest_is xs rest x y e h)) ∙ ap (λ cs. let logs : Logs = record { codes = cs; log = take y.log l.log; pending = take y.pending l.pending } in logs) (take_all y.codes l.codes c) in
+    subst (λ k. Marks k (reverse rest)) same below
+
+pub newest_here : (l : Logs) (xs rest : List Choice) (x y : Choice) (code : Code) → xs ≡ rest ++ x ∷ [] → slice_get xs (length xs - 1) ≡ Some y → length l.codes ≤ y.codes → last_code l.codes ≡ code → backs l (reverse xs) ≡ record { kept = y.kept; thread = record { code = code; place = y.place; cursor = y.cursor; notes = chain (reverse (take y.log l.log)) y.head; pending = pending_of (take y.pending l.pending) } } ∷ backs (record { codes = l.codes; log = take y.log l.log; pending = take y.pending l.pending }) (reverse rest)
+newest_here l xs rest x y code e h c k =
+    let same : cut l y ≡ cut_here l y = ap (λ cs. let logs : Logs = record { codes = cs; log = take y.log l.log; pending = take y.pending l.pending } in logs) (take_all y.codes l.codes c) in
+    ap (backs l) (ap reverse e ∙ reverse-append rest (x ∷ []))
+    ∙ ap (λ z. back_of (cut l z) z ∷ backs (cut l z) (reverse rest)) (sym (newest_is xs rest x y e h))
+    ∙ ap (λ (m : Logs). back_of m y ∷ backs m (reverse rest)) same
+    ∙ ap (λ (code' : Code). let bs : List Back = record { kept = y.kept; thread = record { code = code'; place = y.place; cursor = y.cursor; notes = chain (reverse (take y.log l.log)) y.head; pending = pending_of (take y.pending l.pending) } } ∷ backs (cut_here l y) (reverse rest) in bs) k
+
+-- without the newest
+pub rest_backs : (l : Logs) (xs rest : List Choice) (x : Choice) → xs ≡ rest ++ x ∷ [] → Marks l (reverse xs) → backs l (reverse rest) ≡ older (backs l (reverse xs))
+rest_backs l xs rest x e m =
+    let r : reverse xs ≡ x ∷ reverse rest = ap reverse e ∙ reverse-append rest (x ∷ []) in
+    (uncut_same l x (reverse rest) (subst (Marks l) r m).3).backs ∙ sym (ap (λ ys. older (backs l ys)) r)
+
+-- the logs cut to the newest, which stays
+pub rewound : (l : Logs) (xs : List Choice) (x : Choice) → slice_get xs (length xs - 1) ≡ Some x → length l.codes ≤ x.codes → Marks l (reverse xs) → Same l (cut_here l x) (reverse xs)
+rewound l xs x h c m = go (last_is xs x h)
+  where
+    go : (ys : List Choice) × (reverse xs ≡ x ∷ ys) → Same l (cut_here l x) (reverse xs)
+    go (ys, q) =
+        let marks : Marks l (x ∷ ys) = subst (Marks l) q m in
+        let log : length (take x.log l.log) ≡ min x.log (length l.log) = length-take x.log l.log in
+        let pending : length (take x.pending l.pending) ≡ min x.pending (length l.pending) = length-take x.pending l.pending in
+        let same : cut (cut_here l x) x ≡ cut l x =
+        uncut_by (cut_here l x) x c (omega (arith, log)) (omega (arith, pending))
+        ∙ ap (λ cs. let logs : Logs = record { codes = cs; log = take x.log l.log; pending = take x.pending l.pending } in logs) (sym (take_all x.codes l.codes c)) in
+        record {
+          marks = subst (Marks (cut_here l x)) (sym q) (marks.0, omega (arith, log, marks.1), omega (arith, pending, marks.2), subst (λ k. Marks k ys) (sym same) marks.3);
+          backs = ap (backs (cut_here l x)) q ∙ ap (λ (k : Logs). back_of k x ∷ backs k ys) same ∙ sym (ap (backs l) q);
+        }
+
+pub rewound_to : (l : Logs) (xs : List Choice) (x : Choice) (code : Code) → slice_get xs (length xs - 1) ≡ Some x → length l.codes ≤ x.codes → last_code l.codes ≡ code
+    → (bs : List Back) × (backs (cut_here l x) (reverse xs) ≡ record { kept = x.kept; thread = record { code = code; place = x.place; cursor = x.cursor; notes = chain (reverse (take x.log l.log)) x.head; pending = pending_of (take x.pending l.pending) } } ∷ bs)
+rewound_to l xs x code h c k = go (last_is xs x h)
+  where
+    go : (ys : List Choice) × (reverse xs ≡ x ∷ ys) → (bs : List Back) × (backs (cut_here l x) (reverse xs) ≡ record { kept = x.kept; thread = record { code = code; place = x.place; cursor = x.cursor; notes = chain (reverse (take x.log l.log)) x.head; pending = pending_of (take x.pending l.pending) } } ∷ bs)
+    go (ys, q) =
+        let log : length (take x.log l.log) ≡ min x.log (length l.log) = length-take x.log l.log in
+        let pending : length (take x.pending l.pending) ≡ min x.pending (length l.pending) = length-take x.pending l.pending in
+        let same : cut (cut_here l x) x ≡ cut_here l x = uncut_by (cut_here l x) x c (omega (arith, log)) (omega (arith, pending)) in (
+          backs (cut_here l x) ys,
+          ap (backs (cut_here l x)) q ∙ ap (λ (m : Logs). back_of m x ∷ backs m ys) same
+              ∙ ap (λ (code' : Code). let bs : List Back = record { kept = x.kept; thread = record { code = code'; place = x.place; cursor = x.cursor; notes = chain (reverse (take x.log l.log)) x.head; pending = pending_of (take x.pending l.pending) } } ∷ backs (cut_here l x) ys in bs) k,
+        )
+
+-- the choices that are left of the k oldest
+oldest_choices : (k : ℕ) (xs : List Choice) → reverse (take k xs) ≡ drop (length xs - k) (reverse xs)
+oldest_choices k xs =
+    let n : length (reverse (drop k xs)) ≡ length xs - k = length-reverse (drop k xs) ∙ length-drop k xs in
+    sym (drop-append_seam (reverse (drop k xs)) (reverse (take k xs)))
+    ∙ ap (λ m. drop m (reverse (drop k xs) ++ reverse (take k xs))) n
+    ∙ ap (drop (length xs - k)) (sym (reverse-append (take k xs) (drop k xs)) ∙ ap reverse (take-append-drop k xs))
+
+pub oldest_marks : (k : ℕ) (l : Logs) (xs : List Choice) → Marks l (reverse xs) → Marks l (reverse (take k xs))
+oldest_marks k l xs m = subst (Marks l) (sym (oldest_choices k xs)) (older_marks (length xs - k) l (reverse xs) m)
+
+pub oldest_backs : (k : ℕ) (l : Logs) (xs : List Choice) → Marks l (reverse xs) → backs l (reverse (take k xs)) ≡ oldest k (backs l (reverse xs))
+oldest_backs k l xs m =
+    ap (backs l) (oldest_choices k xs) ∙ older_backs (length xs - k) l (reverse xs) m
+    ∙ ap (λ n. drop (n - k) (backs l (reverse xs))) (sym (count_choices l xs))

@@ -1,0 +1,585 @@
+//! Where the attempt under way stands, and the choices that are gone back to.
+
+ghost use Rattle.std.specs.Prelude.{◌≡◌, ◌∷◌, ◌++◌, ℕ, List, [], true, false, Bool, IfOk, IfSome, OnOk, OnErr};
+ghost use Rattle.std.specs.Prelude.{MatchOption, length, reverse, take, Some, None, option_copied};
+ghost use Rattle.std.specs.Prelude.{if◌then◌else◌};
+ghost use Rattle.model.specs.Pattern.Steps as s;
+ghost use Rattle.model.specs.Pattern.Steps.{Code};
+ghost use Rattle.model.specs.Pattern.Patterns.{Pending};
+ghost use Rattle.backtrack.specs.Standing.{Standing, IsBackTo, inside, opened, unopened, fenced, with_choice, unfenced, no_backs, oldest, older, IsAtArb, IsOpen, from_kept, IsRetried, IsRewound};
+ghost use Rattle.backtrack.specs.Logs.{assigned, pending_of, note_of, chain, entry_at, below_of, last_code};
+
+use crate::assignment::Assignment;
+use crate::choice::{Choice, Marks};
+use crate::way_back::WayBack;
+use pattern_compiler::PatCode;
+use std::alloc::{AllocError, Global};
+use std::marker::Model;
+use std::mem;
+
+/// So much room is more than a list keeps for the next match.
+const MANY: usize = 1 << 16;
+
+/// A cursor that OPEN noted, how many choices FOPEN noted, or where the code that EVAL left goes on.
+#[derive(Drop)]
+pub enum Note {
+    Opened(usize),
+    Fenced(usize),
+    Left(PatCode, usize),
+}
+
+/// A note, and the list below it: 0, or one more than the place of its newest entry.
+#[derive(Drop)]
+pub struct Entry {
+    pub note: Note,
+    pub below: usize,
+}
+
+/// The attempt's code, its notes and its pending assignments, and the choices. Notes are only added: a list of notes is
+/// the place of its newest. The code of a choice is the last of the codes that its cut leaves. The newest choice is the
+/// last.
+#[derive(Drop)]
+pub struct Trail {
+    code: PatCode,
+    /// The last of the codes is the attempt's.
+    stored: bool,
+    codes: Vec<PatCode>,
+    head: usize,
+    log: Vec<Entry>,
+    pending: Vec<Assignment>,
+    choices: Vec<Choice>,
+}
+
+impl Model for Trail {
+    ghost use Rattle.backtrack.specs.Standing.{Standing};
+
+    ghost Value = { Standing };
+
+    ghost use Rattle.backtrack.specs.Logs.{standing, IsKept};
+
+    ghost view = { standing };
+
+    ghost invariant = { IsKept };
+}
+
+impl Trail {
+    /// Nothing. Takes no memory.
+    pub fn new(alloc: Global) -> Trail
+        ensures { result ≡ record { code = []; notes = []; pending = []; backs = [] } }
+    {
+        Trail {
+            code: PatCode::null(),
+            stored: false,
+            codes: Vec::new(alloc),
+            head: 0,
+            log: Vec::new(alloc),
+            pending: Vec::new(alloc),
+            choices: Vec::new(alloc),
+        }
+    }
+
+    /// The code.
+    #[inline(always)]
+    pub fn code(&self) -> &PatCode
+        ensures { result.now ≡ self.now.code }
+    {
+        &self.code
+    }
+
+    /// Whether there is no choice.
+    #[inline(always)]
+    pub fn is_last(&self) -> bool
+        ensures { result ≡ no_backs self.now.backs }
+    {
+        self.choices.is_empty()
+    }
+
+    /// Whether there is one choice alone.
+    #[inline(always)]
+    pub fn is_single(&self) -> bool
+        ensures { result ≡ true → length self.now.backs ≡ 1 }
+    {
+        if self.choices.len() == 1 { true } else { false }
+    }
+
+    /// Without notes, pending assignments and choices.
+    #[inline(always)]
+    fn strip(&mut self)
+        ensures { self.new ≡ record { code = self.old.code; notes = []; pending = []; backs = [] } }
+    {
+        let is_bare = self.log.is_empty()
+            && self.pending.is_empty()
+            && self.codes.is_empty()
+            && self.choices.is_empty();
+        if !is_bare {
+            self.empty_lists();
+        }
+    }
+
+    /// Drops the notes, pending assignments and choices, of which there are some. Apart, so that the other way is
+    /// short.
+    #[inline(never)]
+    fn empty_lists(&mut self)
+        ensures { self.new ≡ record { code = self.old.code; notes = []; pending = []; backs = [] } }
+    {
+        self.stored = false;
+        self.head = 0;
+        self.choices.clear();
+        empty(&mut self.codes);
+        empty(&mut self.log);
+        empty(&mut self.pending);
+    }
+
+    /// The first attempt of a start.
+    #[inline(always)]
+    pub fn begin(&mut self, code: &PatCode) -> Result<(), AllocError>
+        ensures { OnOk result
+            (self.new ≡ record { code = code.now; notes = []; pending = []; backs = [] }) }
+    {
+        self.strip();
+        self.code = code.clone()?;
+        self.stored = false;
+        Ok(())
+    }
+
+    /// Nothing again. The memory of its lists stays for others, but for that of long ones.
+    #[inline(always)]
+    pub fn clear(&mut self, alloc: Global)
+        ensures { self.new ≡ record { code = []; notes = []; pending = []; backs = [] } }
+    {
+        self.shorten(alloc);
+        self.strip();
+        self.code = PatCode::null();
+        self.stored = false;
+    }
+
+    /// Lets go of lists that have more room than they keep for the next match.
+    #[inline(always)]
+    fn shorten(&mut self, alloc: Global) {
+        let shorter = self.choices.capacity() | self.codes.capacity();
+        let longer = self.log.capacity() | self.pending.capacity();
+        if shorter | longer > MANY {
+            *self = Trail::new(alloc);
+        }
+    }
+
+    /// Adds a note.
+    fn add(&mut self, note: Note) -> Result<(), AllocError>
+        ensures { OnOk result
+            (self.new ≡ record self.old { notes = note_of note ∷ self.old.notes }) }
+    {
+        let below = self.head;
+        self.log.push(Entry { note, below })?;
+        self.head = self.log.len();
+        Ok(())
+    }
+
+    /// Notes a cursor.
+    pub fn open(&mut self, cursor: usize) -> Result<(), AllocError>
+        ensures { OnOk result
+            (self.new ≡ record self.old { notes = s.Opened cursor ∷ self.old.notes }) }
+    {
+        self.add(Note::Opened(cursor))
+    }
+
+    /// The newest note is taken off if it is that of OPEN, and its cursor is answered.
+    pub fn take_opened(&mut self) -> Option<usize>
+        ensures cursor { result ≡ opened self.old.notes }
+        ensures taken { self.new ≡ record self.old { notes = unopened self.old.notes } }
+    {
+        match newest(self.log.as_slice(), self.head) {
+            Some((Note::Opened(cursor), below)) => {
+                let cursor = *cursor;
+                self.head = below;
+                Some(cursor)
+            }
+            _ => None,
+        }
+    }
+
+    /// Notes how many choices there are. Apart, so that each instruction is short.
+    #[inline(never)]
+    pub fn open_fence(&mut self) -> Result<(), AllocError>
+        ensures { OnOk result
+            (self.new ≡ record self.old {
+              notes = s.Fenced
+                  (length self.old.backs) ∷ self.old.notes;
+            }) }
+    {
+        let count = self.choices.len();
+        self.add(Note::Fenced(count))
+    }
+
+    /// The newest note is taken off if it is that of FOPEN, and its number is answered.
+    pub fn take_fenced(&mut self) -> Option<usize>
+        ensures count { result ≡ fenced self.old.notes }
+        ensures taken { self.new ≡ record self.old { notes = unfenced self.old.notes } }
+    {
+        match newest(self.log.as_slice(), self.head) {
+            Some((Note::Fenced(count), below)) => {
+                let count = *count;
+                self.head = below;
+                Some(count)
+            }
+            _ => None,
+        }
+    }
+
+    /// Keeps the oldest choices, so many of them.
+    pub fn keep_oldest(&mut self, count: usize)
+        ensures { self.new ≡ record self.old { backs = oldest count self.old.backs } }
+    {
+        self.choices.truncate(count);
+    }
+
+    /// Into a pattern, which goes on at the place.
+    pub fn enter(&mut self, code: PatCode, after: usize) -> Result<(), AllocError>
+        ensures { OnOk result
+            (self.new ≡ record self.old {
+              code = code;
+              notes = s.Left self.old.code after ∷ self.old.notes;
+            }) }
+    {
+        let left = mem::replace(&mut self.code, code);
+        self.stored = false;
+        self.add(Note::Left(left, after))
+    }
+
+    /// Whether the newest note is that of an entered pattern.
+    pub fn is_inside(&self) -> bool
+        ensures { result ≡ inside self.now.notes }
+    {
+        match newest(self.log.as_slice(), self.head) {
+            Some((Note::Left(_code, _place), _below)) => true,
+            _ => false,
+        }
+    }
+
+    /// The code and the place that the newest note leads to, if it is that of an entered pattern.
+    #[inline(always)]
+    pub fn outer(&self) -> Option<(&PatCode, usize)>
+        ensures { IfSome result (λ (code, place).
+            (ns : List s.Note) × (self.now.notes ≡ s.Left code.now place ∷ ns)) }
+    {
+        match newest(self.log.as_slice(), self.head) {
+            Some((Note::Left(code, place), _below)) => Some((code, *place)),
+            _ => None,
+        }
+    }
+
+    /// Out of an entered pattern; the place where it goes on.
+    pub fn leave(&mut self) -> Result<usize, AllocError>
+        requires { inside self.old.notes ≡ true }
+        ensures { IfOk result (λ place.
+            self.old ≡ record self.new {
+              code = self.old.code;
+              notes = s.Left self.new.code place ∷ self.new.notes;
+            }) }
+    {
+        match newest(self.log.as_slice(), self.head) {
+            Some((Note::Left(code, place), below)) => {
+                let place = *place;
+                self.code = code.clone()?;
+                self.stored = false;
+                self.head = below;
+                Ok(place)
+            }
+            _ => unreachable!(),
+        }
+    }
+
+    /// A pending assignment more.
+    #[inline(always)]
+    pub fn assign(&mut self, assignment: Assignment) -> Result<(), AllocError>
+        ensures { OnOk result
+            (self.new ≡ record self.old {
+              pending = self.old.pending
+                  ++ assigned assignment ∷ [];
+            }) }
+    {
+        if self.pending.len() >= self.pending.capacity() {
+            return self.assign_growing(assignment);
+        }
+        self.pending.push_reserved(assignment);
+        Ok(())
+    }
+
+    /// A pending assignment more, where the list has no room. Apart, so that the other way is short.
+    #[cold]
+    #[inline(never)]
+    fn assign_growing(&mut self, assignment: Assignment) -> Result<(), AllocError>
+        ensures { OnOk result
+            (self.new ≡ record self.old {
+              pending = self.old.pending
+                  ++ assigned assignment ∷ [];
+            }) }
+    {
+        self.pending.push(assignment)?;
+        Ok(())
+    }
+
+    /// The pending assignments.
+    pub fn pending(&self) -> &[Assignment]
+        ensures { pending_of result.now ≡ self.now.pending }
+    {
+        self.pending.as_slice()
+    }
+
+    /// Keeps a choice. Takes memory only where a log has to grow.
+    #[inline(always)]
+    pub fn keep(&mut self, kept: WayBack, place: usize, cursor: usize) -> Result<(), AllocError>
+        ensures { OnOk result (self.new ≡ with_choice self.old kept place cursor) }
+    {
+        let (count, room) = (self.choices.len(), self.choices.capacity());
+        if !self.stored || count >= room {
+            return self.keep_growing(kept, place, cursor);
+        }
+        let marks = Marks {
+            head: self.head,
+            log: self.log.len(),
+            pending: self.pending.len(),
+            codes: self.codes.len(),
+        };
+        let choice = Choice::new(kept, place, cursor, marks)?;
+        self.choices.push_reserved(choice);
+        Ok(())
+    }
+
+    /// Keeps a choice, where the code isn't stored yet or the choices have no room. Apart, so that the other way is
+    /// short.
+    #[cold]
+    #[inline(never)]
+    fn keep_growing(&mut self, kept: WayBack, place: usize, cursor: usize) -> Result<(), AllocError>
+        ensures { OnOk result (self.new ≡ with_choice self.old kept place cursor) }
+    {
+        store(&self.code, self.stored, &mut self.codes)?;
+        self.stored = true;
+        let marks = Marks {
+            head: self.head,
+            log: self.log.len(),
+            pending: self.pending.len(),
+            codes: self.codes.len(),
+        };
+        self.choices.push(Choice::new(kept, place, cursor, marks)?)?;
+        Ok(())
+    }
+
+    /// The place and the next end of ARB, where the newest choice goes back to one of the code under way.
+    #[inline(always)]
+    pub fn arb_here(&self) -> Option<(usize, usize)>
+        ensures { IfSome result (λ (place, end). IsAtArb self.now place end) }
+    {
+        let choice = self.choices.last()?;
+        match choice.kept() {
+            WayBack::Arb(end) => {
+                let codes = choice.marks().codes;
+                if self.stored && self.codes.len() <= codes {
+                    Some((choice.place(), end))
+                } else {
+                    None
+                }
+            }
+            _ => None,
+        }
+    }
+
+    /// The newest choice goes back to something else.
+    #[inline(always)]
+    pub fn pass_to(&mut self, kept: WayBack) -> Result<(), AllocError>
+        ensures ok { OnOk result
+            (self.new ≡ record self.old { backs = from_kept kept self.old.backs }) }
+        ensures code { self.new.code ≡ self.old.code }
+    {
+        if let Some(choice) = self.choices.pop() {
+            self.choices.push_reserved(choice.leading_to(kept)?);
+        }
+        Ok(())
+    }
+
+    /// Back to the newest choice, if it goes on at a place of the code under way; where, and from which cursor. Else
+    /// nothing changes.
+    #[inline(always)]
+    pub fn retry(&mut self) -> Option<(usize, usize)>
+        ensures back { IfSome result (λ (place, cursor). IsRetried self.old self.new place cursor) }
+        ensures code { self.new.code ≡ self.old.code }
+        ensures none { result ≡ None → self.new ≡ self.old }
+    {
+        let choice = self.choices.last()?;
+        let WayBack::To(place) = choice.kept() else {
+            return None;
+        };
+        let cursor = choice.cursor();
+        let marks = choice.marks();
+        if !self.stored || self.codes.len() > marks.codes {
+            return None;
+        }
+        self.head = marks.head;
+        cut(&mut self.log, marks.log);
+        cut(&mut self.pending, marks.pending);
+        match self.choices.pop() {
+            Some(_choice) => Some((place, cursor)),
+            None => unreachable!(),
+        }
+    }
+
+    /// Back to where the newest choice was kept, with the choice, if it goes on at a further end in the code under way;
+    /// at which place it was kept, and what is gone back to. Else nothing changes.
+    #[inline(always)]
+    pub fn rewind(&mut self) -> Option<(usize, WayBack)>
+        ensures back { IfSome result (λ (place, kept). IsRewound self.old self.new place kept) }
+        ensures code { self.new.code ≡ self.old.code }
+        ensures none { result ≡ None → self.new ≡ self.old }
+    {
+        let choice = self.choices.last()?;
+        let kept = choice.kept();
+        let (WayBack::Arb(_) | WayBack::Bal(_)) = kept else {
+            return None;
+        };
+        let place = choice.place();
+        let marks = choice.marks();
+        if self.codes.len() > marks.codes || !self.stored {
+            return None;
+        }
+        self.head = marks.head;
+        cut(&mut self.log, marks.log);
+        cut(&mut self.pending, marks.pending);
+        Some((place, kept))
+    }
+
+    /// Whether the newest choice goes on at a further end.
+    #[inline(always)]
+    pub fn goes_to_end(&self) -> bool {
+        match self.choices.last() {
+            Some(choice) => choice.goes_to_end(),
+            None => false,
+        }
+    }
+
+    /// Without the newest choice.
+    #[inline(always)]
+    pub fn forget(&mut self)
+        ensures { self.new ≡ record self.old { backs = older self.old.backs } }
+    {
+        match self.choices.pop() {
+            Some(_choice) => return,
+            None => {}
+        }
+    }
+
+    /// Whether the newest note is that of OPEN.
+    #[inline(always)]
+    pub fn is_open(&self) -> bool
+        ensures { result ≡ true → IsOpen self.now }
+    {
+        match newest(self.log.as_slice(), self.head) {
+            Some((Note::Opened(_cursor), _below)) => true,
+            _ => false,
+        }
+    }
+
+    /// Back to the newest choice, if there is one.
+    #[inline(never)]
+    pub fn back(&mut self) -> Result<Option<Choice>, AllocError>
+        ensures { IfOk result (λ o. MatchOption o (self.old.backs ≡ []) (λ x. IsBackTo self.old self.new x)) }
+    {
+        match self.choices.pop() {
+            Some(choice) => {
+                let stored = self.stored;
+                let marks = choice.marks();
+                self.stored = false;
+                self.head = marks.head;
+                cut(&mut self.log, marks.log);
+                cut(&mut self.pending, marks.pending);
+                cut_codes(&mut self.code, stored, &mut self.codes, marks.codes)?;
+                self.stored = true;
+                Ok(Some(choice))
+            }
+            None => Ok(None),
+        }
+    }
+}
+
+/// Lets go of all that a list holds, and keeps its room.
+#[inline(always)]
+fn empty<T: Drop>(list: &mut Vec<T>)
+    ensures { list.new.items ≡ [] }
+{
+    while let Some(last) = list.pop() {
+        drop(last);
+    }
+}
+
+/// The entry of the newest note.
+#[inline(always)]
+fn newest_entry(log: &[Entry], head: usize) -> Option<&Entry>
+    ensures { option_copied result ≡ entry_at log.now head }
+{
+    if head > 0 { log.get(head - 1) } else { None }
+}
+
+/// The list below an entry.
+#[inline(always)]
+fn list_below(head: usize, below: usize) -> usize
+    ensures { result ≡ below_of head below }
+{
+    if below < head { below } else { 0 }
+}
+
+/// The newest note of a list, and the list below it.
+#[inline(always)]
+fn newest(log: &[Entry], head: usize) -> Option<(&Note, usize)>
+    ensures some { IfSome result (λ (note, below).
+        chain (reverse log.now) head ≡ note_of note.now ∷ chain (reverse log.now) below) }
+    ensures none { result ≡ None → chain (reverse log.now) head ≡ [] }
+{
+    let entry = newest_entry(log, head)?;
+    Some((&entry.note, list_below(head, entry.below)))
+}
+
+/// The code as the last of the codes, where it isn't yet.
+#[inline(always)]
+fn store(code: &PatCode, stored: bool, codes: &mut Vec<PatCode>) -> Result<(), AllocError>
+    requires { stored ≡ true → last_code codes.old.items ≡ code.now }
+    ensures last { OnOk result (last_code codes.new.items ≡ code.now) }
+    ensures more { OnOk result ((cs : List Code) × (codes.new.items ≡ codes.old.items ++ cs)) }
+    ensures same { OnErr result (codes.new.items ≡ codes.old.items) }
+{
+    if !stored {
+        let copy = code.clone()?;
+        codes.push(copy)?;
+    }
+    Ok(())
+}
+
+/// The codes cut to a length, and the last that is left. Where nothing is cut off, the stored code stays.
+#[inline(always)]
+fn cut_codes(
+    code: &mut PatCode,
+    stored: bool,
+    codes: &mut Vec<PatCode>,
+    len: usize,
+) -> Result<(), AllocError>
+    requires { stored ≡ true → last_code codes.old.items ≡ code.old }
+    ensures codes { codes.new.items ≡ take len codes.old.items }
+    ensures code { OnOk result (code.new ≡ last_code (take len codes.old.items)) }
+{
+    if stored && codes.len() <= len {
+        return Ok(());
+    }
+    codes.truncate(len);
+    *code = match codes.as_slice().last() {
+        Some(last) => last.clone()?,
+        None => PatCode::null(),
+    };
+    Ok(())
+}
+
+/// A log cut to a length.
+#[inline(always)]
+fn cut<T: Drop>(list: &mut Vec<T>, len: usize)
+    ensures { list.new.items ≡ take len list.old.items }
+{
+    if list.len() > len {
+        list.truncate(len);
+    }
+}

@@ -1,0 +1,18 @@
+use Rattle.prefilter.proofs.Misses.{fails_pos}
+use Rattle.prefilter.proofs.ManyStarts.{fails_any, fails_not_any, fails_span}
+use Rattle.prefilter.proofs.ends.fails_for.Goals as goal
+
+pub returns-in-Any-clause-fails : goal.returns-in-Any-clause-fails
+returns-in-Any-clause-fails c = rw c.in-Any.is (fails_any c.args.subject.now _ c.args.from _ c.break_len.result c.break_len.ensures.value)
+
+pub returns-in-NotAny-clause-fails : goal.returns-in-NotAny-clause-fails
+returns-in-NotAny-clause-fails c =
+    rw c.in-NotAny.is (fails_not_any c.args.subject.now _ c.args.from _ c.span_len.result c.span_len.ensures.value)
+
+pub returns-in-Span-clause-fails : goal.returns-in-Span-clause-fails
+returns-in-Span-clause-fails c =
+    rw c.in-Span.is (fails_span c.args.subject.now _ c.args.from _ c.break_len-in-Span.result c.break_len-in-Span.ensures.value)
+
+pub returns-in-Pos-clause-fails : goal.returns-in-Pos-clause-fails
+returns-in-Pos-clause-fails c =
+    rw c.in-Pos.is (λ k l m. fails_pos c.args.subject.now c.in-Pos.n k (c.places_beside.ensures.others k l m))

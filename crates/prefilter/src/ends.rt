@@ -1,0 +1,275 @@
+//! The ends of parts without parts.
+
+ghost use Rattle.std.specs.Prelude.{◌≡◌, ◌≢◌, ◌+◌, ◌-◌, ◌<◌, ◌≤◌, ◌^◌, ◌∷◌, [], ℕ, List, length};
+ghost use Rattle.std.specs.Prelude.{drop, not, true, false, Some, IfSome, option_to_list};
+ghost use Rattle.std.specs.List.{prefix_len};
+ghost use Rattle.model.specs.Pattern.Patterns as p;
+ghost use Rattle.model.specs.Pattern.BasicEnds.{ends_at, is_in_set, balanced};
+ghost use Rattle.prefilter.specs.Balance.{ends_from, balanced_after};
+ghost use Rattle.prefilter.specs.Starts.{FailsFrom};
+ghost use Rattle.prefilter.specs.Act.{HasOneEnd, IsOther};
+ghost use Rattle.pattern_compiler.specs.View.{basic_of};
+ghost use Rattle.prefilter.specs.declared.ends.Balance.{Balance};
+
+use crate::search::{count_of, lit_fails_for};
+use pattern_compiler::{Basic, Set};
+
+/// The end of a literal.
+#[inline(always)]
+pub fn lit_end(subject: &[u8], cursor: usize, text: &[u8]) -> Option<usize>
+    requires { cursor ≤ length subject.now }
+    ensures { option_to_list result ≡ ends_at subject.now (p.Lit text.now) cursor }
+{
+    if let [byte] = text {
+        return if cursor < subject.len() && subject[cursor] == *byte {
+            Some(cursor + 1)
+        } else {
+            None
+        };
+    }
+    if let [first, second] = text {
+        return if subject.len() - cursor >= 2
+            && subject[cursor] == *first
+            && subject[cursor + 1] == *second
+        {
+            Some(cursor + 2)
+        } else {
+            None
+        };
+    }
+    if let [first, ..] = text {
+        if cursor >= subject.len() || subject[cursor] != *first {
+            return None;
+        }
+    }
+    let rest = &subject[cursor..];
+    if rest.starts_with(text) {
+        Some(cursor + text.len())
+    } else {
+        None
+    }
+}
+
+/// The end of RPOS.
+#[inline(always)]
+pub fn rpos_end(subject: &[u8], cursor: usize, n: u64) -> Option<usize>
+    requires { cursor ≤ length subject.now }
+    ensures { option_to_list result ≡ ends_at subject.now (p.RPos n) cursor }
+{
+    if (subject.len() - cursor) as u64 == n {
+        Some(cursor)
+    } else {
+        None
+    }
+}
+
+/// The end of SPAN.
+#[inline(never)]
+pub fn span_end(subject: &[u8], cursor: usize, set: &Set) -> Option<usize>
+    requires { cursor ≤ length subject.now }
+    ensures { option_to_list result ≡ ends_at subject.now (p.Span set.now) cursor }
+{
+    let n = set.span_len(&subject[cursor..]);
+    if n > 0 { Some(cursor + n) } else { None }
+}
+
+/// The end of BREAK.
+#[inline(never)]
+pub fn break_end(subject: &[u8], cursor: usize, set: &Set) -> Option<usize>
+    requires { cursor ≤ length subject.now }
+    ensures { option_to_list result ≡ ends_at subject.now (p.Break set.now) cursor }
+{
+    let n = set.break_len(&subject[cursor..]);
+    if cursor + n < subject.len() {
+        Some(cursor + n)
+    } else {
+        None
+    }
+}
+
+/// How many places from here on come before another; all where that lies behind, and at most so many.
+#[inline(always)]
+fn places_beside(from: usize, limit: usize, place: u64) -> usize
+    ensures others { (c : ℕ) → from ≤ c → c < from + result → c ≢ place }
+    ensures limit { result ≤ limit }
+{
+    let here = from as u64;
+    if place < here {
+        return limit;
+    }
+    (place - here).min(limit as u64) as usize
+}
+
+/// At how many places from here on another is left of them to the end; at most so many.
+#[inline(always)]
+fn rpos_fails_for(subject: &[u8], from: usize, limit: usize, n: u64) -> usize
+    requires { from + limit ≤ length subject.now }
+    ensures fails { FailsFrom subject.now (p.RPos n) from result }
+    ensures limit { result ≤ limit }
+{
+    let len = subject.len() as u64;
+    if n > len {
+        return limit;
+    }
+    places_beside(from, limit, len - n)
+}
+
+/// At how many places from here on no byte of a set is left, where none is left here; at most so many. It looks at all
+/// that is left, so it is asked only behind a place where a match failed.
+#[inline(never)]
+fn break_fails_for(subject: &[u8], from: usize, limit: usize, set: &Set) -> usize
+    requires { from + limit ≤ length subject.now }
+    ensures fails { FailsFrom subject.now (p.Break set.now) from result }
+    ensures limit { result ≤ limit }
+{
+    if from > 0 && from + set.break_len(&subject[from..]) == subject.len() {
+        limit
+    } else {
+        0
+    }
+}
+
+/// At how many places from here on a part has no end, as a look at the place or one search shows; at most so many.
+#[inline(never)]
+pub fn fails_for(subject: &[u8], from: usize, limit: usize, part: &Basic) -> usize
+    requires { from + limit ≤ length subject.now }
+    ensures fails { FailsFrom subject.now (basic_of part.now) from result }
+    ensures limit { result ≤ limit }
+{
+    let rest = &subject[from..from + limit];
+    match part {
+        Basic::Lit(text) => lit_fails_for(subject, from, limit, text.as_slice()),
+        Basic::Any(set) => set.break_len(rest),
+        Basic::NotAny(set) => set.span_len(rest),
+        Basic::Span(set) => set.break_len(rest),
+        Basic::Break(set) => break_fails_for(subject, from, limit, set),
+        Basic::Pos(n) => places_beside(from, limit, *n),
+        Basic::RPos(n) => rpos_fails_for(subject, from, limit, *n),
+        Basic::Len(n) | Basic::RTab(n) if *n > (subject.len() - from) as u64 => limit,
+        Basic::Tab(n) if *n < from as u64 || *n > subject.len() as u64 => limit,
+        Basic::Fail => limit,
+        _ => 0,
+    }
+}
+
+/// Whether a part has one end at most from each place.
+#[inline(always)]
+pub fn has_one_end(part: &Basic) -> bool
+    ensures one { result ≡ true → HasOneEnd (basic_of part.now) }
+    ensures many { result ≡ false → IsOther (Some (p.Do (basic_of part.now))) }
+{
+    !matches!(part, Basic::Arb | Basic::Bal)
+}
+
+/// The end of such a part.
+#[inline(always)]
+pub fn one_end(subject: &[u8], cursor: usize, part: &Basic) -> Option<usize>
+    requires cursor { cursor ≤ length subject.now }
+    requires one { HasOneEnd (basic_of part.now) }
+    ensures { option_to_list result ≡ ends_at subject.now (basic_of part.now) cursor }
+{
+    match part {
+        Basic::Lit(text) => lit_end(subject, cursor, text.as_slice()),
+        Basic::Len(n) if *n <= (subject.len() - cursor) as u64 => Some(cursor + *n as usize),
+        Basic::Pos(n) if cursor as u64 == *n => Some(cursor),
+        Basic::RPos(n) => rpos_end(subject, cursor, *n),
+        Basic::Tab(n) if cursor as u64 <= *n && *n <= subject.len() as u64 => Some(*n as usize),
+        Basic::RTab(n) if *n <= (subject.len() - cursor) as u64 => Some(
+            subject.len() - *n as usize,
+        ),
+        Basic::Any(set) if cursor < subject.len() && set.has(subject[cursor]) => Some(cursor + 1),
+        Basic::NotAny(set) if cursor < subject.len() && !set.has(subject[cursor]) => Some(
+            cursor + 1,
+        ),
+        Basic::Span(set) => span_end(subject, cursor, set),
+        Basic::Break(set) => break_end(subject, cursor, set),
+        Basic::Rem => Some(subject.len()),
+        _ => None,
+    }
+}
+
+/// How brackets stand after a byte.
+#[derive(Clone, Copy)]
+pub enum Balance {
+    /// More are closed than were open.
+    Unbalanced,
+    /// None is open.
+    Whole,
+    /// So many are open.
+    Inside(usize),
+}
+
+/// How brackets stand after a byte, where so many were open before it.
+fn after_byte(depth: usize, byte: u8) -> Balance
+    requires { depth + 1 < 2 ^ 64 }
+    ensures ends { (s : List ℕ) (c : ℕ) → balanced (byte ∷ s) depth c ≡ balanced_after result s c }
+    ensures depth { (d : ℕ) → result ≡ Balance.Inside d → d ≤ depth + 1 }
+    ensures open { (d : ℕ) → result ≡ Balance.Inside d → 0 < d }
+{
+    if byte == b'(' {
+        Balance::Inside(depth + 1)
+    } else if byte != b')' {
+        if depth == 0 {
+            Balance::Whole
+        } else {
+            Balance::Inside(depth)
+        }
+    } else if depth == 0 {
+        Balance::Unbalanced
+    } else if depth == 1 {
+        Balance::Whole
+    } else {
+        Balance::Inside(depth - 1)
+    }
+}
+
+/// The first end of BAL from here.
+#[inline(always)]
+pub fn bal_end(subject: &[u8], cursor: usize) -> Option<usize>
+    requires { cursor ≤ length subject.now }
+    ensures ends { ends_from subject.now result ≡ ends_at subject.now p.Bal cursor }
+    ensures within { IfSome result (λ e. e ≤ length subject.now) }
+{
+    if cursor >= subject.len() {
+        return None;
+    }
+    match after_byte(0, subject[cursor]) {
+        Balance::Unbalanced => None,
+        Balance::Whole => Some(cursor + 1),
+        Balance::Inside(open) => closing_from(subject, cursor + 1, open),
+    }
+}
+
+/// The first end of BAL from a place on, where so many brackets are open before it. Sixteen bytes that close fewer than
+/// are open are passed together.
+#[inline(never)]
+fn closing_from(subject: &[u8], from: usize, opened: usize) -> Option<usize>
+    requires within { from ≤ length subject.now }
+    requires opened { (0 < opened) × (opened ≤ from) }
+    ensures ends { ends_from subject.now result ≡ balanced (drop from subject.now) opened from }
+    ensures within { IfSome result (λ e. e ≤ length subject.now) }
+{
+    let mut depth = opened;
+    let mut at = from;
+    while at < subject.len() {
+        let rest = subject.len() - at;
+        if rest >= 16 {
+            let closed = count_of(subject, at, b')');
+            if closed < depth {
+                depth = depth + count_of(subject, at, b'(') - closed;
+                at += 16;
+                continue;
+            }
+        }
+        let to = at + rest.min(16);
+        while at < to {
+            match after_byte(depth, subject[at]) {
+                Balance::Unbalanced => return None,
+                Balance::Whole => return Some(at + 1),
+                Balance::Inside(further) => depth = further,
+            }
+            at += 1;
+        }
+    }
+    None
+}
