@@ -1,9 +1,9 @@
 """What specs, proofs and code of a crate cite of the crates below, and what these offer to be cited.
 
-A crate offers its public types, its definitions in the files of specs/ that a contract of a public function reaches or
-that its page CALLING.md names, and the lemmas that the page names under `## Laws for other crates`. All definitions of
-`model` are offered, as they are what the contracts of all crates speak of; but no crate above the matcher names
-choices, and none above the loader how parts of a module are spelt.
+A crate offers its public types and their rows in the logic, its definitions in the files of specs/ that a contract of a
+public function reaches or that its page CALLING.md names, and the lemmas that the page names under `## Laws for other
+crates`. All definitions of `model` are offered, as they are what the contracts of all crates speak of; but no crate
+above the matcher names choices, and none above the loader how parts of a module are spelt.
 """
 
 import functools
@@ -141,8 +141,13 @@ def reached(crate):
     return found
 
 
+def is_of_type(it):
+    """Whether a citation is of a type as the code declares it, or of its row, which a `Lends` clause names."""
+    return it.where.startswith("declared") or (it.where.startswith("contracts") and it.name == "the_row")
+
+
 def is_type(it):
-    """Whether a citation of `specs/declared` is of what the code gives to those above."""
+    """Whether a citation of a type is of what the code gives to those above."""
     words = it.where.split("/")
     return it.name in exported(it.below) or any(word in exported(it.below) for word in words[1:])
 
@@ -153,7 +158,7 @@ def is_offered(it):
         return False
     if it.room == "proofs":
         return it.name in laws(it.below).get(it.where, ())
-    if it.where.startswith("declared"):
+    if is_of_type(it):
         return is_type(it)
     file = f"specs/{it.where}.antt"
     return it.below == DEFINING or f"`{file}`" in page(it.below) or f"{it.below}/{file}" in reached(it.below)
@@ -169,8 +174,10 @@ def told(crate):
     """The lines that say what a crate cites of each crate below."""
     found = {}
     for it in cited(crate):
-        what = "types" if it.where.startswith("declared") else it.room
-        name = it.name if what == "types" else f"{it.where}.{it.name}" if what == "proofs" else it.where
+        what = "types" if is_of_type(it) else it.room
+        name = f"{it.where}.{it.name}" if what == "proofs" else it.where if what == "specs" else it.name
+        if name == "the_row":
+            name = it.where.rpartition("/")[2]
         found.setdefault((it.below, what), set()).add(name)
     lines = []
     for (below, what), names in sorted(found.items()):

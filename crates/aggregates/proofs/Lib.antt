@@ -1,8 +1,4 @@
 pub mod Lists
-pub mod Paging
-pub mod Objects
-pub mod Clearing
-pub mod Marking
 pub mod Counts
 pub mod Entries
 pub mod Indexes

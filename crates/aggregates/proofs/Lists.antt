@@ -1,6 +1,6 @@
 -- A list with another item.
 use Rattle.std.proofs.Common.{◌∙◌, append_assoc, subst, ◌-◌, Bool, true, false, Option, ◌≡◌, ℕ, zero, suc, ◌+◌, ◌<◌, ◌≤◌, List, [], ◌∷◌, ◌++◌, length, replicate, Some, None, refl, sym, ap, arith}
-use Rattle.std.specs.Prelude.{slice_get, slice_set, Result, Ok, Err, OnErr}
+use Rattle.std.specs.Prelude.{slice_get, slice_set}
 use Rattle.std.proofs.lemmas.List.{append-nil, length-replicate, replicate-append-replicate}
 use Rattle.model.specs.Language.Operators.{with_item, onto}
 use Rattle.aggregates.specs.Elements.{rest_of}
@@ -49,10 +49,6 @@ rest_written xs x more all rest is le =
 
 pub replicate_more : {V : Type 0} (n : ℕ) (x : V) → replicate (n + 1) x ≡ replicate n x ++ x ∷ []
 replicate_more n x = sym (replicate-append-replicate n 1 x)
-
-pub on_err : {A E : Type 0} {P : Type 0} (r : Result A E) → P → OnErr r P
-on_err (Ok a) p = tt
-on_err (Err e) p = p
 
 -- each value of a list stands below its length
 pub all_stand : {V : Type 0} (vs : List V) → StandBelow (length vs) vs

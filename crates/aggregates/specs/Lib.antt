@@ -3,7 +3,4 @@ pub mod Elements
 pub mod Keys
 pub mod Objects
 pub mod Made
-pub mod Marked
-pub mod Paged
 pub mod Wanted
-pub mod Parts

@@ -17,7 +17,7 @@ use std::marker::Model;
 
 /// An array. Contracts see its dimensions, and its elements, those of the last dimension side by side.
 #[derive(Drop)]
-pub(crate) struct Array<V> {
+pub struct Array<V> {
     bounds: Dimensions,
     elements: Elements<V>,
 }
@@ -52,11 +52,7 @@ impl<V: Element> Array<V> {
     }
 
     /// The array with this value everywhere.
-    pub(crate) fn filled(
-        alloc: Global,
-        bounds: Vec<Bounds>,
-        value: &V,
-    ) -> Result<Array<V>, AllocError>
+    pub fn filled(alloc: Global, bounds: Vec<Bounds>, value: &V) -> Result<Array<V>, AllocError>
         requires fits { elements_in bounds.items < 2 ^ 63 }
         requires few { length bounds.items ≤ 8 }
         ensures { IfOk result (λ array.
@@ -71,7 +67,7 @@ impl<V: Element> Array<V> {
     }
 
     /// A copy of the array, with its bounds and a clone of each element.
-    pub(crate) fn copy(&self, alloc: Global) -> Result<Array<V>, AllocError>
+    pub fn copy(&self, alloc: Global) -> Result<Array<V>, AllocError>
         ensures { IfOk result (λ array. array ≡ self.now) }
     {
         let bounds = self.bounds.copy(alloc)?;
@@ -81,14 +77,14 @@ impl<V: Element> Array<V> {
 
     /// The element at a place.
     #[inline(always)]
-    pub(crate) fn get(&self, place: usize) -> Option<&V>
+    pub fn get(&self, place: usize) -> Option<&V>
         ensures { option_copied result ≡ slice_get self.now.1 place }
     {
         self.elements.get(place)
     }
 
     /// Its dimensions.
-    pub(crate) fn bounds(&self) -> &[Bounds]
+    pub fn bounds(&self) -> &[Bounds]
         ensures { result.now ≡ self.now.0 }
     {
         self.bounds.as_slice()
@@ -109,7 +105,7 @@ impl<V: Element> Array<V> {
     }
 
     /// How many dimensions it has.
-    pub(crate) fn dimensions(&self) -> usize
+    pub fn dimensions(&self) -> usize
         ensures count { result ≡ length self.now.0 }
         ensures few { result ≤ 8 }
     {
@@ -117,7 +113,7 @@ impl<V: Element> Array<V> {
     }
 
     /// The place of the element with these subscripts.
-    pub(crate) fn place(&self, subscripts: &[i64]) -> Option<usize>
+    pub fn place(&self, subscripts: &[i64]) -> Option<usize>
         ensures { result ≡ place_from 0 self.now.0 subscripts.now }
     {
         place_of(self.bounds.as_slice(), subscripts)
@@ -125,7 +121,7 @@ impl<V: Element> Array<V> {
 
     /// The place of the element with this subscript alone.
     #[inline(always)]
-    pub(crate) fn place_of_one(&self, subscript: i64) -> Option<usize>
+    pub fn place_of_one(&self, subscript: i64) -> Option<usize>
         ensures { result ≡ place_from 0 self.now.0 (subscript ∷ []) }
     {
         self.bounds.place_of_one(subscript)

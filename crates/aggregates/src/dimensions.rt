@@ -1,6 +1,6 @@
 //! The dimensions of an array, as they are held.
 
-ghost use Rattle.std.specs.Prelude.{◌≡◌, ◌∷◌, [], IfOk, length};
+ghost use Rattle.std.specs.Prelude.{◌≡◌, ◌∷◌, [], IfOk};
 ghost use Rattle.model.specs.Language.Aggregates.{place_from};
 ghost use Rattle.aggregates.specs.Elements.{dimensions_of};
 

@@ -12,7 +12,7 @@ use std::alloc::AllocError;
 
 /// The values of a record's fields. One or two lie in the record itself.
 #[derive(Drop)]
-pub(crate) enum FieldValues<V> {
+pub enum FieldValues<V> {
     One(V),
     Two(V, V),
     Many(Vec<V>),
@@ -21,7 +21,7 @@ pub(crate) enum FieldValues<V> {
 impl<V: Element> FieldValues<V> {
     /// The values of a vector, which are taken out of it.
     #[inline(always)]
-    pub(crate) fn taken(values: &mut Vec<V>) -> Result<FieldValues<V>, AllocError>
+    pub fn taken(values: &mut Vec<V>) -> Result<FieldValues<V>, AllocError>
         ensures { IfOk result (λ held. held_values held ≡ values.old.items) }
     {
         if values.len() == 1 {

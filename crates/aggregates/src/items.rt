@@ -1,6 +1,6 @@
 //! Vectors: their copies, and another item in one.
 
-ghost use Rattle.std.specs.Prelude.{◌≡◌, ◌<◌, ◌++◌, ◌∷◌, [], IfOk, OnErr, OnOk, length, true, false};
+ghost use Rattle.std.specs.Prelude.{◌≡◌, ◌<◌, IfOk, length, true, false};
 ghost use Rattle.model.specs.Language.Operators.{with_item};
 ghost use Rattle.aggregates.specs.Objects.{if_stored};
 
@@ -17,19 +17,6 @@ pub(crate) fn copied<T: Clone + Drop>(alloc: Global, items: &[T]) -> Result<Vec<
         copy.push(item.clone()?)?;
     }
     Ok(copy)
-}
-
-/// One more item, which is moved once.
-#[inline(always)]
-pub(crate) fn push<T: Drop>(items: &mut Vec<T>, item: T) -> Result<(), AllocError>
-    ensures made { OnOk result (items.new.items ≡ items.old.items ++ item ∷ []) }
-    ensures refused { OnErr result (items.new.items ≡ items.old.items) }
-{
-    if items.len() >= items.capacity() {
-        items.reserve(1)?;
-    }
-    items.push_reserved(item);
-    Ok(())
 }
 
 /// Room for so many items, if there is none for any.

@@ -28,15 +28,15 @@ pub enum ObjectKind {
 
 /// A record: its type, the fields of that type and their values.
 #[derive(Drop)]
-pub(crate) struct Record<V> {
-    pub(crate) type_name: Text,
-    pub(crate) fields: Names,
-    pub(crate) values: FieldValues<V>,
+pub struct Record<V> {
+    pub type_name: Text,
+    pub fields: Names,
+    pub values: FieldValues<V>,
 }
 
 /// An array, a table or a record.
 #[derive(Drop)]
-pub(crate) enum Object<V> {
+pub enum Object<V> {
     Array(Array<V>),
     Table(Table<V>),
     Record(Record<V>),
@@ -45,7 +45,7 @@ pub(crate) enum Object<V> {
 impl<V: Element> Object<V> {
     /// Lets go what it holds: an empty table stands in its place. Takes no memory.
     #[inline(always)]
-    pub(crate) fn clear(&mut self, alloc: Global)
+    pub fn clear(&mut self, alloc: Global)
         ensures { object_of self.new ≡ values.TableOf [] }
     {
         if !self.holds_nothing() {
@@ -66,7 +66,7 @@ impl<V: Element> Object<V> {
     }
 
     /// How many values it holds.
-    pub(crate) fn size(&self) -> usize
+    pub fn size(&self) -> usize
         ensures { result ≡ length (values_of (object_of self.now)) }
     {
         match self {
@@ -77,7 +77,7 @@ impl<V: Element> Object<V> {
     }
 
     /// Below which place each value stands that it holds: of an array's elements that aren't written one does.
-    pub(crate) fn held(&self) -> usize
+    pub fn held(&self) -> usize
         ensures { StandBelow result (values_of (object_of self.now)) }
     {
         match self {
@@ -89,7 +89,7 @@ impl<V: Element> Object<V> {
 
     /// One of the values that it holds. Takes no memory.
     #[inline(always)]
-    pub(crate) fn value(&self, index: usize) -> Option<&V>
+    pub fn value(&self, index: usize) -> Option<&V>
         ensures { option_copied result ≡ slice_get (values_of (object_of self.now)) index }
     {
         match self {
@@ -100,7 +100,7 @@ impl<V: Element> Object<V> {
     }
 
     /// Which kind it is.
-    pub(crate) fn kind(&self) -> ObjectKind
+    pub fn kind(&self) -> ObjectKind
         ensures { result ≡ kind_of (object_of self.now) }
     {
         match self {
@@ -112,7 +112,7 @@ impl<V: Element> Object<V> {
 
     /// The value at a place, if there is one. Takes no memory.
     #[inline(always)]
-    pub(crate) fn get(&self, place: &ElementPlace) -> Option<&V>
+    pub fn get(&self, place: &ElementPlace) -> Option<&V>
         ensures { option_copied result ≡ held_at place.now (Some (object_of self.now)) }
     {
         match (self, place) {
@@ -125,7 +125,7 @@ impl<V: Element> Object<V> {
 
     /// Where the entry of a table's key stands, if that key was ever assigned.
     #[inline(always)]
-    pub(crate) fn index_of(&self, key: &Key) -> Option<usize>
+    pub fn index_of(&self, key: &Key) -> Option<usize>
         ensures { result ≡ index_in (key_of key.now) (Some (object_of self.now)) }
     {
         match self {
@@ -136,7 +136,7 @@ impl<V: Element> Object<V> {
 
     /// Where the entry of a table's string stands, if that key was ever assigned.
     #[inline(always)]
-    pub(crate) fn index_of_text(&self, text: &Text) -> Option<usize>
+    pub fn index_of_text(&self, text: &Text) -> Option<usize>
         ensures { result ≡ index_in (values.StringAt text.now) (Some (object_of self.now)) }
     {
         match self {
@@ -147,7 +147,7 @@ impl<V: Element> Object<V> {
 
     /// The value of the entry of a table that stands at an index.
     #[inline(always)]
-    pub(crate) fn entry(&self, index: usize) -> Option<&V>
+    pub fn entry(&self, index: usize) -> Option<&V>
         ensures { (key : values.Key) → index_in key (Some (object_of self.now)) ≡ Some index
             → option_copied result ≡ value_in key (Some (object_of self.now)) }
     {
@@ -159,7 +159,7 @@ impl<V: Element> Object<V> {
 
     /// Another value in the entry of a table that stands at an index, if one stands there.
     #[inline(always)]
-    pub(crate) fn put_entry(&mut self, index: usize, value: V) -> bool
+    pub fn put_entry(&mut self, index: usize, value: V) -> bool
         ensures stored { (key : values.Key) → index_in key (Some (object_of self.old)) ≡ Some index
             → if_stored result (object_of self.new) ≡ with_value_for key value (Some (object_of self.old)) }
         ensures nowhere { result ≡ false → object_of self.new ≡ object_of self.old }
@@ -172,7 +172,7 @@ impl<V: Element> Object<V> {
 
     /// Another element at a place of an array, if one is written there.
     #[inline(always)]
-    pub(crate) fn put_written(&mut self, index: usize, value: V) -> bool
+    pub fn put_written(&mut self, index: usize, value: V) -> bool
         ensures stored { result ≡ true
             → with_element index value (Some (object_of self.old)) ≡ Some (object_of self.new) }
         ensures nowhere { result ≡ false → object_of self.new ≡ object_of self.old }
@@ -185,7 +185,7 @@ impl<V: Element> Object<V> {
 
     /// Another value at a place, if the object has that place.
     #[inline(always)]
-    pub(crate) fn set(&mut self, place: ElementPlace, value: V) -> Result<bool, AllocError>
+    pub fn set(&mut self, place: ElementPlace, value: V) -> Result<bool, AllocError>
         ensures stored { IfOk result (λ stored.
             if_stored stored (object_of self.new)
             ≡ stored_at place value (Some (object_of self.old))) }
@@ -208,7 +208,7 @@ impl<V: Element> Object<V> {
 }
 
 /// Where a name stands among the names of fields.
-pub(crate) fn place_among(name: &Text, fields: &[Text]) -> Option<usize>
+pub fn place_among(name: &Text, fields: &[Text]) -> Option<usize>
     ensures { result ≡ index_of 0 name.now fields.now }
 {
     for (k, field) in fields.iter().enumerate() {

@@ -20,7 +20,7 @@ use strings::Text;
 
 /// A table. Contracts see its entries in their order.
 #[derive(Drop)]
-pub(crate) struct Table<V> {
+pub struct Table<V> {
     values: IndexMap<Key, V>,
 }
 
@@ -37,7 +37,7 @@ impl<V> Model for Table<V> {
 
 impl<V: Element> Table<V> {
     /// The table without entries. Takes no memory.
-    pub(crate) fn new(alloc: Global) -> Table<V>
+    pub fn new(alloc: Global) -> Table<V>
         ensures { result ≡ [] }
     {
         Table {
@@ -81,7 +81,7 @@ impl<V: Element> Table<V> {
     }
 
     /// The entry that stands at an index.
-    pub(crate) fn entry(&self, index: usize) -> Option<(&Key, &V)>
+    pub fn entry(&self, index: usize) -> Option<(&Key, &V)>
         ensures there { IfSome result (λ e. slice_get self.now index
             ≡ Some (record { key = key_of e.0.now; value = e.1.now })) }
         ensures all { result ≡ None → length self.now ≤ index }
@@ -143,7 +143,7 @@ impl<V: Element> Table<V> {
     }
 
     /// How many entries have a value that isn't null.
-    pub(crate) fn row_count(&self) -> usize
+    pub fn row_count(&self) -> usize
         ensures count { result ≡ row_count V.null_test self.now }
         ensures small { result < 2 ^ 63 }
     {
@@ -177,7 +177,7 @@ impl<V: Element> Table<V> {
     }
 
     /// The array of its rows, if it has any.
-    pub(crate) fn to_array(&self, alloc: Global) -> Result<Option<Array<V>>, AllocError>
+    pub fn to_array(&self, alloc: Global) -> Result<Option<Array<V>>, AllocError>
         ensures { IfOk result (λ made. made ≡ table_rows V.null_test V.key_value self.now) }
     {
         let count = self.row_count();

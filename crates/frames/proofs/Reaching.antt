@@ -7,13 +7,13 @@ use Rattle.model.specs.Machine.Living.{FrameLives, FramesLive, OperandLives, Ope
 use Rattle.model.specs.Machine.Steps as m
 use Rattle.model.proofs.Machine.Collecting.{operands_on}
 use Rattle.model.specs.Deck.Trees.{Bytes}
-use Rattle.aggregates.specs.Marked.{HasMarked, MarksView, marks_in}
+use Rattle.heap.specs.Marked.{HasMarked, MarksView, marks_in}
 use Rattle.model.proofs.Machine.Lists.{drop_in, join_in}
 use Rattle.prototypes.specs.Views.{names_of}
-use Rattle.world.proofs.Reaching.{all_map}
+use Rattle.values.proofs.Living.{all_map}
 use Rattle.world.specs.Calling.{older, saved_as, saved_by}
-use Rattle.world.specs.Values.{value_of}
-use Rattle.world.specs.declared.value.Value.{Value}
+use Rattle.values.specs.Values.{value_of}
+use Rattle.values.specs.declared.value.Value.{Value}
 use Rattle.frames.specs.Frames.{AreCalls, IsOfCall, frame_of, frames_of, older_saved}
 use Rattle.frames.specs.View.{handlers_of, operand_of, operands_of}
 use Rattle.frames.specs.declared.frame.Frame.{Frame}

@@ -7,8 +7,8 @@ use Rattle.std.proofs.lemmas.Grind.{reverse_onto}
 use Rattle.model.specs.Machine.Steps as m
 use Rattle.model.specs.Machine.Steps.{MVal, MW, State, Frame, Run, cut, fail_to, pop_many}
 use Rattle.model.specs.Module.Flow.{OperandKind, V}
-use Rattle.world.specs.Values.{value_of}
-use Rattle.world.specs.declared.value.Value.{Value as WorldValue}
+use Rattle.values.specs.Values.{value_of}
+use Rattle.values.specs.declared.value.Value.{Value as WorldValue}
 use Rattle.frames.specs.Stacked.{Stacked, parted}
 use Rattle.frames.specs.View.{operand_of, operands_of, handlers_of}
 use Rattle.frames.specs.declared.handler.Handler.{Handler}

@@ -5,12 +5,12 @@ ghost use Rattle.match_machine.specs.View.{answer_view, want_of};
 ghost use Rattle.model.specs.Language.Conversions.{answer_of};
 ghost use Rattle.model.specs.Machine.Steps.{codes_of};
 ghost use Rattle.model.specs.declared.run.Stop.TheVariants.{NoMemory};
-ghost use Rattle.world.specs.Answers.{answer_map, Converts, IfStopped};
-ghost use Rattle.world.specs.Values.{value_of};
+ghost use Rattle.values.specs.Answers.{answer_map, Converts, IfStopped};
+ghost use Rattle.values.specs.Values.{value_of};
 
 use match_machine::{Answer, Want};
 use std::alloc::Global;
-use world::{Fault, Value};
+use values::{Fault, Value};
 
 /// The answer that a value is to a match that wants a pattern, a count or bytes.
 pub fn answer_of(alloc: Global, want: Want, value: &Value) -> Result<Answer, Fault>

@@ -1,7 +1,7 @@
 //! The objects that operands hold are marked.
 
 ghost use Rattle.std.specs.Prelude.{◌≡◌, ◌++◌, OnOk, true};
-ghost use Rattle.aggregates.specs.Marked.{HasMarked, marks_in};
+ghost use Rattle.heap.specs.Marked.{HasMarked, marks_in};
 ghost use Rattle.frames.specs.Frames.{AreCalls, IsCall};
 ghost use Rattle.frames.specs.View.{operand_of, operands_of};
 ghost use Rattle.model.specs.Machine.Living.{OperandLives, OperandsLive};
@@ -9,9 +9,9 @@ ghost use Rattle.model.specs.Machine.Living.{OperandLives, OperandsLive};
 use crate::frame::{Frame, Waiting};
 use crate::operand::Operand;
 use crate::stack::Stack;
-use aggregates::Marks;
+use heap::Marks;
 use std::alloc::AllocError;
-use world::mark_name;
+use values::mark_name;
 
 impl Operand {
     // Marks the object that it holds.

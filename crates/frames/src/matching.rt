@@ -12,8 +12,8 @@ ghost use Rattle.model.specs.Pattern.Steps.{Starting, Over, Lost, event_of, with
 ghost use Rattle.model.specs.Machine.Steps as m;
 ghost use Rattle.model.specs.Machine.Steps.{Module, Frame, MW, codes_of, found_as, on_event, steps};
 ghost use Rattle.model.specs.declared.run.Stop.TheVariants.{NoMemory};
-ghost use Rattle.world.specs.Answers.{answer_map, Converts, IfStopped};
-ghost use Rattle.world.specs.Values.{value_of};
+ghost use Rattle.values.specs.Answers.{answer_map, Converts, IfStopped};
+ghost use Rattle.values.specs.Values.{value_of};
 
 use crate::answering::answer_of;
 use crate::literal::Literal;
@@ -24,7 +24,7 @@ use pattern_compiler::PatCode;
 use std::alloc::{AllocError, Global};
 use std::marker::Model;
 use strings::Text;
-use world::{Fault, Span, Value};
+use values::{Fault, Span, Value};
 
 // What a match under way holds.
 #[derive(Drop)]

@@ -7,13 +7,13 @@ ghost use Rattle.frames.specs.declared.operand.Operand.TheVariants as operand;
 ghost use Rattle.model.specs.Module.Flow.{V, N, R};
 ghost use Rattle.model.specs.Machine.Steps as m;
 ghost use Rattle.model.specs.Machine.Steps.{MVal, MW, State, pop_many};
-ghost use Rattle.world.specs.Values.{value_of};
-ghost use Rattle.world.specs.declared.value.Value.TheVariants as value;
+ghost use Rattle.values.specs.Values.{value_of};
+ghost use Rattle.values.specs.declared.value.Value.TheVariants as value;
 
 use crate::stack::Stack;
 use pattern_compiler::Name;
 use std::alloc::AllocError;
-use world::{Span, Value};
+use values::{Span, Value};
 
 const _: () = prove!(size_of::<Operand>() <= 48);
 

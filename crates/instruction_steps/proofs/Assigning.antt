@@ -18,10 +18,10 @@ use Rattle.pattern_compiler.specs.View.{name_of}
 use Rattle.unit_io.specs.Service.{OfAny, OfSome, OfThese, Served, ServedAll}
 use Rattle.unit_io.specs.declared.units.Units.{Ghosts as Units}
 use Rattle.unit_io.proofs.Serving.{told_on}
-use Rattle.world.specs.Answers.{AnswersAs, stopped_by}
+use Rattle.values.specs.Answers.{AnswersAs, stopped_by}
 use Rattle.world.specs.Held.{WorldView, world_of}
-use Rattle.world.specs.declared.fault.Fault.{Fault}
-use Rattle.world.specs.declared.fault.Fault.TheVariants as fault
+use Rattle.values.specs.declared.fault.Fault.{Fault}
+use Rattle.values.specs.declared.fault.Fault.TheVariants as fault
 
 -- what an operation comes to, with units that hold something else
 abbrev with_units : Io → Op MW (record {}) → Op MW (record {})

@@ -16,13 +16,13 @@ use Rattle.frames.specs.Frames.{frames_of}
 use Rattle.frames.specs.Stacked.{Stacked}
 use Rattle.frames.specs.View.{operands_of}
 use Rattle.frames.specs.declared.frame.Frame.{Frame}
-use Rattle.world.specs.Answers.{AnswersAs, AnswersOrFails}
-use Rattle.world.specs.Asking.{io_after}
+use Rattle.values.specs.Answers.{AnswersAs, AnswersOrFails}
+use Rattle.operations.specs.Asking.{io_after}
 use Rattle.world.specs.Held.{WorldView, world_of}
-use Rattle.world.specs.Values.{value_of}
-use Rattle.world.specs.declared.value.Value.{Value}
-use Rattle.world.specs.declared.world_operators.Span.{Span}
-use Rattle.world.specs.declared.fault.Fault.{Fault}
+use Rattle.values.specs.Values.{value_of}
+use Rattle.values.specs.declared.value.Value.{Value}
+use Rattle.values.specs.declared.matched.Span.{Span}
+use Rattle.values.specs.declared.fault.Fault.{Fault}
 use Rattle.instruction_steps.specs.Asking.{io_at}
 use Rattle.instruction_steps.proofs.Asked.{op_io}
 use Rattle.instruction_steps.specs.Held.{Left, Meets, StaysSound, after, handlers_in, waiting}

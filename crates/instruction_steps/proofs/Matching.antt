@@ -16,9 +16,9 @@ use Rattle.frames.specs.View.{operands_of}
 use Rattle.frames.specs.declared.frame.Frame.{Frame}
 use Rattle.match_machine.specs.View.{pending_of}
 use Rattle.backtrack.specs.declared.assignment.Assignment.{Assignment}
-use Rattle.world.specs.Answers.{AnswersAs}
+use Rattle.values.specs.Answers.{AnswersAs}
 use Rattle.world.specs.Held.{WorldView, world_of}
-use Rattle.world.specs.declared.fault.Fault.{Fault}
+use Rattle.values.specs.declared.fault.Fault.{Fault}
 use Rattle.instruction_steps.specs.Held.{Halted, handlers_in, state_of, waiting}
 use Rattle.instruction_steps.specs.Matches.{matching_in}
 use Rattle.instruction_steps.specs.Stopped.{halt_of}

@@ -23,12 +23,12 @@ use Rattle.frames.specs.declared.operand.Operand.{Operand}
 use Rattle.frames.specs.declared.operand.Operand.TheVariants as operand
 use Rattle.pattern_compiler.specs.View.{name_of}
 use Rattle.pattern_compiler.specs.declared.instr.Name.{Name}
-use Rattle.world.specs.Answers.{answer_map, AnswersOrFails}
+use Rattle.values.specs.Answers.{answer_map, AnswersOrFails}
 use Rattle.world.specs.Held.{world_of}
-use Rattle.world.specs.Values.{value_of}
-use Rattle.world.specs.declared.value.Value.{Value}
-use Rattle.world.specs.declared.fault.Fault.{Fault}
-use Rattle.world.specs.declared.fault.Fault.TheVariants as fault
+use Rattle.values.specs.Values.{value_of}
+use Rattle.values.specs.declared.value.Value.{Value}
+use Rattle.values.specs.declared.fault.Fault.{Fault}
+use Rattle.values.specs.declared.fault.Fault.TheVariants as fault
 use Rattle.instruction_steps.specs.Elements.{Named}
 use Rattle.instruction_steps.specs.Held.{Left, after, handlers_in, waiting}
 use Rattle.instruction_steps.specs.declared.state.State.{State}

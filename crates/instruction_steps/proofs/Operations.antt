@@ -6,10 +6,10 @@ use Rattle.model.specs.Language.Conversions.{Op, Gives, Refuses, Faults}
 use Rattle.model.specs.Machine.Steps as m
 use Rattle.model.specs.Machine.Steps.{MW, Operand, Handler, after_op, fail_to}
 use Rattle.frames.specs.declared.frame.Frame.{Frame}
-use Rattle.world.specs.Answers.{AnswersAs, AnswersOrFails}
+use Rattle.values.specs.Answers.{AnswersAs, AnswersOrFails}
 use Rattle.world.specs.Held.{world_of}
-use Rattle.world.specs.declared.fault.Fault.{Fault}
-use Rattle.world.specs.declared.fault.Fault.TheVariants as fault
+use Rattle.values.specs.declared.fault.Fault.{Fault}
+use Rattle.values.specs.declared.fault.Fault.TheVariants as fault
 use Rattle.instruction_steps.specs.Held.{Halted, Left}
 use Rattle.instruction_steps.specs.Stopped.{halt_of}
 use Rattle.instruction_steps.specs.declared.state.State.{State}

@@ -10,7 +10,7 @@ use Rattle.frames.specs.declared.frame.Frame.{Frame}
 use Rattle.pattern_compiler.specs.View.{name_of}
 use Rattle.pattern_compiler.specs.declared.instr.Name.{Name}
 use Rattle.world.specs.Held.{world_of}
-use Rattle.world.specs.declared.fault.Fault.{Fault}
+use Rattle.values.specs.declared.fault.Fault.{Fault}
 use Rattle.instruction_steps.specs.Held.{Halted, handlers_in, waiting}
 use Rattle.instruction_steps.specs.Stopped.{halt_of}
 use Rattle.instruction_steps.specs.declared.state.State.{State}

@@ -7,7 +7,7 @@ ghost use Rattle.model.specs.declared.image.Image.{Image};
 ghost use Rattle.model.specs.declared.run.Stop.TheVariants.{NoMemory};
 ghost use Rattle.frames.specs.Kinds.{AreOnTop};
 ghost use Rattle.frames.specs.declared.frame.Frame.{Frame};
-ghost use Rattle.world.specs.Answers.{IfStopped};
+ghost use Rattle.values.specs.Answers.{IfStopped};
 ghost use Rattle.instruction_steps.specs.Elements.{Named};
 ghost use Rattle.instruction_steps.specs.Held.{Does, after};
 ghost use Rattle.instruction_steps.specs.Stopped.{IfHalted};
@@ -17,7 +17,7 @@ use crate::status::Exit;
 use frames::{pop_value, pop_values};
 use model::Instr;
 use pattern_compiler::Name;
-use world::Fault;
+use values::Fault;
 
 impl State {
     /// The name of an element, by its array or table and the subscripts.
@@ -47,7 +47,7 @@ impl State {
         }
         pop_values(&mut self.operands, count as usize, &mut self.arguments)?;
         let base = pop_value(&mut self.operands);
-        self.world.item(&base, self.arguments.as_slice())
+        operations::item(&self.world, &base, self.arguments.as_slice())
     }
     // The element with one subscript, which needs no vector.
     fn item_of_one(&mut self) -> Result<Option<Name>, Fault>
@@ -59,6 +59,6 @@ impl State {
     {
         let subscript = pop_value(&mut self.operands);
         let base = pop_value(&mut self.operands);
-        self.world.item(&base, &[subscript])
+        operations::item(&self.world, &base, &[subscript])
     }
 }

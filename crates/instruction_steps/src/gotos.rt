@@ -23,7 +23,7 @@ use frames::pop_value;
 use loader::Module;
 use model::{ErrorCode, Instr, ReturnKind};
 use strings::Text;
-use world::Fault;
+use values::Fault;
 
 /// The place of the statement that a label names, if it is no return. The label may be the string of this number, which
 /// saves the look-up.

@@ -6,7 +6,7 @@ ghost use Rattle.model.specs.Machine.Steps.{Run, OV, ON};
 ghost use Rattle.model.specs.declared.image.Image.{Image};
 ghost use Rattle.model.specs.declared.run.Stop.TheVariants.{NoMemory};
 ghost use Rattle.pattern_compiler.specs.View.{name_of};
-ghost use Rattle.world.specs.Values.{value_of};
+ghost use Rattle.values.specs.Values.{value_of};
 ghost use Rattle.world.specs.Held.{world_of};
 ghost use Rattle.model.specs.Module.Images.{statement_number};
 ghost use Rattle.loader.specs.Places.{offset_at};
@@ -22,7 +22,7 @@ use frames::{Handler, Named, Operand, pop_begin};
 use loader::Module;
 use model::{Ending, Instr};
 use pattern_compiler::Name;
-use world::{Fault, NO_SLOT, Value};
+use values::{Fault, NO_SLOT, Value};
 
 impl State {
     /// What a fault comes to.

@@ -10,27 +10,29 @@ ghost use Rattle.model.specs.Language.Operators.{assign_all, assign_op, told_val
 ghost use Rattle.model.specs.Pattern.Steps.{event_of};
 ghost use Rattle.model.specs.declared.image.Image.{Image};
 ghost use Rattle.pattern_compiler.specs.View.{name_of};
-ghost use Rattle.world.specs.Asking.{Prints, io_after, world_after};
+ghost use Rattle.operations.specs.Asking.{Prints, io_after, world_after};
 ghost use Rattle.instruction_steps.specs.Asking.{PrintsNext, io_at};
 ghost use Rattle.instruction_steps.specs.Held.{Left, waiting};
 ghost use Rattle.instruction_steps.specs.Matches.{IsMatched, found_kinds, matching_in};
 ghost use Rattle.instruction_steps.specs.Printing.{PrintsTo, PrintsWithin};
 ghost use Rattle.instruction_steps.specs.Stopped.{GoesOrHalts, halted_by};
 ghost use Rattle.unit_io.specs.Service.{KeepsIo, Served};
-ghost use Rattle.world.specs.Answers.{AnswersAs, done, stopped_by};
+ghost use Rattle.values.specs.Answers.{AnswersAs, done, stopped_by};
 ghost use Rattle.world.specs.Held.{world_of};
-ghost use Rattle.world.specs.Values.{value_of};
+ghost use Rattle.values.specs.Values.{value_of};
 
 use crate::slots::{note, slot_at};
 use crate::state::State;
 use crate::status::Exit;
 use frames::Matching;
 use match_machine::{Assignment, Event, Told};
+use operations::assign_at;
 use pattern_compiler::Name;
 use std::alloc::{AllocError, Global};
 use strings::Text;
 use unit_io::Units;
-use world::{Fault, NO_SLOT, Value, World};
+use values::{Fault, NO_SLOT, Value};
+use world::World;
 
 // The number of a name among those that matches assign to. Few share one.
 #[inline(always)]
@@ -66,7 +68,7 @@ fn assign_noting<U: Units>(
         slot = world.slot_of(variable);
         note(slots, number_of(variable), slot)?;
     }
-    world.assign_at(alloc, units, name, slot, value)
+    assign_at(world, alloc, units, name, slot, value)
 }
 
 // Assigns a value to a name, without a look-up where the slot of its variable is noted.

@@ -11,7 +11,7 @@ use crate::state::State;
 use crate::status::Exit;
 use frames::{Named, pop_name, pop_value};
 use model::{ArithOp, Instr, KeyId, SignOp};
-use world::{Fault, SharedName, Value, alt, arith, cond, cursor, imm, indir, sign};
+use values::{Fault, SharedName, Value, alt, arith, cond, cursor, imm, indir, sign};
 
 impl State {
     /// Unary `+` or `-`.
@@ -52,7 +52,7 @@ impl State {
     {
         let right = pop_value(&mut self.operands);
         let left = pop_value(&mut self.operands);
-        match self.world.cat(self.alloc, left, right) {
+        match operations::cat(&self.world, self.alloc, left, right) {
             Ok(value) => self.put(value, next),
             Err(fault) => Err(Exit::Fault(fault)),
         }
@@ -158,7 +158,7 @@ impl State {
         ensures stop { IfHalted result (λ stop. stop ≡ NoMemory) }
         ensures names { self.new.world.names ≡ self.old.world.names }
     {
-        match self.world.keyword(id) {
+        match operations::keyword(&self.world, id) {
             Ok(value) => self.put(value, next),
             Err(fault) => Err(Exit::Fault(fault)),
         }
@@ -172,7 +172,7 @@ impl State {
         ensures names { self.new.world.names ≡ self.old.world.names }
     {
         let value = pop_value(&mut self.operands);
-        match self.world.set_keyword(id, &value) {
+        match operations::set_keyword(&mut self.world, id, &value) {
             Ok(()) => {
                 self.place = next;
                 Ok(())

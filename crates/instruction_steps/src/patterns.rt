@@ -14,7 +14,7 @@ use loader::Module;
 use model::{Instr, PatInstr};
 use pattern_compiler::{Basic, Instr as Part, PatCode, Pattern, Set};
 use std::alloc::{AllocError, Global};
-use world::Value;
+use values::Value;
 
 // The set of a string's bytes, if there is such a string.
 fn set_of(alloc: Global, program: &Module, number: u32) -> Result<Option<Set>, AllocError>

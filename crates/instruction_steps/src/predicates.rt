@@ -22,7 +22,7 @@ use crate::status::Exit;
 use frames::pop_value;
 use model::{ErrorCode, Instr, PrimId};
 use primitives::holds;
-use world::{Fault, Value};
+use values::{Fault, Value};
 
 impl State {
     /// PRIMV of a test with two arguments.

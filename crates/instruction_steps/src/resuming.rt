@@ -5,7 +5,7 @@ ghost use Rattle.model.specs.Language.Io.{Io};
 ghost use Rattle.model.specs.declared.image.Image.{Image};
 ghost use Rattle.model.specs.declared.run.Stop.TheVariants.{NoMemory};
 ghost use Rattle.frames.specs.declared.frame.Frame.{Frame};
-ghost use Rattle.world.specs.Asking.{Takes};
+ghost use Rattle.operations.specs.Asking.{Takes};
 ghost use Rattle.instruction_steps.specs.Asking.{io_at};
 ghost use Rattle.instruction_steps.specs.Held.{Left, StaysSound};
 ghost use Rattle.instruction_steps.specs.Resuming.{CallerStands, resumed_with};
@@ -14,8 +14,10 @@ ghost use Rattle.unit_io.specs.Service.{IsQuiet, Served};
 
 use crate::state::State;
 use crate::status::Exit;
+use operations::returned_value;
 use unit_io::Units;
-use world::{Fault, Given};
+use values::Fault;
+use world::Given;
 
 impl State {
     // On with the value of what a call gave. That of a name is fetched.
@@ -37,7 +39,7 @@ impl State {
             → StaysSound im fs result self.new }
         ensures names { self.new.world.names ≡ self.old.world.names }
     {
-        let answer = self.world.returned_value(units, given);
+        let answer = returned_value(&mut self.world, units, given);
         self.gave(answer, next)
     }
 

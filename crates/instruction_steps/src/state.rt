@@ -10,7 +10,7 @@ ghost use Rattle.model.specs.Module.Flow.{takes};
 ghost use Rattle.frames.specs.Kinds.{AreOnTop};
 ghost use Rattle.frames.specs.declared.frame.Frame.{Frame};
 ghost use Rattle.loader.specs.Places.{offset_at};
-ghost use Rattle.world.specs.Asking.{TakesOrPrints};
+ghost use Rattle.operations.specs.Asking.{TakesOrPrints};
 ghost use Rattle.world.specs.Held.{world_of};
 ghost use Rattle.segments.specs.Leading.{IsRunnable};
 ghost use Rattle.instruction_steps.specs.Runnable.{is_of_call, is_of_match, is_operator, uses_units};
@@ -26,7 +26,8 @@ use loader::{Decoded, Module};
 use model::{Instr, Level};
 use std::alloc::{AllocError, Global};
 use unit_io::Units;
-use world::{Value, World};
+use values::Value;
+use world::World;
 
 /// Where a run stands, and what it holds.
 pub struct State {

@@ -5,7 +5,7 @@ ghost use Rattle.instruction_steps.specs.Stopped.{status_of};
 
 use model::{Ending, Status, Stop};
 use std::alloc::AllocError;
-use world::Fault;
+use values::Fault;
 
 /// Why no further step is made.
 #[derive(Clone, Copy)]
@@ -33,7 +33,7 @@ const _: () = prove!(size_of::<Exit>() <= 8);
 
 impl From<AllocError> for Exit {
     ghost use Rattle.instruction_steps.specs.declared.status.Exit.TheVariants as exit;
-    ghost use Rattle.world.specs.declared.fault.Fault.TheVariants as fault;
+    ghost use Rattle.values.specs.declared.fault.Fault.TheVariants as fault;
     ghost use Rattle.model.specs.declared.run.Stop.TheVariants.{NoMemory};
 
     ghost from_gives = { λ _ x. x ≡ exit.Fault (fault.Stop NoMemory) };

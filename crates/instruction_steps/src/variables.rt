@@ -10,10 +10,10 @@ ghost use Rattle.frames.specs.Kinds.{AreOnTop};
 ghost use Rattle.loader.specs.Places.{offset_at};
 ghost use Rattle.frames.specs.View.{operands_of};
 ghost use Rattle.frames.specs.declared.frame.Frame.{Frame};
-ghost use Rattle.world.specs.Answers.{AnswersAs, AnswersOrFails, answer_map, done, stopped_by};
+ghost use Rattle.values.specs.Answers.{AnswersAs, AnswersOrFails, answer_map, done, stopped_by};
 ghost use Rattle.world.specs.Held.{world_of};
-ghost use Rattle.world.specs.Values.{value_of};
-ghost use Rattle.world.specs.Asking.{Prints, Takes};
+ghost use Rattle.values.specs.Values.{value_of};
+ghost use Rattle.operations.specs.Asking.{Prints, Takes};
 ghost use Rattle.instruction_steps.specs.Asking.{io_at};
 ghost use Rattle.instruction_steps.specs.Held.{Left, Meets, StaysSound, after, handlers_in, waiting};
 ghost use Rattle.instruction_steps.specs.Stopped.{halted_by};
@@ -24,8 +24,9 @@ use crate::state::State;
 use crate::status::Exit;
 use frames::{pop_name, pop_span, pop_value, top_name};
 use model::Instr;
+use operations::{assign_at, fetch_at, splice_at};
 use unit_io::Units;
-use world::{Fault, Value};
+use values::{Fault, Value};
 
 impl State {
     // On after an operation that gives nothing and may be an error.
@@ -98,9 +99,14 @@ impl State {
     {
         let value = pop_value(&mut self.operands);
         let named = pop_name(&mut self.operands);
-        let answer = self
-            .world
-            .assign_at(self.alloc, units, &named.name, named.slot, value);
+        let answer = assign_at(
+            &mut self.world,
+            self.alloc,
+            units,
+            &named.name,
+            named.slot,
+            value,
+        );
         self.went(answer, next)
     }
 
@@ -118,7 +124,7 @@ impl State {
         ensures names { self.new.world.names ≡ self.old.world.names }
     {
         let named = pop_name(&mut self.operands);
-        let answer = self.world.fetch_at(units, &named.name, named.slot);
+        let answer = fetch_at(&mut self.world, units, &named.name, named.slot);
         self.gave(answer, next)
     }
 
@@ -137,7 +143,7 @@ impl State {
         ensures names { self.new.world.names ≡ self.old.world.names }
     {
         let named = top_name(&self.operands);
-        let answer = self.world.fetch_at(units, &named.name, named.slot);
+        let answer = fetch_at(&mut self.world, units, &named.name, named.slot);
         self.gave(answer, next)
     }
 
@@ -158,9 +164,15 @@ impl State {
         let value = pop_value(&mut self.operands);
         let span = pop_span(&mut self.operands);
         let named = pop_name(&mut self.operands);
-        let answer = self
-            .world
-            .splice_at(self.alloc, units, &named.name, named.slot, &span, &value);
+        let answer = splice_at(
+            &mut self.world,
+            self.alloc,
+            units,
+            &named.name,
+            named.slot,
+            &span,
+            &value,
+        );
         self.went(answer, next)
     }
 }

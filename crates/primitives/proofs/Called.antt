@@ -12,11 +12,11 @@ use Rattle.model.specs.Language.Names.{prim_at, most_args}
 use Rattle.model.specs.Language.Conversions.{Conv, Got, Gives, Faults, conv, to_variable}
 use Rattle.model.specs.Machine.Steps.{MVal, MW, codes_of}
 use Rattle.model.specs.Language.Primitives.{Calls, applied, prim_op}
-use Rattle.world.specs.Answers.{Converts}
-use Rattle.world.specs.declared.fault.Fault.{Fault}
-use Rattle.world.specs.declared.fault.Fault.TheVariants as fault
-use Rattle.world.specs.Values.{value_of}
-use Rattle.world.specs.declared.value.Value.{Value}
+use Rattle.values.specs.Answers.{Converts}
+use Rattle.values.specs.declared.fault.Fault.{Fault}
+use Rattle.values.specs.declared.fault.Fault.TheVariants as fault
+use Rattle.values.specs.Values.{value_of}
+use Rattle.values.specs.declared.value.Value.{Value}
 use Rattle.primitives.specs.Answers.{ComesTo}
 use Rattle.primitives.specs.Calling.{IsApplied, IsOtherApplied, IsReached}
 use Rattle.primitives.specs.declared.applying.Applied.{Applied}

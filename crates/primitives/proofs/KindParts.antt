@@ -6,9 +6,9 @@ use Rattle.model.specs.Language.Operators.{kind_op}
 use Rattle.model.specs.Pattern.Patterns.{Kind, Answer, want_of_kind, with_answer}
 use Rattle.model.specs.Pattern.Code.{basic_code}
 use Rattle.model.specs.Language.Values.{Pat}
-use Rattle.world.specs.declared.value.Value.{Value}
-use Rattle.world.specs.declared.value.Value.TheVariants as v
-use Rattle.world.specs.Values.{value_of}
+use Rattle.values.specs.declared.value.Value.{Value}
+use Rattle.values.specs.declared.value.Value.TheVariants as v
+use Rattle.values.specs.Values.{value_of}
 use Rattle.primitives.specs.Parts.{known_op}
 
 conv-then : {A B W C : Type 0} (c : Conv A) (f : A → B) (w : W) (k : B → Op W C) → conv c w (λ a. k (f a)) ≡ conv (then_conv c (λ a. Got (f a))) w k

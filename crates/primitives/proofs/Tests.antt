@@ -6,9 +6,9 @@ use Rattle.model.specs.Language.Primitives.{compare_op, holds_if, returned, same
 use Rattle.model.specs.Language.Values.{Int}
 use Rattle.model.specs.Machine.Steps.{MW}
 use Rattle.primitives.specs.Answers.{SameOr, tested}
-use Rattle.world.specs.Values.{value_of}
-use Rattle.world.specs.declared.value.Value.{Value}
-use Rattle.world.specs.declared.value.Value.TheVariants as value
+use Rattle.values.specs.Values.{value_of}
+use Rattle.values.specs.declared.value.Value.{Value}
+use Rattle.values.specs.declared.value.Value.TheVariants as value
 
 -- IDENT of what is the same or not, or can't be asked
 pub tested_same : (r : Result Bool ErrorCode) (same : Option Bool) (w : MW) → SameOr r same → returned (same_op (λ b. b) same w) ≡ tested r w

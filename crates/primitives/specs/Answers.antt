@@ -11,10 +11,10 @@ use Rattle.model.specs.Machine.Steps.{PCode, MVal, MW}
 use Rattle.model.specs.Language.Primitives.{Returns, Calls, int_same, returned}
 use Rattle.model.specs.Language.Primitives as model
 use Rattle.pattern_compiler.specs.View.{name_of}
-use Rattle.world.specs.declared.fault.Fault.{Fault}
-use Rattle.world.specs.declared.fault.Fault.TheVariants as fault
+use Rattle.values.specs.declared.fault.Fault.{Fault}
+use Rattle.values.specs.declared.fault.Fault.TheVariants as fault
 use Rattle.world.specs.Held.{WorldView, world_of}
-use Rattle.world.specs.Values.{value_of}
+use Rattle.values.specs.Values.{value_of}
 use Rattle.primitives.specs.declared.outcome.Outcome.{Outcome}
 use Rattle.primitives.specs.declared.outcome.Outcome.TheVariants as outcome
 use Rattle.primitives.specs.declared.predicates.Comparison.{Comparison}

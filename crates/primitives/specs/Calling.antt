@@ -7,10 +7,10 @@ use Rattle.model.specs.Language.Conversions.{Op, Gives, Faults, conv, to_text}
 use Rattle.model.specs.Machine.Steps.{MVal, MW, codes_of}
 use Rattle.model.specs.Language.Primitives.{Calls, define_op, to_entry_label, prim_op}
 use Rattle.model.specs.Language.Prototypes.{function_prototype}
-use Rattle.world.specs.Values.{value_of}
-use Rattle.world.specs.declared.value.Value.{Value}
-use Rattle.world.specs.declared.fault.Fault.{Fault}
-use Rattle.world.specs.declared.fault.Fault.TheVariants as fault
+use Rattle.values.specs.Values.{value_of}
+use Rattle.values.specs.declared.value.Value.{Value}
+use Rattle.values.specs.declared.fault.Fault.{Fault}
+use Rattle.values.specs.declared.fault.Fault.TheVariants as fault
 use Rattle.primitives.specs.declared.applying.Applied.{Applied}
 use Rattle.primitives.specs.declared.applying.Applied.TheVariants as applied
 

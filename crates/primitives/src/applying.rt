@@ -3,14 +3,14 @@
 ghost use Rattle.std.specs.Prelude.{◌≡◌, ◌∷◌, map, IfOk};
 ghost use Rattle.model.specs.Machine.Steps.{MW};
 ghost use Rattle.model.specs.declared.run.Stop.TheVariants.{NoMemory};
-ghost use Rattle.world.specs.Answers.{IfStopped};
-ghost use Rattle.world.specs.Values.{value_of};
+ghost use Rattle.values.specs.Answers.{IfStopped};
+ghost use Rattle.values.specs.Values.{value_of};
 ghost use Rattle.primitives.specs.Calling.{IsApplied, IsApplyIf, IsReached};
 
 use model::{ErrorCode, Level, PrimId};
 use std::alloc::{AllocError, Global};
 use strings::Text;
-use world::{Fault, Value};
+use values::{Fault, Value};
 
 /// What APPLY calls with its other arguments.
 #[derive(Drop)]

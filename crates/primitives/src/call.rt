@@ -5,9 +5,9 @@ ghost use Rattle.model.specs.Language.Io.{Io};
 ghost use Rattle.model.specs.Machine.Steps.{codes_of};
 ghost use Rattle.model.specs.Language.Primitives.{prim_op};
 ghost use Rattle.model.specs.declared.run.Stop.TheVariants.{NoMemory};
-ghost use Rattle.world.specs.Values.{value_of};
+ghost use Rattle.values.specs.Values.{value_of};
 ghost use Rattle.world.specs.Held.{world_of};
-ghost use Rattle.world.specs.Answers.{IfStopped};
+ghost use Rattle.values.specs.Answers.{IfStopped};
 ghost use Rattle.primitives.specs.Answers.{ComesTo, is_by_number};
 ghost use Rattle.primitives.specs.Calling.{IsOther};
 
@@ -19,7 +19,8 @@ use crate::pure::call_three;
 use crate::units::{detach, input, output};
 use model::PrimId;
 use std::alloc::Global;
-use world::{Fault, Value, World, argument};
+use values::{Fault, Value, argument};
+use world::World;
 
 /// Calls a primitive. An absent argument is null. A call that gives an error or stops changes nothing.
 pub fn call_prim(

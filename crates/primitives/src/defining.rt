@@ -3,8 +3,8 @@
 ghost use Rattle.std.specs.Prelude.{◌≡◌, OnErr};
 ghost use Rattle.model.specs.Language.Primitives.{to_entry_label};
 ghost use Rattle.model.specs.declared.run.Stop.TheVariants.{NoMemory};
-ghost use Rattle.world.specs.Answers.{Converts, IfStopped};
-ghost use Rattle.world.specs.Values.{value_of};
+ghost use Rattle.values.specs.Answers.{Converts, IfStopped};
+ghost use Rattle.values.specs.Values.{value_of};
 ghost use Rattle.primitives.specs.Answers.{Changes};
 ghost use Rattle.primitives.specs.Calling.{define_row};
 
@@ -13,7 +13,8 @@ use model::ErrorCode;
 use prototypes::function_prototype;
 use std::alloc::Global;
 use strings::Text;
-use world::{Fault, Value, World};
+use values::{Fault, Value};
+use world::World;
 
 // The entry label, if one is given.
 fn entry_label(alloc: Global, value: &Value) -> Result<Option<Text>, Fault>

@@ -9,18 +9,20 @@ ghost use Rattle.model.specs.Language.Prototypes.{array_prototype, type_prototyp
 ghost use Rattle.model.specs.Language.Aggregates.{new_object, array_op, copy_op, as_array};
 ghost use Rattle.model.specs.Language.Primitives.{data_op, item_op, converted, or_fail};
 ghost use Rattle.model.specs.declared.run.Stop.TheVariants.{NoMemory};
-ghost use Rattle.world.specs.Values.{value_of};
+ghost use Rattle.values.specs.Values.{value_of};
 ghost use Rattle.world.specs.Held.{world_of};
-ghost use Rattle.world.specs.Answers.{IfStopped};
+ghost use Rattle.values.specs.Answers.{IfStopped};
 ghost use Rattle.primitives.specs.Answers.{AnswersAs, Changes, ComesTo};
 
 use crate::functions::type_name;
 use crate::outcome::Outcome;
 use model::ErrorCode;
+use operations::rows;
 use pattern_compiler::Pattern;
 use prototypes::{dimensions, type_prototype};
 use std::alloc::Global;
-use world::{Fault, Value, World};
+use values::{Fault, Value};
+use world::World;
 
 /// ARRAY.
 pub(crate) fn array(
@@ -39,7 +41,7 @@ pub(crate) fn array(
     let Some(bounds) = dimensions(alloc, text.as_slice())? else {
         return Err(Fault::Error(ErrorCode::BadArray));
     };
-    Ok(Outcome::Value(world.array(alloc, bounds, value)?))
+    Ok(Outcome::Value(operations::array(world, alloc, bounds, value)?))
 }
 
 /// TABLE.
@@ -49,7 +51,7 @@ pub(crate) fn table(alloc: Global, world: &mut World) -> Result<Outcome, Fault>
     ensures unchanged { OnErr result (world.new ≡ world.old) }
     ensures names { world.new.names ≡ world.old.names }
 {
-    Ok(Outcome::Value(world.table(alloc)?))
+    Ok(Outcome::Value(operations::table(world, alloc)?))
 }
 
 /// COPY.
@@ -59,7 +61,7 @@ pub(crate) fn copy(alloc: Global, value: &Value, world: &mut World) -> Result<Ou
     ensures unchanged { OnErr result (world.new ≡ world.old) }
     ensures names { world.new.names ≡ world.old.names }
 {
-    Ok(Outcome::Value(world.copy(alloc, value)?))
+    Ok(Outcome::Value(operations::copy(world, alloc, value)?))
 }
 
 /// ITEM.
@@ -72,7 +74,7 @@ pub(crate) fn item(arguments: &[Value], world: &World) -> Result<Outcome, Fault>
     let [base, subscripts @ ..] = arguments else {
         return Err(Fault::Error(ErrorCode::WrongType));
     };
-    match world.item(base, subscripts)? {
+    match operations::item(world, base, subscripts)? {
         Some(name) => Ok(Outcome::Name(name)),
         None => Ok(Outcome::Failure),
     }
@@ -90,7 +92,7 @@ pub(crate) fn data(alloc: Global, prototype: &Value, world: &mut World) -> Resul
     let Some(prototype) = type_prototype(alloc, world.module_level(), text.as_slice())? else {
         return Err(Fault::Error(ErrorCode::BadPrototype));
     };
-    world.data(alloc, &prototype)?;
+    operations::data(world, alloc, &prototype)?;
     Ok(Outcome::Value(Value::null()))
 }
 
@@ -183,7 +185,7 @@ fn as_array(alloc: Global, value: &Value, world: &mut World) -> Result<Outcome, 
     ensures unchanged { OnErr result (world.new ≡ world.old) }
     ensures names { world.new.names ≡ world.old.names }
 {
-    match world.rows(alloc, value)? {
+    match rows(world, alloc, value)? {
         Some(array) => Ok(Outcome::Value(array)),
         None => Ok(Outcome::Failure),
     }

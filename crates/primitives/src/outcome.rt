@@ -7,7 +7,7 @@ ghost use Rattle.primitives.specs.Answers.{op_of};
 
 use pattern_compiler::Name;
 use strings::Text;
-use world::Value;
+use values::Value;
 
 /// What a call of a primitive comes to.
 #[derive(Drop)]

@@ -9,15 +9,15 @@ ghost use Rattle.model.specs.Language.Primitives.{prim_op, returned, compare_op,
 ghost use Rattle.model.specs.Language.Primitives.{same_name, is_integer, holds_if, comes_after};
 ghost use Rattle.model.specs.declared.run.Stop.TheVariants.{NoMemory};
 ghost use Rattle.pattern_compiler.specs.View.{name_of};
-ghost use Rattle.world.specs.Values.{value_of};
-ghost use Rattle.world.specs.Answers.{IfStopped};
+ghost use Rattle.values.specs.Values.{value_of};
+ghost use Rattle.values.specs.Answers.{IfStopped};
 ghost use Rattle.primitives.specs.Answers.{AnswersAs, ComesTo, SameOr, is_test, test_of, tested};
 
 use crate::outcome::Outcome;
 use model::{ErrorCode, PrimId};
 use pattern_compiler::Name;
 use std::alloc::Global;
-use world::{Fault, Value};
+use values::{Fault, Value};
 
 /// A comparison of integers.
 #[derive(Clone, Copy)]

@@ -6,9 +6,9 @@ ghost use Rattle.model.specs.Language.Io.{Io};
 ghost use Rattle.model.specs.Machine.Steps.{MVal, codes_of};
 ghost use Rattle.model.specs.Language.Primitives.{prim_op};
 ghost use Rattle.model.specs.declared.run.Stop.TheVariants.{NoMemory};
-ghost use Rattle.world.specs.Values.{value_of};
+ghost use Rattle.values.specs.Values.{value_of};
 ghost use Rattle.world.specs.Held.{world_of};
-ghost use Rattle.world.specs.Answers.{IfStopped};
+ghost use Rattle.values.specs.Answers.{IfStopped};
 ghost use Rattle.primitives.specs.Answers.{ComesTo};
 ghost use Rattle.primitives.specs.Pure.{is_pure};
 
@@ -19,7 +19,8 @@ use crate::predicates::{Comparison, compare, differ, ident, integer, lgt};
 use model::PrimId;
 use pattern_compiler::Kind;
 use std::alloc::Global;
-use world::{Fault, Value, World};
+use values::{Fault, Value};
+use world::World;
 
 /// Whether a primitive changes nothing, and takes three arguments at most.
 #[inline(always)]

@@ -3,15 +3,16 @@
 ghost use Rattle.std.specs.Prelude.{◌≡◌, OnErr};
 ghost use Rattle.model.specs.Language.Primitives.{input_op, output_op, detach_op};
 ghost use Rattle.model.specs.declared.run.Stop.TheVariants.{NoMemory};
-ghost use Rattle.world.specs.Values.{value_of};
-ghost use Rattle.world.specs.Answers.{IfStopped, conv_of};
+ghost use Rattle.values.specs.Values.{value_of};
+ghost use Rattle.values.specs.Answers.{IfStopped, conv_of};
 ghost use Rattle.primitives.specs.Answers.{Changes};
 ghost use Rattle.primitives.specs.Units.{unit_of};
 
 use crate::outcome::Outcome;
 use model::ErrorCode;
 use std::alloc::Global;
-use world::{Fault, Value, World};
+use values::{Fault, Value};
+use world::World;
 
 /// INPUT.
 pub(crate) fn input(

@@ -1,11 +1,12 @@
 //! What a run holds when it is over.
 
+use crate::dump_values::{put_name, put_value};
 use crate::objects::{put_marked, reached};
-use crate::values::{put_name, put_value};
 use statement_machine::{Clock, Watch, WatchRun};
 use std::alloc::{AllocError, Global};
 use strings::Text;
-use world::{Value, World};
+use values::Value;
+use world::World;
 
 /// The variables that hold patterns at first.
 const PATTERNS: [&[u8]; 7] = [

@@ -13,13 +13,13 @@
 #![tactic(auto)]
 
 mod dump;
+mod dump_values;
 mod objects;
 mod profile;
 mod profile_lines;
 mod reports;
 mod statements;
 mod trace;
-mod values;
 
 pub use dump::Dump;
 pub use profile::Profile;

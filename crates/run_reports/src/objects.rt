@@ -1,15 +1,19 @@
 //! Which arrays, tables and records a dump has, and what they hold.
 
-use crate::values::{put_dimensions, put_key, put_name, put_object, put_subscripts, put_value};
-use aggregates::{Heap, Marks};
+use crate::dump_values::{
+    put_dimensions, put_key, put_name, put_object, put_subscripts, put_value,
+};
+use heap::{Heap, Marks};
+use operations::{mark_reached, no_marks};
 use std::alloc::{AllocError, Global};
-use world::{Value, World};
+use values::Value;
+use world::World;
 
 /// The marks of the objects that variables lead to.
 pub(crate) fn reached(alloc: Global, world: &World) -> Result<Marks, AllocError> {
-    let mut marks = world.no_marks(alloc)?;
+    let mut marks = no_marks(world, alloc)?;
     world.mark_variables(&mut marks)?;
-    if world.mark_reached(&mut marks)? {
+    if mark_reached(world, &mut marks)? {
         Ok(marks)
     } else {
         Err(AllocError)

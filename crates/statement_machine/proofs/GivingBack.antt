@@ -24,16 +24,18 @@ use Rattle.statement_machine.specs.declared.run.Run.{Run}
 use Rattle.statement_machine.specs.declared.run.Task.{Task}
 use Rattle.statement_machine.specs.declared.run.Task.TheVariants as task
 use Rattle.instruction_steps.specs.declared.state.State.{State}
-use Rattle.aggregates.specs.Marked.{HasMarked, MarksView, marks_in}
+use Rattle.heap.specs.Marked.{HasMarked, MarksView, marks_in}
 use Rattle.frames.proofs.Reaching.{all_front, frames_live, top_lives, under_lives}
 use Rattle.frames.specs.Frames.{IsCall}
 use Rattle.frames.specs.View.{operands_of}
 use Rattle.frames.specs.declared.frame.Frame.{Frame}
 use Rattle.loader.specs.Places.{offset_at}
-use Rattle.world.proofs.Reaching.{all_more, left_lives, left_world}
+use Rattle.operations.proofs.Reached.{left_lives, left_world}
+use Rattle.world.proofs.Reaching.{all_more}
 use Rattle.world.specs.Held.{WorldView, world_of}
-use Rattle.world.specs.Marking.{ObjectsLive, VariablesLive, without_unmarked}
-use Rattle.world.specs.Values.{value_of}
+use Rattle.operations.specs.Marking.{ObjectsLive, without_unmarked}
+use Rattle.world.specs.Marking.{VariablesLive}
+use Rattle.values.specs.Values.{value_of}
 
 -- ---- states without some objects
 

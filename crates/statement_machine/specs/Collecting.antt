@@ -3,11 +3,12 @@ use Rattle.std.specs.Prelude.{◌≡◌, ◌++◌, map}
 use Rattle.model.specs.declared.image.Image.{Image}
 use Rattle.model.specs.Language.Io.{Io}
 use Rattle.model.specs.Machine.Living.{Collected, OperandsLive, ValuesLive}
-use Rattle.aggregates.specs.Marked.{MarksView, marks_in}
+use Rattle.heap.specs.Marked.{MarksView, marks_in}
 use Rattle.frames.specs.Frames.{AreCalls}
 use Rattle.frames.specs.View.{operands_of}
-use Rattle.world.specs.Marking.{ObjectsLive, VariablesLive}
-use Rattle.world.specs.Values.{value_of}
+use Rattle.operations.specs.Marking.{ObjectsLive}
+use Rattle.world.specs.Marking.{VariablesLive}
+use Rattle.values.specs.Values.{value_of}
 use Rattle.statement_machine.specs.Runs.{IsInRange, run_of}
 use Rattle.statement_machine.specs.declared.run.Run.{Run}
 use Rattle.statement_machine.specs.declared.run.Task.TheVariants as task

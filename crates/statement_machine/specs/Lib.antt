@@ -2,5 +2,5 @@ pub mod Asking
 pub mod Runs
 pub mod Collecting
 pub mod Stopped
-pub use Rattle.world.specs.Answers
+pub use Rattle.values.specs.Answers
 pub mod Views

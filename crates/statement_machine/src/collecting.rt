@@ -3,14 +3,16 @@
 ghost use Rattle.std.specs.Prelude.{◌≡◌, ◌++◌, IfOk, IfSome, true};
 ghost use Rattle.frames.specs.Frames.{AreCalls};
 ghost use Rattle.statement_machine.specs.Collecting.{IsInCalls, IsSameRun, StateLives};
-ghost use Rattle.world.specs.Marking.{without_unmarked};
+ghost use Rattle.operations.specs.Marking.{without_unmarked};
 
 use crate::run::{Run, Task};
-use aggregates::Marks;
 use frames::{are_calls, mark_operands};
+use heap::Marks;
 use instruction_steps::State;
+use operations::{drop_unmarked, held_size, made_size, mark_reached, no_marks};
 use std::alloc::AllocError;
-use world::{World, mark_values};
+use values::mark_values;
+use world::World;
 
 /// How much is made before objects are given back, at least.
 const LEAST: usize = 1 << 16;
@@ -37,17 +39,17 @@ impl CollectionSchedule {
     /// Whether objects are to be given back.
     #[inline(always)]
     pub(crate) fn is_due(&self, world: &World) -> bool {
-        world.made_size() >= self.due
+        made_size(world) >= self.due
     }
 
     // How much was made since objects were given back.
     fn made(&self, world: &World) -> usize {
-        world.made_size().saturating_sub(self.begun)
+        made_size(world).saturating_sub(self.begun)
     }
 
     // From now on nothing was made. So much stayed.
     fn begin(&mut self, world: &World, stayed: usize) {
-        self.begun = world.made_size();
+        self.begun = made_size(world);
         self.due = self.begun.saturating_add((stayed / 8 * 5).max(LEAST));
     }
 }
@@ -56,11 +58,11 @@ impl CollectionSchedule {
 fn reached(state: &State) -> Result<Option<Marks>, AllocError>
     ensures { IfOk result (λ found. IfSome found (λ marks. StateLives state.now marks)) }
 {
-    let mut marks = state.world.no_marks(state.alloc)?;
+    let mut marks = no_marks(&state.world, state.alloc)?;
     state.world.mark_variables(&mut marks)?;
     mark_operands(&state.operands, &mut marks)?;
     mark_values(state.saved.as_slice(), &mut marks)?;
-    if state.world.mark_reached(&mut marks)? {
+    if mark_reached(&state.world, &mut marks)? {
         Ok(Some(marks))
     } else {
         Ok(None)
@@ -92,8 +94,8 @@ impl Run {
         let Ok(Some(marks)) = reached(&self.state) else {
             return;
         };
-        self.state.world.drop_unmarked(self.state.alloc, &marks);
-        let stayed = self.state.world.held_size();
+        drop_unmarked(&mut self.state.world, self.state.alloc, &marks);
+        let stayed = held_size(&self.state.world);
         self.pace.begin(&self.state.world, stayed);
     }
 

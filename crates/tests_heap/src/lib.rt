@@ -1,4 +1,4 @@
-//! Tests of the crate `aggregates`, with ample memory.
+//! Tests of the crates `aggregates` and `heap`, with ample memory.
 #![tactic(auto)]
 
 mod items;

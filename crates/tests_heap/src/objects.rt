@@ -2,7 +2,7 @@
 
 use crate::items::{At, It};
 use crate::steps::{Seen, Step, taken};
-use aggregates::Heap;
+use heap::Heap;
 use std::alloc::Global;
 
 /// Whether each step of a new heap gives what stands beside it.

@@ -1,7 +1,8 @@
 //! Steps with objects, and what is seen of them: plain values, since each place that holds a heap is dear to prove.
 
 use crate::items::{At, It, Item, item_of, place_of};
-use aggregates::{Bounds, Heap, Names, ObjectKind};
+use aggregates::{Bounds, Names, ObjectKind};
+use heap::Heap;
 use std::alloc::Global;
 use strings::{StrFault, Text};
 

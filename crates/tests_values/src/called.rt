@@ -1,11 +1,13 @@
 //! Calls with values that no deck makes today, and their results: plain values, which are cheap to prove.
 
 use model::{ErrorCode, Level, PrimId};
+use operations::{begin_match, cat};
 use pattern_compiler::{Instr, Name, PatCode, Pattern};
 use primitives::{Outcome, call_prim};
 use std::alloc::{AllocError, Global};
 use strings::Text;
-use world::{Fault, SharedName, Value, World, alt, cond, imm};
+use values::{Fault, SharedName, Value, alt, cond, imm};
+use world::World;
 
 /// An argument.
 #[derive(Clone, Copy)]
@@ -121,10 +123,10 @@ fn in_world(
     match call {
         Call::Prim(id) | Call::Older(id) => primitive(alloc, world, id, left, right),
         Call::Begin => {
-            let begun = world.begin_match(alloc, left.clone()?, right.clone()?)?;
+            let begun = begin_match(world, alloc, left.clone()?, right.clone()?)?;
             Ok(Some(Value::Pattern(Pattern::of(begun.pattern))))
         }
-        _ => Ok(Some(world.cat(alloc, left.clone()?, right.clone()?)?)),
+        _ => Ok(Some(cat(world, alloc, left.clone()?, right.clone()?)?)),
     }
 }
 

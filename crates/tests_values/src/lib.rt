@@ -4,6 +4,6 @@
 #[cfg(test)]
 mod called;
 #[cfg(test)]
-mod texts;
+mod conversions;
 #[cfg(test)]
-mod values;
+mod texts;

@@ -9,14 +9,14 @@ use Rattle.model.specs.Language.Calls.{arg_at, bind_arguments, enter_call}
 use Rattle.model.specs.Language.Prototypes.{FunctionPrototype, are_distinct}
 use Rattle.model.specs.Machine.Steps.{MVal, MW}
 use Rattle.prototypes.specs.Views.{names_of}
-use Rattle.world.specs.Values.{value_of}
+use Rattle.values.specs.Values.{value_of}
 use Rattle.world.specs.Calling.{AreSaved}
 use Rattle.world.specs.Counts.{deeper}
 use Rattle.world.specs.Held.{WorldView, world_of}
-use Rattle.world.specs.declared.value.Value.{Value}
+use Rattle.values.specs.declared.value.Value.{Value}
 use Rattle.world.proofs.Exchanging.{differ_before, none_split, set_other}
 use Rattle.world.proofs.Giving.{bind_all, take_one, take_two}
-use Rattle.world.proofs.Passing.{bind_end, bind_turn}
+use Rattle.values.proofs.Passing.{bind_end, bind_turn}
 use Rattle.world.proofs.Saving.{values_in}
 
 -- the values of so many of the names were put at the end, and these were given to them

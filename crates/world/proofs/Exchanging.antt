@@ -10,11 +10,11 @@ use Rattle.model.specs.Language.Values.{set_var}
 use Rattle.model.specs.Language.Calls.{arg_at, bind_arguments}
 use Rattle.model.specs.Language.Prototypes.{are_distinct}
 use Rattle.model.specs.Machine.Steps.{MVal, MW}
-use Rattle.world.specs.Values.{value_of}
+use Rattle.values.specs.Values.{value_of}
 use Rattle.world.specs.Calling.{AreSaved}
 use Rattle.world.specs.Held.{WorldView, world_of}
-use Rattle.world.specs.declared.value.Value.{Value}
-use Rattle.world.proofs.Passing.{bind_turn, bind_end}
+use Rattle.values.specs.declared.value.Value.{Value}
+use Rattle.values.proofs.Passing.{bind_turn, bind_end}
 use Rattle.world.proofs.Saving.{values_in}
 
 -- ---- names that are all different

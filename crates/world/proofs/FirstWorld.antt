@@ -10,7 +10,7 @@ use Rattle.model.specs.Machine.Steps.{codes_of}
 use Rattle.model.specs.Laws.Agreement.{first_m}
 use Rattle.model.specs.Laws.PrintedBefore.{after_w}
 use Rattle.world.specs.Held.{WorldView, variable_at, value_in, input_in, output_in, world_of, null_variable, first_patterns, first_variables}
-use Rattle.world.specs.declared.world.Variable.{Variable}
+use Rattle.values.specs.declared.variable.Variable.{Variable}
 
 -- what f gives of the variable that is found among some, or else this
 abbrev pub among : {A : Type 0} → (Option Variable → A) → Bytes → A → List (Bytes × Variable) → A

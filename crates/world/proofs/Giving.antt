@@ -1,6 +1,6 @@
 -- What a call gives to the variables of its function.
-use Rattle.std.proofs.Common.{◌≡◌, ℕ, zero, suc, ◌+◌, ◌<◌, List, [], ◌∷◌, ◌++◌, length, map, take, drop, refl, sym, ap, ◌∙◌, arith, append_assoc, append-nil}
-use Rattle.std.proofs.lemmas.List.{length-append, map-append, take-map}
+use Rattle.std.proofs.Common.{◌≡◌, ℕ, zero, suc, ◌+◌, ◌<◌, List, [], ◌∷◌, ◌++◌, length, map, take, drop, refl, sym, ap, ◌∙◌, arith}
+use Rattle.std.proofs.lemmas.List.{length-append}
 use Rattle.std.proofs.Math.Seq.{drop-append_seam, take-append_seam}
 use Rattle.model.specs.Deck.Trees.{Bytes}
 use Rattle.model.specs.Language.Values.{Str, set_var}
@@ -8,31 +8,12 @@ use Rattle.model.specs.Language.Calls.{bind_arguments, enter_call}
 use Rattle.model.specs.Language.Prototypes.{FunctionPrototype}
 use Rattle.model.specs.Machine.Steps.{MVal, MW}
 use Rattle.prototypes.specs.Views.{names_of}
-use Rattle.world.specs.Values.{value_of}
-use Rattle.world.specs.Calling.{AreFilled, ArePut, AreSaved, nulls}
+use Rattle.values.specs.Values.{value_of}
+use Rattle.values.specs.Arguments.{ArePut, nulls}
+use Rattle.world.specs.Calling.{AreSaved}
 use Rattle.world.specs.Counts.{deeper}
 use Rattle.world.specs.Held.{WorldView}
-use Rattle.world.specs.declared.value.Value.{Value}
-
--- ---- null values
-
-nulls_more : (vs : List Value) (v : Value) → nulls (length (vs ++ v ∷ [])) ≡ nulls (length vs) ++ Str [] ∷ []
-nulls_more [] v = refl
-nulls_more (u ∷ vs) v = ap (λ ws. Str [] ∷ ws) (nulls_more vs v)
-
-pub none_filled : (all : List Value) (n : ℕ) → n ≡ length all → AreFilled n all all
-none_filled all n is = ([], sym (append-nil all), refl, sym is)
-
-pub fill_turn : (before now new : List Value) (n : ℕ) (v : Value) → value_of v ≡ Str [] → new ≡ now ++ v ∷ [] → AreFilled n before now → AreFilled (n + 1) before new
-fill_turn before now new n v null more (vs, all, same, size) = (
-  vs ++ v ∷ [],
-  more ∙ ap (λ ws. ws ++ v ∷ []) all ∙ append_assoc before vs (v ∷ []),
-  map-append value_of vs (v ∷ [])
-      ∙ ap (λ ws. ws ++ value_of v ∷ []) same
-      ∙ ap (λ z. nulls (length vs) ++ z ∷ []) null
-      ∙ sym (nulls_more vs v),
-  omega (arith, ap length more, length-append now (v ∷ []), size),
-)
+use Rattle.values.specs.declared.value.Value.{Value}
 
 -- ---- all that a call gives
 
@@ -52,25 +33,6 @@ take_one {T = T} (suc n) x some = ap (λ xs. x ∷ xs) (sym (take_nothing T n))
 pub take_two : {T : Type 0} (n : ℕ) (x y : T) → 1 < n → x ∷ y ∷ [] ≡ take n (x ∷ y ∷ [])
 take_two zero x y some = absurd omega (arith, some)
 take_two (suc n) x y some = ap (λ xs. x ∷ xs) (take_one n y (omega (arith, some)))
-
-pub put_all : (f : FunctionPrototype) (given before mid after : List Value) (null : Value) (n count : ℕ) → value_of null ≡ Str [] → n ≡ length f.arguments → mid ≡ (before ++ null ∷ []) ++ take n given → count ≡ length before + length (names_of f)
-    → AreFilled count mid after → ArePut f given before after
-put_all f given before mid after null n count is arity put all (ns, filled, same, size) =
-    let vs : List Value = null ∷ (take n given ++ ns) in
-    let whole : after ≡ before ++ vs =
-    filled
-    ∙ ap (λ ws. ws ++ ns) (put ∙ append_assoc before (null ∷ []) (take n given))
-    ∙ append_assoc before (null ∷ take n given) ns in (
-      vs,
-      whole,
-      omega (arith, size, all, ap length whole, length-append before vs),
-      (
-        length ns,
-        (λ i. is i ∷ map-append value_of (take n given) ns i)
-            ∙ ap (λ ws. Str [] ∷ (map value_of (take n given) ++ ws)) same
-            ∙ ap (λ ws. Str [] ∷ (ws ++ nulls (length ns))) (sym (take-map value_of n given) ∙ ap (λ k. take k (map value_of given)) arity),
-      ),
-    )
 
 bind_nulls : (xs : List Bytes) (k : ℕ) (w : MW) → bind_arguments xs (nulls k) w ≡ bind_arguments xs [] w
 bind_nulls [] k w = refl

@@ -1,35 +1,26 @@
 -- The end of a call.
-use Rattle.std.proofs.Common.{◌≡◌, ℕ, min, ℤ, List, [], ◌∷◌, length, take, drop, arith, Option, Some, None, Result, Ok, Err, sym, ap, subst, ◌∙◌}
+use Rattle.std.proofs.Common.{◌≡◌, ℕ, min, ℤ, List, [], ◌∷◌, length, take, drop, arith, Option, Some, None, Ok, Err, sym, ap, ◌∙◌}
 use Rattle.std.specs.Prelude.{option_map}
 use Rattle.model.specs.declared.instr.ReturnKind.{ReturnKind}
 use Rattle.model.specs.declared.instr.ReturnKind.TheVariants as kind
 use Rattle.model.specs.declared.run.ErrorCode.{ErrorCode}
 use Rattle.model.specs.declared.run.ErrorCode.TheVariants as error
-use Rattle.model.specs.Language.Io.{Io}
-use Rattle.model.specs.Language.Told.{IfTold}
 use Rattle.model.specs.Deck.Trees.{Bytes}
-use Rattle.model.specs.Language.Operators.{fetch_op}
 use Rattle.model.specs.Language.Prototypes.{FunctionPrototype}
 use Rattle.model.specs.Deck.Target.{Name}
 use Rattle.model.specs.Language.Conversions.{Conv, Got, Bad, Op, Gives, Refuses, Faults, conv, to_name}
-use Rattle.model.specs.Language.Calls.{AValue, AName, as_value, back_to_caller, bind_arguments, leave_op, or_no_name}
+use Rattle.model.specs.Language.Calls.{AValue, AName, back_to_caller, leave_op, or_no_name}
 use Rattle.model.specs.Language.Calls as calls
 use Rattle.model.specs.Machine.Steps.{PCode, MVal, MW, MBack}
-use Rattle.pattern_compiler.specs.View.{name_of}
-use Rattle.pattern_compiler.specs.declared.instr.Name as p
-use Rattle.world.proofs.Telling.{told_same, told_on}
 use Rattle.prototypes.specs.Views.{names_of}
 use Rattle.world.specs.Counts.{with_caller}
-use Rattle.world.specs.Held.{WorldView, world_of}
-use Rattle.world.specs.Values.{value_of}
-use Rattle.world.specs.declared.calls.Given.TheVariants as given
-use Rattle.world.specs.declared.value.Value.{Value}
-use Rattle.world.specs.Answers.{AnswersOrFails}
+use Rattle.values.specs.declared.value.Value.{Value}
+use Rattle.values.specs.Answers.{AnswersOrFails}
 use Rattle.world.specs.Calling.{LeavesTo, given_of, kept_with, older, saved_as, saved_below, saved_by}
 use Rattle.world.specs.declared.calls.Kept.{Kept}
 use Rattle.world.specs.declared.calls.Given.{Given}
-use Rattle.world.specs.declared.fault.Fault.{Fault}
-use Rattle.world.specs.declared.fault.Fault.TheVariants as fault
+use Rattle.values.specs.declared.fault.Fault.{Fault}
+use Rattle.values.specs.declared.fault.Fault.TheVariants as fault
 
 pub gives_value : (name : Bytes) (v : MVal) (w : MW) (c : calls.Kept PCode ℕ) → v ≡ w.vars name → c.name ≡ name → leave_op kind.Return c w ≡ Gives (AValue v) (back_to_caller kind.Return c w)
 gives_value name v w c is same = ap (λ x. Gives (AValue (w.vars x)) (back_to_caller kind.Return c w)) same ∙ ap (λ z. Gives (AValue z) (back_to_caller kind.Return c w)) (sym is)
@@ -74,13 +65,3 @@ none_saved f [] none w =
       sym (ap (λ k. calls.restore (saved_as (names_of f) (drop k [])) w) at),
     )
 none_saved f (v ∷ vs) none w = absurd (omega (arith, none))
-
--- ---- what a call gave, where it is wanted
-
-pub value_given : (g : Given) (v : Value) (h : WorldView) (o : Option Io) → g ≡ given.Value v → IfTold o o (λ io io'. as_value (given_of g) (world_of h io) ≡ Gives (value_of v) (world_of h io'))
-value_given g v h o is = told_same o _ (λ io. ap (λ z. as_value (given_of z) (world_of h io)) is)
-
-pub name_given : (g : Given) (n : p.Name) (h new : WorldView) (r : Result (Option MVal) Fault) (o m : Option Io) → g ≡ given.Name n
-    → IfTold o m (λ io io'. AnswersOrFails r (world_of new io') (fetch_op (name_of n) (world_of h io)))
-    → IfTold o m (λ io io'. AnswersOrFails r (world_of new io') (as_value (given_of g) (world_of h io)))
-name_given g n h new r o m is f = told_on o m _ _ (λ io io' a. subst (λ z. AnswersOrFails r (world_of new io') (as_value (given_of z) (world_of h io))) (sym is) a) f

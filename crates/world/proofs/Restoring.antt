@@ -11,10 +11,10 @@ use Rattle.model.specs.Language.Calls as calls
 use Rattle.model.specs.Language.Prototypes.{FunctionPrototype, are_distinct}
 use Rattle.model.specs.Machine.Steps.{MW}
 use Rattle.prototypes.specs.Views.{names_of}
-use Rattle.world.specs.Values.{value_of}
+use Rattle.values.specs.Values.{value_of}
 use Rattle.world.specs.Calling.{older, saved_as, saved_below, saved_by}
 use Rattle.world.specs.Held.{WorldView, world_of}
-use Rattle.world.specs.declared.value.Value.{Value}
+use Rattle.values.specs.declared.value.Value.{Value}
 use Rattle.world.proofs.Exchanging.{first_differs, set_other}
 use Rattle.world.proofs.Saving.{same_end, saved_short, values_in}
 

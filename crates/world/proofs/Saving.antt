@@ -4,13 +4,13 @@ use Rattle.std.proofs.lemmas.List.{length-map, length-append}
 use Rattle.model.specs.Deck.Trees.{Bytes}
 use Rattle.model.specs.Language.Calls.{saved_of}
 use Rattle.model.specs.Machine.Steps.{MVal, MW}
-use Rattle.world.specs.Values.{value_of}
+use Rattle.values.specs.Values.{value_of}
 use Rattle.world.specs.Held.{WorldView, value_in, variable_at, world_of}
 use Rattle.model.specs.Language.Prototypes.{FunctionPrototype}
 use Rattle.prototypes.specs.Views.{names_of}
 use Rattle.world.specs.Calling.{AreSaved, IsKept, saved_as}
 use Rattle.world.specs.declared.calls.Kept.{Kept}
-use Rattle.world.specs.declared.value.Value.{Value}
+use Rattle.values.specs.declared.value.Value.{Value}
 
 abbrev pub values_in : WorldView → Bytes → MVal
 values_in h x = value_in (variable_at x h.variables)

@@ -1,6 +1,6 @@
 -- Functions by their names.
-use Rattle.std.proofs.Common.{◌≡◌, [], Bool, true, false, cond, Option, Some, None, refl, sym, ap, subst, ◌∙◌, bytes_eq}
-use Rattle.std.specs.Prelude.{IfSome, option_map, if◌then◌else◌}
+use Rattle.std.proofs.Common.{◌≡◌, [], Bool, true, false, cond, Option, Some, refl, sym, ap, subst, ◌∙◌, bytes_eq}
+use Rattle.std.specs.Prelude.{option_map, if◌then◌else◌}
 use Rattle.std.specs.Option.{option_copied}
 use Rattle.std.specs.Borrow.{Bor}
 use Rattle.std.proofs.lemmas.Slice.Eq.{bytes_eq-Decides}
@@ -12,13 +12,9 @@ use Rattle.model.specs.Language.Conversions.{Gives}
 use Rattle.model.specs.Machine.Steps.{MW}
 use Rattle.model.specs.Language.Prototypes.{FunctionPrototype}
 use Rattle.model.specs.Language.Primitives.{define_op, entry_or, set_function}
-use Rattle.world.specs.Functions.{Functions, function_of, function_at, functions_in, IsNamed, IfNamed}
+use Rattle.values.specs.Functions.{Functions, function_of, function_at, functions_in, IsNamed, IfNamed}
 use Rattle.world.specs.Held.{WorldView, world_of}
-use Rattle.world.specs.declared.functions.Function.{Function}
-
-pub named_there : (x : Bytes) (o : Option (Bor Function)) (p : Option Function) → option_copied o ≡ p → IfNamed x p → IfSome o (λ f. IsNamed x f.now)
-named_there x None p is h = tt
-named_there x (Some f) p is h = subst (IfNamed x) (sym is) h
+use Rattle.values.specs.declared.functions.Function.{Function}
 
 -- one name has this function, and all others have theirs
 abbrev pub PutsFunction : (old new : Functions) → Bytes → Function → Type 0

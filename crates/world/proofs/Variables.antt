@@ -22,13 +22,13 @@ use Rattle.model.specs.Language.Conversions.{Gives}
 use Rattle.model.specs.Language.Operators.{assign_op, fetch_op, fetch_var, write_var}
 use Rattle.model.specs.Deck.Target as target
 use Rattle.model.specs.Machine.Steps.{MVal}
-use Rattle.world.specs.Values.{value_of}
-use Rattle.world.specs.Functions.{Functions, functions_in}
+use Rattle.values.specs.Values.{value_of}
+use Rattle.values.specs.Functions.{Functions, functions_in}
 use Rattle.world.specs.Objects.{object_map}
-use Rattle.world.specs.declared.value.Value.{Value}
-use Rattle.world.specs.declared.value.Value.TheVariants.{String}
+use Rattle.values.specs.declared.value.Value.{Value}
+use Rattle.values.specs.declared.value.Value.TheVariants.{String}
 use Rattle.world.specs.Held.{AreNamed, WorldView, Holds, IsPlain, IsSilent, StandsAs, StandsIn, StaySilent, variable_at, name_at, value_in, input_in, output_in, world_of}
-use Rattle.world.specs.declared.world.Variable.{Variable}
+use Rattle.values.specs.declared.variable.Variable.{Variable}
 
 -- the variable of one name is this, and all others stay
 abbrev pub Puts : (old new : List (Bytes × Variable)) → Bytes → Variable → Type 0

@@ -1,23 +1,22 @@
 -- What a call saves, and what it gives.
-use Rattle.std.specs.Prelude.{◌≡◌, ℕ, ◌-◌, List, [], ◌∷◌, ◌++◌, length, map, take, drop, replicate, Option, Some, None, Result, Ok, Err}
+use Rattle.std.specs.Prelude.{◌≡◌, ℕ, ◌-◌, List, [], ◌∷◌, ◌++◌, length, map, take, drop, Option, Some, None, Result, Ok, Err}
 use Rattle.model.specs.Deck.Trees.{Bytes}
 use Rattle.model.specs.Language.Io.{Io}
 use Rattle.model.specs.Language.Conversions.{Op, Gives, Refuses, Faults}
 use Rattle.model.specs.Language.Calls.{AValue, AName, Saved, kept_of}
 use Rattle.model.specs.Language.Calls as calls
-use Rattle.model.specs.Language.Values.{Str}
-use Rattle.model.specs.Machine.Steps.{PCode, MVal, MW, MBack}
+use Rattle.model.specs.Machine.Steps.{PCode, MW, MBack}
 use Rattle.model.specs.Language.Prototypes.{FunctionPrototype}
 use Rattle.prototypes.specs.Views.{names_of}
 use Rattle.pattern_compiler.specs.View.{name_of}
 use Rattle.world.specs.Held.{WorldView, value_in, variable_at, world_of}
-use Rattle.world.specs.Values.{value_of}
+use Rattle.values.specs.Values.{value_of}
 use Rattle.world.specs.declared.calls.Given.{Given}
 use Rattle.world.specs.declared.calls.Given.TheVariants as given
 use Rattle.world.specs.declared.calls.Kept.{Kept}
-use Rattle.world.specs.declared.value.Value.{Value}
-use Rattle.world.specs.declared.fault.Fault.{Fault}
-use Rattle.world.specs.declared.fault.Fault.TheVariants as fault
+use Rattle.values.specs.declared.value.Value.{Value}
+use Rattle.values.specs.declared.fault.Fault.{Fault}
+use Rattle.values.specs.declared.fault.Fault.TheVariants as fault
 
 -- each name with its value
 abbrev pub saved_as : List Bytes → List Value → List (Saved PCode ℕ)
@@ -51,20 +50,6 @@ given_of (given.Name n) = AName (name_of n)
 -- the values of these names were put at the end
 abbrev pub AreSaved : List Bytes → (before after : List Value) → WorldView → Type 0
 AreSaved xs before after h = (vs : List Value) × (after ≡ before ++ vs) × (map value_of vs ≡ map (λ x. value_in (variable_at x h.variables)) xs)
-
--- so many null values
-abbrev pub nulls : ℕ → List MVal
-nulls n = replicate n (Str [])
-
--- what a call gives to the variables of a function was put at the end: null to its name, its arguments to theirs, and else null
-abbrev pub ArePut : FunctionPrototype → (arguments before after : List Value) → Type 0
-ArePut f given before after =
-    (vs : List Value) × (after ≡ before ++ vs) × (length vs ≡ length (names_of f))
-    × ((n : ℕ) × (map value_of vs ≡ Str [] ∷ (take (length f.arguments) (map value_of given) ++ nulls n)))
-
--- null values were put at the end, up to so many in all
-abbrev pub AreFilled : (count : ℕ) → (before after : List Value) → Type 0
-AreFilled count before after = (vs : List Value) × (after ≡ before ++ vs) × (map value_of vs ≡ nulls (length vs)) × (length after ≡ count)
 
 -- a call keeps what it has to, and put what it saved at the end
 abbrev pub IsKept : Kept → FunctionPrototype → (before after : List Value) → WorldView → Type 0

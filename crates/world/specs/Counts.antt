@@ -1,5 +1,5 @@
 -- Keywords in which a run counts its statements and its calls.
-use Rattle.std.specs.Prelude.{ℕ, ℤ, Bool, true, false}
+use Rattle.std.specs.Prelude.{ℤ, Bool, true, false}
 use Rattle.model.specs.declared.instr.ReturnKind.{ReturnKind}
 use Rattle.model.specs.declared.keys.KeyId.{KeyId}
 use Rattle.model.specs.declared.keys.KeyId.TheVariants as k

@@ -13,12 +13,12 @@ use Rattle.model.specs.Pattern.Patterns as p
 use Rattle.model.specs.Deck.Target as target
 use Rattle.model.specs.Pattern.Steps.{Code}
 use Rattle.model.specs.Machine.Steps.{MVal, MW, codes_of}
-use Rattle.world.specs.Values.{value_of}
+use Rattle.values.specs.Values.{value_of}
 use Rattle.world.specs.Objects.{object_map}
-use Rattle.world.specs.Functions.{Functions, functions_in}
-use Rattle.world.specs.declared.value.Value.{Value}
-use Rattle.world.specs.declared.value.Value.TheVariants as v
-use Rattle.world.specs.declared.world.Variable.{Variable}
+use Rattle.values.specs.Functions.{Functions, functions_in}
+use Rattle.values.specs.declared.value.Value.{Value}
+use Rattle.values.specs.declared.value.Value.TheVariants as v
+use Rattle.values.specs.declared.variable.Variable.{Variable}
 
 pub record WorldView : Type 0 where
   -- in the order of first assignment

@@ -1,10 +1,6 @@
-pub mod Values
 pub mod Objects
 pub mod Marking
-pub mod Answers
-pub mod Asking
 pub mod Held
 pub mod Counts
-pub mod Functions
 pub mod Calling
-pub mod Elements
+pub mod Lending

@@ -1,9 +1,9 @@
 //! Calls of functions that DEFINE made: what a call saves, and what it gives back.
 
 ghost use Rattle.std.specs.Prelude.{◌≡◌, ◌+◌, ◌-◌, ◌<◌, ◌≤◌, ◌++◌, ◌∷◌, ℕ, [], map, length, take, drop, get_or};
-ghost use Rattle.std.specs.Prelude.{true, option_map, Some, IfOk, OnOk, OnErr};
+ghost use Rattle.std.specs.Prelude.{true, option_map, Some, IfOk, OnOk};
 ghost use Rattle.model.specs.Language.Io.{Io};
-ghost use Rattle.model.specs.Language.Calls.{as_name, as_value, back_to_caller, bind_arguments, enter_call, leave_op};
+ghost use Rattle.model.specs.Language.Calls.{as_name, back_to_caller, bind_arguments, enter_call, leave_op};
 ghost use Rattle.model.specs.Language.Calls.{AValue, restore};
 ghost use Rattle.model.specs.Language.Calls as calls;
 ghost use Rattle.model.specs.Language.Conversions.{Gives};
@@ -12,23 +12,20 @@ ghost use Rattle.model.specs.Machine.Steps.{MW, PCode};
 ghost use Rattle.model.specs.declared.run.Stop.TheVariants.{NoMemory};
 ghost use Rattle.pattern_compiler.specs.View.{name_of};
 ghost use Rattle.prototypes.specs.Views.{names_of};
-ghost use Rattle.world.specs.Answers.{answer_map, op_of, stopped_by, AnswersOrFails, IfStopped};
-ghost use Rattle.world.specs.Asking.{Takes, io_after};
-ghost use Rattle.world.specs.Calling.{AreFilled, ArePut, AreSaved, IsKept, LeavesTo, given_of, kept_with, saved_as, saved_below};
+ghost use Rattle.values.specs.Answers.{answer_map, op_of, AnswersOrFails, IfStopped};
+ghost use Rattle.values.specs.Arguments.{AreFilled, ArePut};
+ghost use Rattle.world.specs.Calling.{AreSaved, IsKept, LeavesTo, given_of, kept_with, saved_as, saved_below};
 ghost use Rattle.world.specs.declared.calls.Given.TheVariants as given;
 ghost use Rattle.world.specs.Held.{value_in, variable_at, world_of};
-ghost use Rattle.world.specs.Values.{value_of};
-ghost use Rattle.unit_io.specs.Service.{ReadsOne, Served};
+ghost use Rattle.values.specs.Values.{value_of};
 
-use crate::fault::Fault;
-use crate::value::Value;
-use crate::world::{NO_SLOT, World};
+use crate::world::World;
 use model::{ErrorCode, ReturnKind};
 use pattern_compiler::Name;
 use prototypes::FunctionPrototype;
 use std::alloc::{AllocError, Global};
 use strings::Text;
-use unit_io::Units;
+use values::{Fault, NO_SLOT, Value, put_values, slot_at};
 
 /// What a call keeps for its end, beside the values that it saved.
 pub struct Kept {
@@ -66,56 +63,6 @@ impl Given {
             Given::Value(_value) => Err(ErrorCode::NotAName),
         }
     }
-}
-
-// The slot of a name among the slots of names, if it is known.
-#[inline]
-pub(crate) fn slot_at(slots: &[u32], number: usize) -> u32 {
-    match slots.get(number) {
-        Some(slot) => *slot,
-        None => NO_SLOT,
-    }
-}
-
-// Puts a value at the end.
-#[inline(always)]
-fn put(values: &mut Vec<Value>, value: Value) -> Result<(), AllocError>
-    ensures { OnOk result (values.new.items ≡ values.old.items ++ value ∷ []) }
-{
-    if values.len() >= values.capacity() {
-        values.reserve(1)?;
-    }
-    values.push_reserved(value);
-    Ok(())
-}
-
-/// Puts null values at the end, up to so many values in all.
-#[inline(always)]
-pub(crate) fn fill(values: &mut Vec<Value>, count: usize) -> Result<(), AllocError>
-    requires { length values.old.items ≤ count }
-    ensures { OnOk result (AreFilled count values.old.items values.new.items) }
-{
-    for _number in values.len()..count {
-        put(values, Value::null())?;
-    }
-    Ok(())
-}
-
-// Puts at the end what a call gives to the variables of its function: null to its name, to each argument its value,
-// which is moved, and null to a missing one and to locals.
-fn put_values(
-    prototype: &FunctionPrototype,
-    arguments: &mut Vec<Value>,
-    values: &mut Vec<Value>,
-) -> Result<(), AllocError>
-    ensures { OnOk result
-        (ArePut prototype.now arguments.old.items values.old.items values.new.items) }
-{
-    let count = values.len() + prototype.names().len();
-    put(values, Value::null())?;
-    arguments.truncate(prototype.arity());
-    values.append(arguments)?;
-    fill(values, count)
 }
 
 impl World {
@@ -389,26 +336,5 @@ impl World {
     {
         let value = self.back(ReturnKind::Return, kept, saved)?;
         Ok(value)
-    }
-
-    /// The value of what a call gave, where a value is wanted. That of a name is fetched.
-    pub fn returned_value<U: Units>(
-        &mut self,
-        units: &mut U,
-        given: Given,
-    ) -> Result<Option<Value>, Fault>
-        ensures served { Served U.Units (stopped_by result) units.old units.new (λ io io'.
-            AnswersOrFails (answer_map (option_map value_of) result) (world_of self.new io')
-            (as_value (given_of given) (world_of self.old io))) }
-        ensures quiet { ReadsOne (stopped_by result) (U.told units.old) (U.told units.new) }
-        ensures asked { Takes (U.may_fail units.old) (stopped_by result) (λ io. io_after
-            (as_value (given_of given) (world_of self.old io))) }
-        ensures err { OnErr result (self.new ≡ self.old) }
-        ensures names { self.new.names ≡ self.old.names }
-    {
-        match given {
-            Given::Value(value) => Ok(Some(value)),
-            Given::Name(name) => self.fetch(units, &name),
-        }
     }
 }

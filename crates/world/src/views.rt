@@ -1,12 +1,15 @@
 //! What a world holds, seen one by one.
 
+ghost use Rattle.std.specs.Borrow.{sem};
 ghost use Rattle.std.specs.Prelude.{◌≡◌, ◌≤◌, IfSome, length, None};
 ghost use Rattle.world.specs.Held.{IsIn};
+ghost use Rattle.world.specs.Lending.{LendsFunctions, LendsKeywords, LendsObjects};
 
-use crate::value::Value;
 use crate::world::World;
-use aggregates::Heap;
+use heap::Heap;
+use keywords::Keywords;
 use strings::Text;
+use values::{FunctionTable, Value};
 
 impl World {
     /// The name and the value of the variable in a slot. The slots are in the order of first assignment.
@@ -19,9 +22,45 @@ impl World {
     }
 
     /// The arrays, tables and records, by their numbers in the order of making.
+    #[inline(always)]
     pub fn objects(&self) -> &Heap<Value>
         ensures { result.now ≡ self.now.objects }
     {
         &self.heap
+    }
+
+    /// The same, to be changed.
+    #[inline(always)]
+    pub fn objects_mut(&mut self) -> &mut Heap<Value>
+        ensures* lends { sem 𝓛 (LendsObjects self.entry result) }
+        ensures held { result.now ≡ self.old.objects }
+    {
+        &mut self.heap
+    }
+
+    /// The functions that aren't primitive, to be changed.
+    #[inline(always)]
+    pub fn functions_mut(&mut self) -> &mut FunctionTable
+        ensures* lends { sem 𝓛 (LendsFunctions self.entry result) }
+        ensures held { result.now ≡ self.old.functions }
+    {
+        &mut self.functions
+    }
+
+    /// The keywords.
+    #[inline(always)]
+    pub fn keywords(&self) -> &Keywords
+        ensures { result.now ≡ self.now.keys }
+    {
+        &self.keywords
+    }
+
+    /// The same, to be changed.
+    #[inline(always)]
+    pub fn keywords_mut(&mut self) -> &mut Keywords
+        ensures* lends { sem 𝓛 (LendsKeywords self.entry result) }
+        ensures held { result.now ≡ self.old.keys }
+    {
+        &mut self.keywords
     }
 }

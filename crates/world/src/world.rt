@@ -14,19 +14,17 @@ ghost use Rattle.model.specs.Language.Keywords.{key_value};
 ghost use Rattle.model.specs.Laws.Agreement.{first_m};
 ghost use Rattle.model.specs.Laws.PrintedBefore.{after_w};
 ghost use Rattle.pattern_compiler.specs.View.{name_of};
-ghost use Rattle.world.specs.Values.{value_of};
+ghost use Rattle.values.specs.Values.{value_of};
 ghost use Rattle.world.specs.Held.{world_of, IsPlain, StandsAs, StandsIn, name_at, zero_in, variable_at, value_in};
 ghost use Rattle.world.specs.Held.{Holds, IsLeftOf, IsSilent, StaySilent};
 ghost use Rattle.world.specs.Held.{input_in, output_in};
 ghost use Rattle.world.specs.Calling.{AreSaved};
 ghost use Rattle.world.specs.Held.{with_variable, pattern_variable, first_patterns, first_variables};
-ghost use Rattle.world.specs.declared.value.Value.TheVariants.{String};
-ghost use Rattle.world.specs.declared.value.Value.{Value};
-ghost use Rattle.world.specs.declared.world.Variable.{Variable};
+ghost use Rattle.values.specs.declared.value.Value.TheVariants.{String};
+ghost use Rattle.values.specs.declared.value.Value.{Value};
+ghost use Rattle.values.specs.declared.variable.Variable.{Variable};
 
-use crate::functions::FunctionTable;
-use crate::value::Value;
-use aggregates::Heap;
+use heap::Heap;
 use indexmap::IndexMap;
 use keywords::{KeyValue, Keywords};
 use model::{KeyId, Level};
@@ -35,134 +33,7 @@ use std::alloc::{AllocError, Global};
 use std::marker::Model;
 use std::mem;
 use strings::Text;
-
-/// The slot of a name whose slot isn't known.
-pub const NO_SLOT: u32 = u32::MAX;
-
-/// A variable that was assigned to, or that a unit is associated with.
-#[derive(Drop)]
-pub(crate) struct Variable {
-    pub(crate) value: Value,
-    /// The unit that it reads from.
-    input: Option<u8>,
-    /// The unit that it writes to.
-    output: Option<u8>,
-}
-
-const _: () = prove!(size_of::<Variable>() <= 40);
-
-impl Variable {
-    // A variable without a unit.
-    fn holding(value: Value) -> Variable
-        ensures { result ≡ record { value = value; input = None; output = None } }
-    {
-        Variable {
-            value,
-            input: None,
-            output: None,
-        }
-    }
-
-    // A variable without a value.
-    fn on_units(input: Option<u8>, output: Option<u8>) -> Variable
-        ensures { result ≡ record { value = String []; input = input; output = output } }
-    {
-        Variable {
-            value: Value::null(),
-            input,
-            output,
-        }
-    }
-
-    #[inline(always)]
-    fn set(&mut self, value: Value)
-        ensures { self.new ≡ record self.old { value = value } }
-    {
-        if let (Value::Integer(old), Value::Integer(n)) = (&mut self.value, &value) {
-            *old = *n;
-            return;
-        }
-        self.value = value;
-    }
-
-    // Puts two texts behind the string that it holds, in place; whether that is made, or else nothing changes.
-    #[inline(always)]
-    fn append_in_place(&mut self, alloc: Global, one: &Text, two: &Text) -> bool
-        requires fits { (u : Bytes) → self.old.value ≡ String u → length u + length one.now + length two.now < 2 ^ 64 }
-        ensures made { result ≡ true → (u : Bytes) × (self.old.value ≡ String u)
-            × (self.new ≡ record self.old { value = String ((u ++ one.now) ++ two.now) }) }
-        ensures kept { result ≡ false → self.new ≡ self.old }
-    {
-        match &mut self.value {
-            Value::String(text) => text.extend(alloc, one.as_slice(), two.as_slice()),
-            _ => false,
-        }
-    }
-
-    // Takes bytes off the front of the string that it holds, if that is so long.
-    #[inline(always)]
-    fn cut_front(&mut self, count: usize)
-        ensures { (u : Bytes) → self.old.value ≡ String u → count ≤ length u
-            → self.new ≡ record self.old { value = String (drop count u) } }
-    {
-        if let Value::String(text) = &mut self.value {
-            if count <= text.len() {
-                text.cut_front(count);
-            }
-        }
-    }
-
-    // Takes a byte out of the string that it holds, if that is one of few.
-    #[inline(always)]
-    pub(crate) fn take_byte(&mut self, place: usize)
-        ensures { (u : Bytes) → self.old.value ≡ String u → place < length u → length u ≤ 22
-            → self.new ≡ record self.old { value = String (take place u ++ drop (place + 1) u) } }
-    {
-        if let Value::String(text) = &mut self.value {
-            let len = text.len();
-            if place < len && len <= 22 {
-                text.take_byte(place);
-            }
-        }
-    }
-
-    // Takes another value, which becomes the one that it had.
-    #[inline(always)]
-    fn exchange(&mut self, value: &mut Value)
-        ensures had { value.new ≡ self.old.value }
-        ensures set { self.new ≡ record self.old { value = value.old } }
-    {
-        if let (Value::Integer(had), Value::Integer(n)) = (&mut self.value, &mut *value) {
-            mem::swap(had, n);
-            return;
-        }
-        if self.value.is_null() && value.is_null() {
-            return;
-        }
-        mem::swap(&mut self.value, value);
-    }
-
-    // Takes another value, and gives the one that it had.
-    #[inline(always)]
-    fn replace(&mut self, value: Value) -> Value
-        ensures had { result ≡ self.old.value }
-        ensures set { self.new ≡ record self.old { value = value } }
-    {
-        if let Value::Integer(n) = &self.value {
-            let n = *n;
-            self.value = value;
-            return Value::Integer(n);
-        }
-        mem::replace(&mut self.value, value)
-    }
-
-    fn set_units(&mut self, input: Option<u8>, output: Option<u8>)
-        ensures { self.new ≡ record self.old { input = input; output = output } }
-    {
-        self.input = input;
-        self.output = output;
-    }
-}
+use values::{FunctionTable, NO_SLOT, Value, Variable};
 
 /// What a run holds besides what stands on its units.
 pub struct World {
@@ -356,7 +227,7 @@ impl World {
 
     /// A variable, which stands in its slot or else where the look-up finds it.
     #[inline(always)]
-    pub(crate) fn variable(&self, name: &Text, slot: u32) -> Option<&Variable>
+    pub fn variable(&self, name: &Text, slot: u32) -> Option<&Variable>
         ensures { option_copied result ≡ variable_at name.now self.now.variables }
     {
         if let Some((key, variable)) = self.variables.get_index(slot as usize) {
@@ -736,7 +607,7 @@ impl World {
 
     /// The unit that a variable reads from, unless `&INPUT` is 0.
     #[inline]
-    pub(crate) fn reads(&self, variable: &Variable) -> Option<u8>
+    pub fn reads(&self, variable: &Variable) -> Option<u8>
         ensures { result ≡ (if zero_in
             (key_value KeyId.Input self.now.keys) then None else variable.now.input) }
     {
@@ -765,12 +636,7 @@ impl World {
     }
 
     /// Gives a variable another value, and returns the unit that it writes to.
-    pub(crate) fn set(
-        &mut self,
-        name: &Text,
-        slot: u32,
-        value: Value,
-    ) -> Result<Option<u8>, AllocError>
+    pub fn set(&mut self, name: &Text, slot: u32, value: Value) -> Result<Option<u8>, AllocError>
         ensures set { OnOk result
             ((io : Io) → world_of self.new io
             ≡ set_var name.now (value_of value) (world_of self.old io)) }
@@ -970,7 +836,7 @@ fn names_in(alloc: Global, variables: &IndexMap<Text, Variable>) -> Result<Vec<T
 }
 
 /// Whether a keyword holds the integer 0.
-pub(crate) fn is_zero(keywords: &Keywords, id: KeyId) -> bool
+pub fn is_zero(keywords: &Keywords, id: KeyId) -> bool
     ensures { result ≡ zero_in (key_value id keywords.now) }
 {
     match keywords.get(id) {

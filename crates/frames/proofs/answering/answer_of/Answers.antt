@@ -1,4 +1,4 @@
-use Rattle.world.specs.Values.{value_of}
+use Rattle.values.specs.Values.{value_of}
 use Rattle.frames.proofs.Counts.{no_count}
 use Rattle.frames.proofs.answering.answer_of.Goals as goal
 

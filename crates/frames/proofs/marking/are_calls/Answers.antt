@@ -1,6 +1,6 @@
 use Rattle.std.proofs.Common.{arith, subst}
 use Rattle.std.specs.List.{AllByRecursion}
-use Rattle.world.proofs.Reaching.{all_taken}
+use Rattle.values.proofs.Living.{all_taken}
 use Rattle.frames.specs.Frames.{IsCall}
 use Rattle.frames.proofs.Reaching.{all_reverse}
 use Rattle.frames.proofs.marking.are_calls.Goals as goal

@@ -1,10 +1,10 @@
 use Rattle.std.proofs.Common.{arith, subst}
 use Rattle.std.specs.List.{AllByRecursion}
 use Rattle.std.proofs.lemmas.List.Elements.{All-weaker}
-use Rattle.aggregates.proofs.Marking.{marked_on}
-use Rattle.aggregates.specs.Marked.{marks_in}
+use Rattle.heap.proofs.Marking.{marked_on}
+use Rattle.heap.specs.Marked.{marks_in}
 use Rattle.model.specs.Machine.Living.{OperandLives}
-use Rattle.world.proofs.Reaching.{all_map, all_next, all_taken}
+use Rattle.values.proofs.Living.{all_map, all_next, all_taken}
 use Rattle.frames.specs.View.{operand_of}
 use Rattle.frames.specs.declared.operand.Operand.{Operand}
 use Rattle.frames.proofs.Reaching.{all_reverse, operand_on}

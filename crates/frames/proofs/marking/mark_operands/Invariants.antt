@@ -1,6 +1,6 @@
 use Rattle.std.proofs.Common.{take}
 use Rattle.std.specs.List.{All}
-use Rattle.aggregates.specs.Marked.{HasMarked, marks_in}
+use Rattle.heap.specs.Marked.{HasMarked, marks_in}
 use Rattle.model.specs.Machine.Living.{OperandLives}
 use Rattle.frames.specs.View.{operand_of}
 use Rattle.frames.proofs.marking.mark_operands.Given as goal

@@ -1,7 +1,7 @@
 use Rattle.std.proofs.Common.{◌∷◌, drop, ap}
 use Rattle.frames.specs.Kinds.{kinds_of}
 use Rattle.frames.specs.declared.operand.Operand.TheVariants as operand
-use Rattle.world.specs.declared.value.Value.TheVariants as value
+use Rattle.values.specs.declared.value.Value.TheVariants as value
 use Rattle.frames.proofs.operand.replace_integers.Goals as goal
 
 pub pop_value-requires : goal.pop_value-requires

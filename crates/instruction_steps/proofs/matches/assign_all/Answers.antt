@@ -5,18 +5,18 @@ use Rattle.model.specs.Laws.Agreement.{IsPrefix}
 use Rattle.model.specs.declared.run.Stop.TheVariants as stop
 use Rattle.match_machine.specs.View.{pending_of}
 use Rattle.pattern_compiler.specs.View.{name_of}
-use Rattle.world.specs.Answers.{AnswersAs, done, stopped_by}
-use Rattle.world.specs.declared.fault.Fault.TheVariants as fault
+use Rattle.values.specs.Answers.{AnswersAs, done, stopped_by}
+use Rattle.values.specs.declared.fault.Fault.TheVariants as fault
 use Rattle.world.specs.Held.{world_of}
-use Rattle.world.specs.Values.{value_of}
-use Rattle.world.specs.declared.value.Value.TheVariants as value
+use Rattle.values.specs.Values.{value_of}
+use Rattle.values.specs.declared.value.Value.TheVariants as value
 use Rattle.unit_io.specs.Service.{OfThese}
 use Rattle.unit_io.proofs.Serving.{all_none, all_on, served_then, told_same, with_some}
 use Rattle.instruction_steps.proofs.Assigning.{assigned_any, lacking_served, none_left, residual_served, stopped_rest}
 use Rattle.instruction_steps.proofs.Telling.{no_records}
 use Rattle.instruction_steps.proofs.Asked.{pending_next, rest_took_none}
 use Rattle.instruction_steps.proofs.Printing.{assigned_prints, assigned_rest, kept_same, pending_prints, printed_more, residual_kept}
-use Rattle.world.proofs.Asked.{passed_on}
+use Rattle.operations.proofs.Asked.{passed_on}
 use Rattle.instruction_steps.proofs.matches.assign_all.Goals as goal
 
 pub returns-in_err-clone-clause-printed : goal.returns-in_err-clone-clause-printed

@@ -1,7 +1,7 @@
 use Rattle.std.proofs.Common.{◌<◌, ◌≤◌, length, map, sym, ap, ◌∙◌, arith}
 use Rattle.std.proofs.lemmas.List.{length-map}
 use Rattle.model.specs.Language.Names.{prim_at, most_args}
-use Rattle.world.specs.Values.{value_of}
+use Rattle.values.specs.Values.{value_of}
 use Rattle.primitives.proofs.Called.{calls_function, calls_primitive, too_many}
 use Rattle.primitives.proofs.applying.applied_to.Goals as goal
 

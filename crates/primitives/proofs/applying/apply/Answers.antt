@@ -3,7 +3,7 @@ use Rattle.std.proofs.lemmas.Result.{err_from_is_err_and}
 use Rattle.model.specs.declared.primitives.PrimId.TheVariants as p
 use Rattle.model.specs.Language.Primitives.{prim_op}
 use Rattle.model.specs.Machine.Steps.{codes_of}
-use Rattle.world.specs.Values.{value_of}
+use Rattle.values.specs.Values.{value_of}
 use Rattle.primitives.specs.Calling.{IsReached}
 use Rattle.primitives.proofs.Called.{no_more, reached, turned}
 use Rattle.primitives.proofs.applying.apply.Goals as goal

@@ -2,7 +2,7 @@ use Rattle.std.proofs.Common.{◌≡◌, map, length}
 use Rattle.model.specs.declared.primitives.PrimId.TheVariants as p
 use Rattle.model.specs.Language.Primitives.{prim_op}
 use Rattle.model.specs.Machine.Steps.{MW, codes_of}
-use Rattle.world.specs.Values.{value_of}
+use Rattle.values.specs.Values.{value_of}
 use Rattle.primitives.proofs.applying.apply.Given as goal
 
 abbrev pub invariant-loop-name : goal.invariant-loop-name

@@ -6,7 +6,7 @@ use Rattle.model.specs.Language.Io.{Io}
 use Rattle.model.specs.Language.Primitives.{Calls, prim_op}
 use Rattle.model.specs.Machine.Steps.{codes_of}
 use Rattle.world.specs.Held.{world_of}
-use Rattle.world.specs.Values.{value_of}
+use Rattle.values.specs.Values.{value_of}
 use Rattle.primitives.specs.Answers.{ComesTo}
 use Rattle.primitives.specs.Calling.{IsReached}
 use Rattle.primitives.proofs.Called.{refused}

@@ -1,7 +1,7 @@
 use Rattle.std.proofs.Common.{[], ◌∷◌, map, subst, ◌∙◌}
 use Rattle.model.specs.Machine.Steps.{codes_of}
 use Rattle.model.specs.Language.Primitives.{prim_op}
-use Rattle.world.specs.Values.{value_of}
+use Rattle.values.specs.Values.{value_of}
 use Rattle.world.specs.Held.{world_of}
 use Rattle.primitives.specs.Answers.{ComesTo}
 use Rattle.primitives.proofs.Arguments.{first_three}

@@ -1,7 +1,7 @@
 use Rattle.std.proofs.Common.{sym, ◌∙◌}
 use Rattle.model.specs.Language.Prototypes.{function_prototype}
 use Rattle.world.specs.Held.{world_of}
-use Rattle.world.specs.Values.{value_of}
+use Rattle.values.specs.Values.{value_of}
 use Rattle.primitives.proofs.Defined.{defined}
 use Rattle.primitives.proofs.defining.define.Goals as goal
 

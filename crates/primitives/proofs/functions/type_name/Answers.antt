@@ -1,6 +1,6 @@
 use Rattle.std.proofs.Common.{ap, sym, ◌∙◌}
 use Rattle.model.specs.Language.Aggregates.{type_of}
-use Rattle.world.specs.Values.{value_of}
+use Rattle.values.specs.Values.{value_of}
 use Rattle.world.specs.Held.{world_of}
 use Rattle.primitives.proofs.functions.type_name.Goals as goal
 

@@ -1,4 +1,4 @@
-use Rattle.world.specs.Values.{value_of}
+use Rattle.values.specs.Values.{value_of}
 use Rattle.world.specs.Held.{world_of}
 use Rattle.primitives.proofs.Associations.{was_detached}
 use Rattle.primitives.proofs.units.detach.Goals as goal

@@ -1,4 +1,4 @@
-use Rattle.world.specs.Values.{value_of}
+use Rattle.values.specs.Values.{value_of}
 use Rattle.world.specs.Held.{world_of}
 use Rattle.primitives.proofs.Associations.{writes_now}
 use Rattle.primitives.proofs.units.output.Goals as goal

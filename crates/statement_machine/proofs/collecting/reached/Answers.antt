@@ -1,8 +1,8 @@
 use Rattle.std.proofs.Common.{List, map, subst}
-use Rattle.aggregates.specs.Marked.{marks_in}
+use Rattle.heap.specs.Marked.{marks_in}
 use Rattle.model.specs.Machine.Living.{ValuesLive}
-use Rattle.world.specs.Values.{value_of}
-use Rattle.world.specs.declared.value.Value.{Value}
+use Rattle.values.specs.Values.{value_of}
+use Rattle.values.specs.declared.value.Value.{Value}
 use Rattle.statement_machine.proofs.GivingBack.{state_lives}
 use Rattle.statement_machine.proofs.collecting.reached.Goals as goal
 

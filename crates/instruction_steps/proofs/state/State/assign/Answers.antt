@@ -2,25 +2,25 @@ use Rattle.std.proofs.Common.{ap, ◌∙◌, ◌∷◌}
 use Rattle.frames.specs.Stacked.{Stacked}
 use Rattle.frames.specs.declared.operand.Operand.{Operand}
 use Rattle.frames.specs.declared.operand.Operand.TheVariants as operand
-use Rattle.world.specs.Answers.{done, stopped_by}
+use Rattle.values.specs.Answers.{done, stopped_by}
 use Rattle.unit_io.proofs.Serving.{served_for}
 use Rattle.instruction_steps.proofs.Fetching.{assigned, assign_io, assign_sound}
 use Rattle.instruction_steps.specs.Stopped.{halted_by}
 use Rattle.instruction_steps.proofs.Printing.{kept_settled}
-use Rattle.world.proofs.Asked.{prints_on}
+use Rattle.operations.proofs.Asked.{prints_on}
 use Rattle.instruction_steps.proofs.Asked.{unit_settled}
 use Rattle.instruction_steps.proofs.state.State.assign.Goals as goal
 
 pub returns-clause-served : goal.returns-clause-served
 returns-clause-served g c =
     served_for c.assign_at-answer.ensures.served (c.went.ensures.counts _ _)
-    (λ io io' x im fs. assigned im fs c.args.next c.args.self.now c.went.new.self c.assign_at-answer.new.self c.went.result c.pop_name-named.new.operands c.pop_name-named.result
+    (λ io io' x im fs. assigned im fs c.args.next c.args.self.now c.went.new.self c.assign_at-answer.new.world c.went.result c.pop_name-named.new.operands c.pop_name-named.result
     c.pop_value-value.result (done c.assign_at-answer.result)
     (c.pop_value-value.ensures ∙ ap (λ (l : Stacked Operand). record l { top = operand.Value c.pop_value-value.result ∷ l.top }) c.pop_name-named.ensures) (c.went.ensures.left im fs) io io' x)
 
 pub returns-clause-sound : goal.returns-clause-sound
 returns-clause-sound g c im fs h =
-    assign_sound im fs c.args.next c.args.self.now c.went.new.self c.assign_at-answer.new.self c.went.result c.pop_name-named.new.operands c.pop_name-named.result
+    assign_sound im fs c.args.next c.args.self.now c.went.new.self c.assign_at-answer.new.world c.went.result c.pop_name-named.new.operands c.pop_name-named.result
     c.pop_value-value.result (done c.assign_at-answer.result) h
     (c.pop_value-value.ensures ∙ ap (λ (l : Stacked Operand). record l { top = operand.Value c.pop_value-value.result ∷ l.top }) c.pop_name-named.ensures) (c.went.ensures.left im fs)
 
@@ -30,5 +30,5 @@ returns-clause-quiet g c = kept_settled (halted_by c.went.result) _ _ _ c.went.e
 pub returns-clause-asked : goal.returns-clause-asked
 returns-clause-asked g c im fs =
     unit_settled (halted_by c.went.result) _ _ c.went.ensures.stop
-    (prints_on _ (stopped_by c.assign_at-answer.result) _ _ (assign_io im fs c.args.next c.args.self.now c.went.new.self c.assign_at-answer.new.self c.went.result c.pop_name-named.new.operands c.pop_name-named.result c.pop_value-value.result
+    (prints_on _ (stopped_by c.assign_at-answer.result) _ _ (assign_io im fs c.args.next c.args.self.now c.went.new.self c.assign_at-answer.new.world c.went.result c.pop_name-named.new.operands c.pop_name-named.result c.pop_value-value.result
     (c.pop_value-value.ensures ∙ ap (λ (l : Stacked Operand). record l { top = operand.Value c.pop_value-value.result ∷ l.top }) c.pop_name-named.ensures)) c.assign_at-answer.ensures.asked)

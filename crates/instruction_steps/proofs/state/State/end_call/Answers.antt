@@ -15,7 +15,7 @@ use Rattle.instruction_steps.proofs.Flowing.{seen}
 use Rattle.instruction_steps.proofs.Operations.{faults, gives, refuses}
 use Rattle.instruction_steps.proofs.Telling.{no_records}
 use Rattle.instruction_steps.proofs.Asked.{no_unit}
-use Rattle.world.proofs.Asked.{takes_on}
+use Rattle.operations.proofs.Asked.{takes_on}
 use Rattle.instruction_steps.specs.Stopped.{halted_by}
 use Rattle.instruction_steps.specs.Asking.{io_at}
 use Rattle.instruction_steps.specs.Calling.{given_by}

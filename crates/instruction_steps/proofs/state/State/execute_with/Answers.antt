@@ -4,7 +4,7 @@ use Rattle.model.specs.declared.instr.Instr.TheVariants as op
 use Rattle.loader.specs.Places.{offset_at}
 use Rattle.instruction_steps.proofs.Flowing.{above}
 use Rattle.unit_io.proofs.Serving.{kept_quiet, served_on}
-use Rattle.world.proofs.Asked.{asks_printing, asks_taking}
+use Rattle.operations.proofs.Asked.{asks_printing, asks_taking}
 use Rattle.instruction_steps.specs.Stopped.{halted_by}
 use Rattle.instruction_steps.specs.Asking.{io_at}
 use Rattle.instruction_steps.specs.Held.{after}

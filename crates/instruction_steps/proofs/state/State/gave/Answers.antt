@@ -1,15 +1,15 @@
 use Rattle.std.proofs.Common.{ap, subst, ◌∙◌, Ok}
 use Rattle.std.specs.Prelude.{option_map}
 use Rattle.frames.specs.View.{operands_of}
-use Rattle.world.specs.Answers.{AnswersOrFails, answer_map}
+use Rattle.values.specs.Answers.{AnswersOrFails, answer_map}
 use Rattle.world.specs.Held.{world_of}
-use Rattle.world.specs.Values.{value_of}
+use Rattle.values.specs.Values.{value_of}
 use Rattle.instruction_steps.specs.Held.{handlers_in, waiting}
 use Rattle.instruction_steps.proofs.Operations.{gives, refuses, faults}
 use Rattle.instruction_steps.proofs.Asked.{no_unit, one_quiet, reads_quiet}
 use Rattle.unit_io.specs.Service.{ReadsOne}
-use Rattle.world.specs.Asking.{Takes}
-use Rattle.world.specs.Answers.{stopped_by}
+use Rattle.operations.specs.Asking.{Takes}
+use Rattle.values.specs.Answers.{stopped_by}
 use Rattle.instruction_steps.proofs.state.State.gave.Goals as goal
 
 pub returns-in-Ok-Some-clause-left : goal.returns-in-Ok-Some-clause-left

@@ -1,4 +1,4 @@
-use Rattle.world.specs.Values.{value_of}
+use Rattle.values.specs.Values.{value_of}
 use Rattle.instruction_steps.proofs.Keys.{key_is_put, key_halts}
 use Rattle.instruction_steps.proofs.state.State.keyword.Goals as goal
 

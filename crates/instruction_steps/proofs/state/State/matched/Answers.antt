@@ -1,5 +1,5 @@
 use Rattle.std.proofs.Common.{◌≡◌, Err, ap, refl, sym, ◌∙◌}
-use Rattle.world.specs.Answers.{stopped_by}
+use Rattle.values.specs.Answers.{stopped_by}
 use Rattle.world.specs.Held.{world_of}
 use Rattle.model.specs.Pattern.Patterns.{Matched}
 use Rattle.model.specs.Pattern.Steps.{event_of}

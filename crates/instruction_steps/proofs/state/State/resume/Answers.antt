@@ -4,14 +4,14 @@ use Rattle.model.proofs.Machine.Standing as laws
 use Rattle.unit_io.proofs.Serving.{served_on}
 use Rattle.world.specs.Calling.{given_of}
 use Rattle.world.specs.Held.{world_of}
-use Rattle.world.specs.Values.{value_of}
+use Rattle.values.specs.Values.{value_of}
 use Rattle.instruction_steps.specs.Held.{Left, waiting}
 use Rattle.instruction_steps.specs.Resuming.{CallerStands, caller_in, resumed_with}
 use Rattle.instruction_steps.proofs.Flowing.{seen}
 use Rattle.instruction_steps.proofs.Stopping.{served_alone}
 use Rattle.instruction_steps.proofs.Telling.{no_records}
 use Rattle.instruction_steps.proofs.Asked.{no_unit}
-use Rattle.world.proofs.Asked.{takes_on}
+use Rattle.operations.proofs.Asked.{takes_on}
 use Rattle.instruction_steps.specs.Stopped.{halted_by}
 use Rattle.instruction_steps.specs.Asking.{io_at}
 use Rattle.instruction_steps.proofs.state.State.resume.Goals as goal

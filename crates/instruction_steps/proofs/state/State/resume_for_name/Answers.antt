@@ -2,10 +2,10 @@ use Rattle.std.proofs.Common.{ap, sym, ◌∙◌}
 use Rattle.model.specs.Language.Calls.{as_name}
 use Rattle.pattern_compiler.specs.View.{name_of}
 use Rattle.frames.specs.View.{operands_of}
-use Rattle.world.specs.Answers.{answer_map, op_of}
+use Rattle.values.specs.Answers.{answer_map, op_of}
 use Rattle.world.specs.Calling.{given_of}
 use Rattle.world.specs.Held.{world_of}
-use Rattle.world.specs.declared.fault.Fault.TheVariants.{Error}
+use Rattle.values.specs.declared.fault.Fault.TheVariants.{Error}
 use Rattle.instruction_steps.specs.Held.{handlers_in, waiting}
 use Rattle.instruction_steps.proofs.Keys.{halts}
 use Rattle.instruction_steps.proofs.Operations.{gives}

@@ -3,17 +3,17 @@ use Rattle.frames.specs.View.{operands_of}
 use Rattle.unit_io.proofs.Serving.{served_on}
 use Rattle.world.specs.Calling.{given_of}
 use Rattle.world.specs.Held.{world_of}
-use Rattle.world.specs.Values.{value_of}
+use Rattle.values.specs.Values.{value_of}
 use Rattle.instruction_steps.specs.declared.status.Exit.TheVariants as exit
 use Rattle.instruction_steps.specs.Held.{handlers_in, waiting}
 use Rattle.instruction_steps.proofs.Stopping.{served_alone}
 use Rattle.model.specs.Language.Calls.{select_op}
-use Rattle.world.specs.Answers.{answer_map, op_of}
-use Rattle.world.specs.declared.fault.Fault.TheVariants.{Error}
+use Rattle.values.specs.Answers.{answer_map, op_of}
+use Rattle.values.specs.declared.fault.Fault.TheVariants.{Error}
 use Rattle.instruction_steps.specs.Calling.{arguments_in}
 use Rattle.instruction_steps.proofs.Keys.{halts}
 use Rattle.instruction_steps.proofs.Operations.{gives}
-use Rattle.world.proofs.Asked.{takes_on}
+use Rattle.operations.proofs.Asked.{takes_on}
 use Rattle.instruction_steps.specs.Stopped.{halted_by}
 use Rattle.instruction_steps.specs.Asking.{io_at}
 use Rattle.instruction_steps.specs.Calling.{given_by}

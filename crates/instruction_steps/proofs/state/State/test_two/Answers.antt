@@ -4,7 +4,7 @@ use Rattle.frames.specs.Kinds.{kinds_of}
 use Rattle.frames.specs.Stacked.{Stacked}
 use Rattle.frames.specs.declared.operand.Operand.{Operand}
 use Rattle.world.specs.Held.{world_of}
-use Rattle.world.specs.Values.{value_of}
+use Rattle.values.specs.Values.{value_of}
 use Rattle.instruction_steps.proofs.Tests.{test_left, test_stays, two_taken}
 use Rattle.instruction_steps.proofs.Telling.{no_records}
 use Rattle.instruction_steps.proofs.state.State.test_two.Goals as goal

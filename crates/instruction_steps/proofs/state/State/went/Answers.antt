@@ -1,6 +1,6 @@
 use Rattle.std.proofs.Common.{refl, subst, Ok}
 use Rattle.frames.specs.View.{operands_of}
-use Rattle.world.specs.Answers.{AnswersAs, done}
+use Rattle.values.specs.Answers.{AnswersAs, done}
 use Rattle.world.specs.Held.{world_of}
 use Rattle.instruction_steps.specs.Held.{handlers_in, waiting}
 use Rattle.instruction_steps.proofs.Keys.{halts}

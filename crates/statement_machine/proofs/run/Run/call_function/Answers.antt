@@ -1,15 +1,15 @@
 use Rattle.std.proofs.Common.{ap, sym, subst, ◌∙◌, Some, None, Err}
 use Rattle.unit_io.proofs.Serving.{served_on}
-use Rattle.world.specs.Functions.{IfNamed}
-use Rattle.world.specs.declared.functions.Function.TheVariants as function
-use Rattle.world.specs.declared.fault.Fault.TheVariants.{Error}
+use Rattle.values.specs.Functions.{IfNamed}
+use Rattle.values.specs.declared.functions.Function.TheVariants as function
+use Rattle.values.specs.declared.fault.Fault.TheVariants.{Error}
 use Rattle.model.specs.declared.run.ErrorCode.TheVariants.{UndefinedFunction}
 use Rattle.statement_machine.specs.Runs.{Leaves}
 use Rattle.instruction_steps.specs.declared.status.Exit.TheVariants as exit
 use Rattle.statement_machine.proofs.Calling.{defined_as, found_as}
 use Rattle.statement_machine.proofs.Matching.{left_leaves}
 use Rattle.instruction_steps.proofs.Stopping.{served_alone}
-use Rattle.world.proofs.Asked.{takes_on}
+use Rattle.operations.proofs.Asked.{takes_on}
 use Rattle.instruction_steps.specs.Stopped.{halted_by}
 use Rattle.instruction_steps.specs.Asking.{io_at}
 use Rattle.statement_machine.proofs.run.Run.call_function.Goals as goal

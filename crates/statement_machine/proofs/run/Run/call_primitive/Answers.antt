@@ -16,7 +16,7 @@ use Rattle.statement_machine.proofs.Calling.{came_bad, came_by}
 use Rattle.instruction_steps.proofs.Flowing.{seen}
 use Rattle.instruction_steps.proofs.Keys.{halts}
 use Rattle.instruction_steps.proofs.Telling.{no_records}
-use Rattle.world.proofs.Asked.{takes_on}
+use Rattle.operations.proofs.Asked.{takes_on}
 use Rattle.instruction_steps.proofs.Asked.{no_unit}
 use Rattle.instruction_steps.specs.Stopped.{halted_by}
 use Rattle.instruction_steps.specs.Asking.{io_at}

@@ -15,4 +15,4 @@ returns-in_default-2 c = as_it_was c.args.self.now (record c.args.self.now { pac
 pub returns : goal.returns
 returns c =
     let lives = subst (λ o. IfSome o (λ marks. StateLives c.args.self.now.state marks)) c.in-Ok-Some.field-0-is c.in-Ok-Some.ensures in
-    given_world c.args.self.now c.begin-2.new.self c.drop_unmarked.new.self c.in-Ok-Some.marks (c.is_in_calls.ensures c.if-not-is_in_calls.false) lives c.drop_unmarked.ensures
+    given_world c.args.self.now c.begin-2.new.self c.drop_unmarked.new.world c.in-Ok-Some.marks (c.is_in_calls.ensures c.if-not-is_in_calls.false) lives c.drop_unmarked.ensures

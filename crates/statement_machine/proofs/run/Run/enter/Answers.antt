@@ -7,7 +7,7 @@ use Rattle.model.specs.Module.Flow.{InGoto}
 use Rattle.model.specs.Module.Images.{module_of}
 use Rattle.statement_machine.specs.Runs.{Leaves}
 use Rattle.instruction_steps.proofs.Telling.{no_records}
-use Rattle.world.proofs.Asked.{takes_on}
+use Rattle.operations.proofs.Asked.{takes_on}
 use Rattle.instruction_steps.specs.Stopped.{halted_by}
 use Rattle.instruction_steps.specs.Asking.{io_at}
 use Rattle.statement_machine.proofs.run.Run.enter.Goals as goal

@@ -10,7 +10,7 @@ use Rattle.instruction_steps.specs.Held.{after, handlers_in, waiting}
 use Rattle.instruction_steps.proofs.Flowing.{above, asks, label_needs}
 use Rattle.statement_machine.proofs.Matching.{code_now, fits, for_no_match, goto_now}
 use Rattle.unit_io.proofs.Serving.{served_on}
-use Rattle.world.proofs.Asked.{takes_on}
+use Rattle.operations.proofs.Asked.{takes_on}
 use Rattle.instruction_steps.specs.Stopped.{halted_by}
 use Rattle.instruction_steps.specs.Asking.{io_at}
 use Rattle.statement_machine.proofs.run.Run.execute_call.Goals as goal

@@ -10,7 +10,7 @@ use Rattle.world.specs.Held.{world_of}
 use Rattle.instruction_steps.specs.Held.{waiting}
 use Rattle.statement_machine.proofs.Calling.{returned, went}
 use Rattle.instruction_steps.proofs.Telling.{no_records}
-use Rattle.world.proofs.Asked.{takes_on}
+use Rattle.operations.proofs.Asked.{takes_on}
 use Rattle.instruction_steps.specs.Stopped.{halted_by}
 use Rattle.instruction_steps.specs.Asking.{io_at}
 use Rattle.statement_machine.proofs.run.Run.go_to_value.Goals as goal

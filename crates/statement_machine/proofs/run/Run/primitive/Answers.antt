@@ -6,7 +6,7 @@ use Rattle.statement_machine.proofs.Calling.{primitive_is}
 use Rattle.statement_machine.proofs.Matching.{code_stands, left_leaves}
 use Rattle.instruction_steps.proofs.Stopping.{served_alone}
 use Rattle.statement_machine.proofs.Tests.{as_call, as_primitive}
-use Rattle.world.proofs.Asked.{takes_on}
+use Rattle.operations.proofs.Asked.{takes_on}
 use Rattle.instruction_steps.proofs.Asked.{no_unit}
 use Rattle.instruction_steps.specs.Stopped.{halted_by}
 use Rattle.instruction_steps.specs.Asking.{io_at}

@@ -1,4 +1,4 @@
-use Rattle.std.proofs.Common.{◌≡◌, ◌+◌, ◌++◌, Some, ap, arith, length, slice_get, subst, sym, true, ◌∙◌}
+use Rattle.std.proofs.Common.{◌≡◌, ◌++◌, ap, arith, subst, sym, ◌∙◌}
 use Rattle.indexmap.specs.IndexMap.{set_value_at, with_value_at}
 use Rattle.model.specs.Deck.Target as target
 use Rattle.model.specs.Deck.Trees.{Bytes}
@@ -7,10 +7,10 @@ use Rattle.model.specs.Language.Io.{Io}
 use Rattle.model.specs.Language.Operators.{fetch_op}
 use Rattle.model.specs.Language.Values.{Str}
 use Rattle.world.specs.Held.{Holds, StandsIn, WorldView, world_of}
-use Rattle.world.specs.Values.{value_of}
-use Rattle.world.specs.declared.value.Value.{Value}
-use Rattle.world.specs.declared.value.Value.TheVariants.{String}
-use Rattle.world.specs.declared.world.Variable.{Variable}
+use Rattle.values.specs.Values.{value_of}
+use Rattle.values.specs.declared.value.Value.{Value}
+use Rattle.values.specs.declared.value.Value.TheVariants.{String}
+use Rattle.values.specs.declared.variable.Variable.{Variable}
 use Rattle.world.proofs.Variables.{assigned_plain, holds_there, kept_at, named_still, put_in_slot}
 use Rattle.world.proofs.world.World.append_in_place.Goals.{else-filled-via-then-filled+else-front-eq0, else-filled-via-else-filled}
 use Rattle.world.proofs.world.World.append_in_place.Goals as goal

@@ -1,8 +1,8 @@
-use Rattle.std.proofs.Common.{◌≡◌, ap, drop, subst, sym}
+use Rattle.std.proofs.Common.{ap, drop, subst, sym}
 use Rattle.model.specs.Language.Values.{Str}
 use Rattle.indexmap.specs.IndexMap.{with_value_at}
 use Rattle.world.specs.Held.{StandsIn, WorldView}
-use Rattle.world.specs.declared.value.Value.TheVariants.{String}
+use Rattle.values.specs.declared.value.Value.TheVariants.{String}
 use Rattle.world.proofs.Variables.{assigned_plain, holds_there, named_still, put_in_slot}
 use Rattle.world.proofs.world.World.cut_front.Goals as goal
 

@@ -1,6 +1,6 @@
 use Rattle.std.proofs.Common.{◌≡◌, ◌∷◌, [], ◌≤◌}
 use Rattle.model.specs.Language.Values.{Str}
-use Rattle.world.specs.Values.{value_of}
+use Rattle.values.specs.Values.{value_of}
 use Rattle.world.proofs.Entering.{AreGiven}
 use Rattle.world.proofs.world.World.enter_call_with.Given as goal
 

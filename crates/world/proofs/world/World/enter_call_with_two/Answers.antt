@@ -3,7 +3,7 @@ use Rattle.std.proofs.lemmas.List.{length-append}
 use Rattle.model.specs.Language.Values.{Str}
 use Rattle.model.specs.Machine.Steps.{MVal}
 use Rattle.world.specs.Held.{world_of}
-use Rattle.world.specs.Values.{value_of}
+use Rattle.values.specs.Values.{value_of}
 use Rattle.world.proofs.Entering.{all_saved, entered_with_two, none_saved, past_two, save_turn}
 use Rattle.world.proofs.Saving.{kept_is}
 use Rattle.world.proofs.world.World.enter_call_with_two.Goals as goal

@@ -2,7 +2,7 @@ use Rattle.std.proofs.Common.{◌≡◌, OnOk, subst}
 use Rattle.model.specs.Language.Io.{Io}
 use Rattle.model.specs.Language.Values.{set_var}
 use Rattle.world.specs.Held.{world_of}
-use Rattle.world.specs.Values.{value_of}
+use Rattle.values.specs.Values.{value_of}
 use Rattle.world.proofs.world.World.exchange_new.Goals as goal
 
 pub returns-clause-set : goal.returns-clause-set

@@ -1,7 +1,7 @@
 use Rattle.std.proofs.Common.{◌≡◌, ◌-◌, ◌+◌, ℕ, [], suc, get_or, length, take, drop, refl, subst, ◌∙◌, arith}
 use Rattle.std.proofs.lemmas.List.{length-drop}
 use Rattle.std.proofs.lemmas.Result.{IfOk-weaker, on_ok_weaker}
-use Rattle.world.specs.Values.{value_of}
+use Rattle.values.specs.Values.{value_of}
 use Rattle.world.proofs.Saving.{values_in}
 use Rattle.world.proofs.Restoring.{IsGivenBack, all_given, first_had, give_turn, none_given}
 use Rattle.world.proofs.world.World.give_back.Goals as goal

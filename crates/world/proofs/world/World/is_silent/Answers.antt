@@ -1,7 +1,7 @@
 use Rattle.std.proofs.Common.{◌≡◌, None, Some, ap, subst, sym, ◌∙◌}
 use Rattle.std.proofs.lemmas.Slice.Eq.{bytes_eq-Decides}
 use Rattle.world.specs.Held.{StandsIn, WorldView, input_in, output_in, variable_at}
-use Rattle.world.specs.declared.world.Variable.{Variable}
+use Rattle.values.specs.declared.variable.Variable.{Variable}
 use Rattle.world.proofs.world.World.is_silent.Goals as goal
 
 pub returns : goal.returns

@@ -3,7 +3,7 @@ use Rattle.model.specs.Language.Calls.{AValue}
 use Rattle.model.specs.Language.Conversions.{Gives}
 use Rattle.world.specs.Calling.{kept_with}
 use Rattle.world.specs.Held.{world_of}
-use Rattle.world.specs.Values.{value_of}
+use Rattle.values.specs.Values.{value_of}
 use Rattle.world.proofs.Leaving.{gives_value}
 use Rattle.world.proofs.world.World.leave_with_value.Goals as goal
 

@@ -1,12 +1,13 @@
 use Rattle.std.proofs.Common.{arith, sym, subst, ap, ◌∙◌, ◌+◌}
 use Rattle.std.proofs.lemmas.Option.{none-some}
-use Rattle.aggregates.specs.Marked.{HasMarked, MarksView}
-use Rattle.aggregates.proofs.Marking.{marked_on}
+use Rattle.heap.specs.Marked.{HasMarked, MarksView}
+use Rattle.heap.proofs.Marking.{marked_on}
 use Rattle.model.specs.Deck.Trees.{Bytes}
 use Rattle.world.specs.Held.{WorldView}
 use Rattle.world.specs.Marking.{VariablesLive}
-use Rattle.world.specs.declared.world.Variable.{Variable}
-use Rattle.world.proofs.Reaching.{AllBelow, LivesBy, below_next, held_next, some_same, variables_live}
+use Rattle.values.specs.declared.variable.Variable.{Variable}
+use Rattle.world.proofs.Reaching.{AllBelow, below_next, held_next, some_same, variables_live}
+use Rattle.values.proofs.Living.{LivesBy}
 use Rattle.world.proofs.world.World.mark_variables.Goals as goal
 use Rattle.world.proofs.world.World.mark_variables.Goals.{in-Some+in_ok-mark, in_default}
 

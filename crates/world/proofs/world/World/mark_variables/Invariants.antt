@@ -1,5 +1,6 @@
-use Rattle.aggregates.specs.Marked.{HasMarked}
-use Rattle.world.proofs.Reaching.{AllBelow, LivesBy}
+use Rattle.heap.specs.Marked.{HasMarked}
+use Rattle.world.proofs.Reaching.{AllBelow}
+use Rattle.values.proofs.Living.{LivesBy}
 use Rattle.world.proofs.world.World.mark_variables.Given as goal
 
 abbrev pub invariant-loop-slot : goal.invariant-loop-slot

@@ -1,7 +1,7 @@
 use Rattle.std.proofs.Common.{ap, ◌∙◌}
 use Rattle.std.proofs.lemmas.Result.{on_ok_weaker}
 use Rattle.model.specs.Language.Primitives.{set_function}
-use Rattle.world.specs.Functions.{function_of}
+use Rattle.values.specs.Functions.{function_of}
 use Rattle.world.specs.Held.{world_of}
 use Rattle.world.proofs.Tables.{function_put}
 use Rattle.world.proofs.world.World.put_function.Goals as goal

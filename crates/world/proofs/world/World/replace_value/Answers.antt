@@ -1,7 +1,7 @@
 use Rattle.std.proofs.Common.{◌≡◌, Some, ap, subst, sym, slice_get, ◌∙◌}
 use Rattle.std.specs.Map.{values_of}
 use Rattle.world.specs.Held.{WorldView, StandsIn, value_in}
-use Rattle.world.specs.Values.{value_of}
+use Rattle.values.specs.Values.{value_of}
 use Rattle.world.proofs.Variables.{held_there, named_still, put_in_slot}
 use Rattle.world.proofs.world.World.replace_value.Goals as goal
 

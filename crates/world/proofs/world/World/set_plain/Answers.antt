@@ -2,7 +2,7 @@ use Rattle.std.proofs.Common.{ap, refl, slice_get, subst, sym, ◌∙◌}
 use Rattle.std.specs.Map.{values_of}
 use Rattle.indexmap.specs.IndexMap.{with_value_at}
 use Rattle.world.specs.Held.{WorldView, StandsIn}
-use Rattle.world.specs.Values.{value_of}
+use Rattle.values.specs.Values.{value_of}
 use Rattle.world.proofs.Variables.{assigned_plain, named_still, others_at, plain_still, put_in_slot, silent_still}
 use Rattle.world.proofs.world.World.set_plain.Goals as goal
 

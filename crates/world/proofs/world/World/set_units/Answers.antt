@@ -1,6 +1,6 @@
 use Rattle.std.proofs.Common.{ap, bytes_eq, sym, is_some, ◌∙◌}
 use Rattle.indexmap.specs.IndexMap.{insert_entry}
-use Rattle.world.specs.declared.world.Variable.{Variable}
+use Rattle.values.specs.declared.variable.Variable.{Variable}
 use Rattle.world.proofs.Variables.{named_inserted, units_there}
 use Rattle.world.proofs.world.World.set_units.Goals as goal
 

@@ -1,7 +1,7 @@
 use Rattle.std.proofs.Common.{◌≡◌, None, Some, ap, subst, sym, ◌∙◌}
 use Rattle.std.proofs.lemmas.Slice.Eq.{bytes_eq-Decides}
 use Rattle.world.specs.Held.{StandsIn, WorldView, output_in, variable_at}
-use Rattle.world.specs.declared.world.Variable.{Variable}
+use Rattle.values.specs.declared.variable.Variable.{Variable}
 use Rattle.world.proofs.world.World.silent.Goals as goal
 
 pub returns-then-eq-clause-plain : goal.returns-then-eq-clause-plain

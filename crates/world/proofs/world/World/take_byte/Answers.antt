@@ -2,7 +2,7 @@ use Rattle.std.proofs.Common.{◌+◌, ◌++◌, ap, drop, take, subst, sym}
 use Rattle.model.specs.Language.Values.{Str}
 use Rattle.indexmap.specs.IndexMap.{with_value_at}
 use Rattle.world.specs.Held.{StandsIn, WorldView}
-use Rattle.world.specs.declared.value.Value.TheVariants.{String}
+use Rattle.values.specs.declared.value.Value.TheVariants.{String}
 use Rattle.world.proofs.Variables.{assigned_plain, holds_there, named_still, put_in_slot}
 use Rattle.world.proofs.world.World.take_byte.Goals as goal
 

@@ -1,4 +1,4 @@
-use Rattle.std.proofs.Common.{◌≡◌, ◌<◌, Some, ap, length, slice_get, subst, sym}
+use Rattle.std.proofs.Common.{◌≡◌, ◌<◌, Some, length, slice_get, subst, sym}
 use Rattle.std.specs.Map.{values_of}
 use Rattle.world.specs.Held.{StandsAs, WorldView}
 use Rattle.world.proofs.Variables.{named_stands, named_within}

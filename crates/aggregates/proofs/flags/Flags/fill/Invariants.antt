@@ -1,8 +1,0 @@
-use Rattle.std.proofs.Common.{◌≡◌, false, length}
-use Rattle.aggregates.specs.Paged.{padded}
-use Rattle.aggregates.proofs.flags.Flags.fill.Given as goal
-
-abbrev pub invariant-loop-place : goal.invariant-loop-place
-invariant-loop-place l =
-    (padded false 512 l.self-inside.flags.items ≡ padded false 512 l.initial.self-inside.flags.items)
-    × (length l.self-inside.flags.items ≡ l._place)

@@ -1,0 +1,4 @@
+pub mod Paging
+pub mod Objects
+pub mod Clearing
+pub mod Marking

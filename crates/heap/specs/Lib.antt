@@ -1,0 +1,5 @@
+pub mod Objects
+pub mod Made
+pub mod Marked
+pub mod Paged
+pub mod Parts

@@ -1,0 +1,13 @@
+pub mod Keywords
+pub mod Telling
+pub mod Asked
+pub mod UnitCalls
+pub mod Objects
+pub mod Made
+pub mod Naming
+pub mod TypeFunctions
+pub mod Recorded
+pub mod Placed
+pub mod TableValues
+pub mod Joined
+pub mod Reached

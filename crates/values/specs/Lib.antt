@@ -1,0 +1,4 @@
+pub mod Values
+pub mod Answers
+pub mod Arguments
+pub mod Functions

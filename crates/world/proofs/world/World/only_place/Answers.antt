@@ -1,9 +1,0 @@
-use Rattle.std.proofs.Common.{ap, rules}
-use Rattle.world.proofs.Named.{only_integer, placed_value}
-use Rattle.world.proofs.world.World.only_place.Goals as goal
-
-pub returns-in-Integer : goal.returns-in-Integer
-returns-in-Integer c =
-    placed_value c.args.self.now c.self.inside.heap c.args.object (ap (λ h. h.objects) c.self.view_is) c.args.subscripts.now c.in-Integer.n _
-    (only_integer c.args.subscripts.now c.subscript-item.result c.in-Integer.n c.in-len1.len_at_least c.in-len1.len_below c.subscript-item.is c.in-Integer.is)
-    (search rules) c.place_of_one.result c.place_of_one.ensures
