@@ -11,6 +11,7 @@
 #![tactic(auto)]
 
 mod bytes;
+mod equality;
 mod fault;
 mod text;
 

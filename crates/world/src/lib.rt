@@ -15,6 +15,7 @@ mod associations;
 mod calls;
 mod counts;
 mod functions;
+mod lookup;
 mod marking;
 mod views;
 mod world;

@@ -2,7 +2,7 @@ use Rattle.std.proofs.Common.{◌≡◌, ◌%◌, ◌≤◌, ℕ, List, ap, sym,
 use Rattle.std.specs.Int.{to_le_bytes, w64}
 use Rattle.strings.specs.Shared.{bytes_of, AreWithin}
 use Rattle.strings.proofs.Lists.{same_less}
-use Rattle.strings.proofs.text.are_same_few.Goals as goal
+use Rattle.strings.proofs.equality.are_same_few.Goals as goal
 
 pub returns-then-word-le7 : goal.returns-then-word-le7
 returns-then-word-le7 c h =

@@ -2,7 +2,7 @@ use Rattle.std.proofs.Common.{◌∙◌, ap, arith, sym}
 use Rattle.std.specs.Cmp.{unsigned_Decides}
 use Rattle.std.specs.Int.{to_le_bytes, w64}
 use Rattle.strings.proofs.Lists.{same_less, same_longer}
-use Rattle.strings.proofs.text.same_rest.Goals as goal
+use Rattle.strings.proofs.equality.same_rest.Goals as goal
 
 pub returns-then-word_at : goal.returns-then-word_at
 returns-then-word_at c h front =
