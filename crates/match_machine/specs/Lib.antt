@@ -3,4 +3,4 @@ pub mod Moved
 pub mod Turns
 pub mod Held
 pub mod Again
-pub mod Straight
+pub mod OnePass

@@ -18,16 +18,16 @@ mod event;
 mod falls;
 mod glide;
 mod matcher;
+mod one_pass;
 mod run;
 mod starts;
 mod state;
 mod step;
-mod straight;
 mod tell;
 mod turn;
 
 pub use backtrack::Assignment;
 pub use event::{Answer, Event, Told, Want};
 pub use matcher::Matcher;
+pub use one_pass::{Capture, MatchedPart, OnePassMatch, match_in_one_pass};
 pub use run::between;
-pub use straight::{Capture, MatchedPart, Straight, match_straight};
