@@ -14,7 +14,6 @@ SNOBOL ?= build/snobol
 PROGRAM := crates/sno
 LISTER := crates/sno_list
 FOR_PEOPLE := crates/snobol
-BENCHES := $(wildcard crates/bench_*)
 export RT
 # The program as the gate leaves it: as LLVM built it, and as Rattle's own compiler did.
 BUILT := $(PROGRAM)/out/sno $(PROGRAM)/out/sno.by-rattle
@@ -40,7 +39,6 @@ PAGE_SOURCES := $(shell find crates.txt $(wildcard $(call PARTS,page)) 2>/dev/nu
 help: ## list the targets
 	@sed -n 's/^\([a-z]*\):.*## /\1\t/p' $(firstword $(MAKEFILE_LIST)) | expand -t 8
 	@$(if $(wildcard $(PROGRAM)),,echo "Not there yet: the program, so run, try and sno only say so.")
-	@$(if $(BENCHES),,echo "Not there yet: benchmark programs, so bench only says so.")
 
 # Each of these stops with one line where something is missing.
 toolchain:
@@ -176,14 +174,8 @@ check: toolchain ## prove every crate over what earlier checks kept
 	@echo "check: proving every crate, lowest first"
 	@tools/quick_rt all check
 
-ifdef INSTRUCTIONS
-bench: build/sno ## [INSTRUCTIONS=1]: prove, build and run the benchmark programs; or what a step costs, by valgrind
+bench: build/sno ## what a step costs on the proved program, in instructions where valgrind is there, and in time
 	@bench/steps build/sno
-else
-bench: toolchain
-	@: $(if $(BENCHES),,$(error there are no benchmark programs yet: no crate crates/bench_*))
-	@for crate in $(BENCHES); do echo "bench: $$crate"; (cd $$crate && $(RT) run -- time < /dev/null) || exit 1; done
-endif
 
 compare: build/sno ## the workloads of bench/ on the proved program and on the others that are installed
 	@bench/compare build/sno

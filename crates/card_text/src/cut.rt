@@ -6,7 +6,7 @@ use std::alloc::{AllocError, Global};
 const MARKS: &[u8] = b"()<>,=:*/+-.$@?&|~";
 
 /// What a piece is.
-#[derive(Clone, Copy, Debug, PartialEq, Eq)]
+#[derive(Clone, Copy, PartialEq, Eq)]
 pub enum PieceKind {
     Blank,
     Word,
@@ -20,7 +20,7 @@ pub enum PieceKind {
 }
 
 /// A piece of a text: what it is, its first byte, and where it stands.
-#[derive(Clone, Copy, Debug)]
+#[derive(Clone, Copy)]
 pub struct Piece {
     pub kind: PieceKind,
     pub first: u8,

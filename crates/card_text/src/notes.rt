@@ -6,7 +6,7 @@ use model::{Cause, Deck, StmtFault};
 use std::alloc::{AllocError, Global};
 
 /// A faulty statement: the card under which it is reported, and the column of the token, from 0, where that is known.
-#[derive(Clone, Copy, Debug)]
+#[derive(Clone, Copy)]
 pub struct FaultPlace {
     /// The statement's number, from 1.
     pub number: u32,

@@ -20,7 +20,7 @@ pub fn next_line(deck: &[u8]) -> Option<(&[u8], &[u8])> {
 }
 
 /// How a card goes on what stands before it.
-#[derive(Clone, Copy, Debug, PartialEq, Eq)]
+#[derive(Clone, Copy, PartialEq, Eq)]
 pub enum Joined {
     /// It adds nothing.
     Nothing,
@@ -57,7 +57,7 @@ pub fn joining(columns: &[u8]) -> Joined {
 }
 
 /// A byte of a statement: the statement's number, and the byte's place in its text.
-#[derive(Clone, Copy, Debug, PartialEq, Eq)]
+#[derive(Clone, Copy, PartialEq, Eq)]
 pub struct Spot {
     pub number: u32,
     pub place: usize,

@@ -6,7 +6,7 @@ use crate::module_faults::{format_codes, module_codes};
 use crate::topics::topic_codes;
 
 /// What is known of a code.
-#[derive(Clone, Copy, Debug)]
+#[derive(Clone, Copy)]
 pub struct Code {
     /// Its name, as `E3`.
     pub name: &'static str,

@@ -5,7 +5,7 @@ ghost use Rattle.std.specs.Prelude.{◌<◌, ◌≡◌, length};
 use crate::code::Code;
 
 /// What a message is about that is no fault of a deck, a module, a run or a unit.
-#[derive(Clone, Copy, Debug, PartialEq, Eq)]
+#[derive(Clone, Copy, PartialEq, Eq)]
 pub enum Topic {
     /// A file of the words can't be read.
     CannotRead,

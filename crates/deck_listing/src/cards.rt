@@ -66,9 +66,10 @@ fn card_fault<W: Write>(
         return Ok(());
     }
     loud(style, true, out)?;
-    writeln!(out, "{:>16}{fault}", "")?;
+    let code = card_code(fault.rule);
+    writeln!(out, "{:>16}card {card} {}", "", code.name)?;
     loud(style, false, out)?;
-    sentence(style, INDENT, card_code(fault.rule).help, out)
+    sentence(style, INDENT, code.help, out)
 }
 
 fn write_note<W: Write>(style: Style, note: FaultPlace, out: &mut W) -> io::Result<()> {
@@ -76,9 +77,10 @@ fn write_note<W: Write>(style: Style, note: FaultPlace, out: &mut W) -> io::Resu
     if let Some(column) = note.column {
         caret(style, column, out)?;
     }
-    writeln!(out, "{:>16}statement {} {}", "", note.number, note.cause)?;
+    let code = cause_code(note.cause);
+    writeln!(out, "{:>16}statement {} {}", "", note.number, code.name)?;
     loud(style, false, out)?;
-    sentence(style, INDENT, cause_code(note.cause).help, out)
+    sentence(style, INDENT, code.help, out)
 }
 
 // Writes the notes of a card, which are the first of these, and gives the others.

@@ -18,7 +18,7 @@ use std::alloc::{AllocError, Global};
 use std::io::{self, Write};
 
 /// Why a listing isn't whole.
-#[derive(Debug, Drop)]
+#[derive(Drop)]
 pub enum Trouble {
     /// Memory was refused.
     Memory,

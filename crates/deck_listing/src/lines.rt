@@ -11,7 +11,7 @@ const NARROWEST: usize = 40;
 const WIDEST: usize = 132;
 
 /// How lines are written: how wide, and whether in colours.
-#[derive(Clone, Copy, Debug)]
+#[derive(Clone, Copy)]
 pub struct Style {
     width: usize,
     has_colours: bool,

@@ -7,7 +7,7 @@ use model::{CardFault, Seq, StmtFault};
 use std::alloc::AllocError;
 
 /// Why a deck is refused.
-#[derive(Debug, Drop)]
+#[derive(Drop)]
 pub enum Refusal {
     /// The card fault, alone.
     Card(CardFault),

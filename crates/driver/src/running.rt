@@ -20,7 +20,7 @@ use std::alloc::Global;
 use unit_io::Units;
 
 /// How a run came out, and the card where the statement begins that this is about.
-#[derive(Clone, Copy, Debug)]
+#[derive(Clone, Copy)]
 pub struct Ran {
     /// How it came out.
     pub status: Status,

@@ -22,7 +22,7 @@ pub fn check_module(alloc: Global, bytes: &[u8]) -> Result<(), LoadFault>
 }
 
 /// Why a module was not shown.
-#[derive(Debug, Drop)]
+#[derive(Drop)]
 pub enum ShowFault {
     /// The module is refused.
     Module(LoadFault),

@@ -15,7 +15,7 @@ use model::{Ending, ErrorCode, FormatRule, LoadFault, Status, Stop, UnitFault};
 use std::io::{self, Write};
 
 /// What the program has to report at its end.
-#[derive(Debug, Drop)]
+#[derive(Drop)]
 pub enum FinalReport<'a> {
     BadCommandLine,
     Refused(Refusal),
@@ -27,7 +27,7 @@ pub enum FinalReport<'a> {
 }
 
 /// A line that could not be written.
-#[derive(Debug, Drop)]
+#[derive(Drop)]
 pub struct WriteFault {
     pub error: io::Error,
 }

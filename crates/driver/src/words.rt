@@ -15,14 +15,14 @@ const DEFAULT_STEPS: u64 = 1_000_000_000;
 const MOST_UNIT: u8 = 99;
 
 /// A file that is given for a unit.
-#[derive(Clone, Copy, Debug, PartialEq, Eq)]
+#[derive(Clone, Copy, PartialEq, Eq)]
 pub struct UnitFile<'a> {
     pub unit: u8,
     pub file: &'a str,
 }
 
 /// What the program is asked to do.
-#[derive(Debug, Drop)]
+#[derive(Drop)]
 pub enum Job<'a> {
     /// Compile the deck on standard input and run its module.
     CompileAndRun {

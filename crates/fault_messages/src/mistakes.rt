@@ -4,7 +4,7 @@ use card_text::{Piece, PieceKind, cut_text};
 use std::alloc::{AllocError, Global};
 
 /// A mistake for which a statement has no tree.
-#[derive(Clone, Copy, Debug, PartialEq, Eq)]
+#[derive(Clone, Copy, PartialEq, Eq)]
 pub(crate) enum Mistake {
     /// A comment stands behind a `;`.
     CommentInside,

@@ -21,7 +21,7 @@ use std::marker::Model;
 use strings::{StrFault, Text};
 
 /// Why a keyword was not set.
-#[derive(Clone, Copy, Debug, PartialEq, Eq)]
+#[derive(Clone, Copy, PartialEq, Eq)]
 pub enum KeyFault {
     /// No statement may assign it.
     Protected,

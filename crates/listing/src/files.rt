@@ -20,7 +20,7 @@ const REFUSED: u8 = 3;
 const FAILED: u8 = 6;
 
 /// Why the program ends without what it was asked for.
-#[derive(Debug, Drop)]
+#[derive(Drop)]
 enum Told<'a> {
     BadCommandLine,
     NoSuchError(&'a str),

@@ -1,7 +1,7 @@
 //! The words of the program `sno_list`.
 
 /// What the program is asked to do.
-#[derive(Clone, Copy, Debug)]
+#[derive(Clone, Copy)]
 pub(crate) enum Job<'a> {
     /// List a deck, or the one on standard input.
     List {

@@ -3,7 +3,7 @@
 use codes::Code;
 
 /// How bad it is.
-#[derive(Clone, Copy, Debug, PartialEq, Eq)]
+#[derive(Clone, Copy, PartialEq, Eq)]
 pub enum Severity {
     Error,
     Warning,
@@ -23,7 +23,7 @@ impl Severity {
 }
 
 /// Where something is wrong on a card.
-#[derive(Clone, Copy, Debug)]
+#[derive(Clone, Copy)]
 pub struct CardPlace {
     /// The card's number in its file, from 1.
     pub card: Option<u32>,
@@ -58,7 +58,7 @@ impl CardPlace {
 }
 
 /// What is reported of a file, a card, a statement or a run.
-#[derive(Debug, Drop)]
+#[derive(Drop)]
 pub struct Message {
     pub file: String,
     pub place: CardPlace,

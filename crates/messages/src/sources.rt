@@ -5,14 +5,14 @@ use memchr::memchr_iter;
 use std::alloc::{AllocError, Global};
 
 /// A deck among others: its name, and how many cards stand before it.
-#[derive(Clone, Copy, Debug)]
+#[derive(Clone, Copy)]
 struct Part<'a> {
     name: &'a str,
     before: u32,
 }
 
 /// The bytes of decks, one behind another.
-#[derive(Debug, Drop)]
+#[derive(Drop)]
 pub struct Sources<'a> {
     bytes: Vec<u8>,
     cards: u32,
@@ -135,7 +135,7 @@ impl Sources<'_> {
 }
 
 /// Where the cards of a deck begin.
-#[derive(Debug, Drop)]
+#[derive(Drop)]
 pub struct Cards<'a> {
     bytes: &'a [u8],
     ends: Vec<usize>,

@@ -13,7 +13,7 @@ const MARGIN: &str = "    ";
 const NARROWEST: usize = 20;
 
 /// How messages are written.
-#[derive(Clone, Copy, Debug, PartialEq, Eq)]
+#[derive(Clone, Copy, PartialEq, Eq)]
 pub enum Form {
     /// A line each, with the card and a caret, in so many columns.
     Text(usize),

@@ -1,10 +1,9 @@
 //! Statements as cards give them, and the rules of cards.
 
 use crate::seq::{Bytes, Seq};
-use thiserror::Error;
 
 /// A statement as cards give it, before it is cut into tokens.
-#[derive(Debug, Drop)]
+#[derive(Drop)]
 pub struct Statement {
     /// Its number among the deck's statements, from 1.
     pub number: u32,
@@ -15,41 +14,33 @@ pub struct Statement {
 }
 
 /// The statements of a deck in order, END's last.
-#[derive(Debug, Drop)]
+#[derive(Drop)]
 pub struct Deck {
     /// Numbered from 1 with no gap.
     pub statements: Seq<Statement>,
 }
 
 /// A rule of cards that a deck breaks.
-#[derive(Clone, Copy, Debug, PartialEq, Eq, Error)]
+#[derive(Clone, Copy, PartialEq, Eq)]
 pub enum CardRule {
     /// A byte that is neither 32 to 126 nor a line feed.
-    #[error("C1")]
     BadByte,
     /// A continuation card before any text.
-    #[error("C2")]
     NothingToContinue,
     /// A control card that is none of the known ones.
-    #[error("C3")]
     UnknownControl,
     /// No END statement.
-    #[error("C4")]
     NoEnd,
     /// A deck that is too long.
-    #[error("C5")]
     DeckTooLong,
     /// A statement that is too long.
-    #[error("C6")]
     StatementTooLong,
     /// A growth of memory was refused.
-    #[error("C7")]
     Memory,
 }
 
 /// A broken rule of cards, and the number of the card at which it is reported.
-#[derive(Clone, Copy, Debug, PartialEq, Eq, Error)]
-#[error("card {card} {rule}")]
+#[derive(Clone, Copy, PartialEq, Eq)]
 pub struct CardFault {
     /// From 1; 0 for the deck as a whole, and one more than the cards for a missing END.
     pub card: u32,

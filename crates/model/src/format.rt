@@ -4,7 +4,6 @@ ghost use Rattle.std.specs.Prelude.{◌≡◌};
 ghost use Rattle.model.specs.declared.format.ReadError.TheVariants.{Fault, Memory};
 
 use std::alloc::{AllocError, AllocFailed};
-use thiserror::Error;
 
 /// A version of the module format.
 #[derive(Clone, Copy)]
@@ -16,34 +15,26 @@ pub enum Version {
 }
 
 /// A rule of the module format that bytes break.
-#[derive(Clone, Copy, Debug, PartialEq, Eq, Error)]
+#[derive(Clone, Copy, PartialEq, Eq)]
 pub enum FormatRule {
     /// The first bytes aren't a module's.
-    #[error("F1")]
     BadMagic,
     /// Another version of the format.
-    #[error("F2")]
     BadVersion,
     /// A field isn't whole.
-    #[error("F3")]
     Truncated,
     /// Bytes after the last field.
-    #[error("F4")]
     TrailingBytes,
     /// A count over its limit, or entries out of order or equal.
-    #[error("F5")]
     BadTable,
     /// An instruction, primitive or keyword that isn't known, or an instruction that isn't whole.
-    #[error("F6")]
     UnknownInstruction,
     /// A growth of memory was refused.
-    #[error("F7")]
     Memory,
 }
 
 /// A broken rule of the format, and the offset at which it is reported.
-#[derive(Clone, Copy, Debug, PartialEq, Eq, Error)]
-#[error("offset {offset} {rule}")]
+#[derive(Clone, Copy, PartialEq, Eq)]
 pub struct FormatFault {
     /// Counts the bytes before it.
     pub offset: usize,
@@ -94,28 +85,22 @@ impl From<Miss> for ReadError {
 }
 
 /// A condition of well-formed modules that an image breaks.
-#[derive(Clone, Copy, Debug, PartialEq, Eq, Error)]
+#[derive(Clone, Copy, PartialEq, Eq)]
 pub enum ModuleRule {
     /// An index, name or number that isn't there or isn't allowed.
-    #[error("W1")]
     BadIndex,
     /// An offset that no instruction of the needed kind begins at.
-    #[error("W2")]
     BadTarget,
     /// An instruction that lacks its operands, or is reached in two ways that differ.
-    #[error("W3")]
     BadFlow,
     /// A jump out of its pattern.
-    #[error("W4")]
     BadJump,
     /// A last statement that isn't END.
-    #[error("W5")]
     NoEnd,
 }
 
 /// A broken condition of well-formed modules, and the offset at which it is reported.
-#[derive(Clone, Copy, Debug, PartialEq, Eq, Error)]
-#[error("offset {offset} {rule}")]
+#[derive(Clone, Copy, PartialEq, Eq)]
 pub struct ModuleFault {
     /// Counts the module's bytes before the instruction, the table entry or the field.
     pub offset: usize,
@@ -124,12 +109,10 @@ pub struct ModuleFault {
 }
 
 /// Why a module is refused.
-#[derive(Clone, Copy, Debug, PartialEq, Eq, Error)]
+#[derive(Clone, Copy, PartialEq, Eq)]
 pub enum LoadFault {
     /// The bytes spell no image.
-    #[error("{0}")]
     Format(FormatFault),
     /// The image that they spell isn't well-formed.
-    #[error("{0}")]
     Module(ModuleFault),
 }

@@ -1,7 +1,7 @@
 //! Tokens, each with the text that it is.
 
 /// A mark of one or two characters.
-#[derive(Clone, Copy, Debug, PartialEq, Eq)]
+#[derive(Clone, Copy, PartialEq, Eq)]
 pub enum Mark {
     /// `**`
     Power,
@@ -44,7 +44,7 @@ pub enum Mark {
 }
 
 /// What kind of token a text is.
-#[derive(Clone, Copy, Debug, PartialEq, Eq)]
+#[derive(Clone, Copy, PartialEq, Eq)]
 pub enum TokenKind {
     /// A run of blanks.
     Blank,
@@ -59,7 +59,7 @@ pub enum TokenKind {
 }
 
 /// A token of a statement's text.
-#[derive(Clone, Copy, Debug)]
+#[derive(Clone, Copy)]
 pub struct Token<'a> {
     /// What it is.
     pub kind: TokenKind,

@@ -3,7 +3,7 @@
 use crate::seq::Seq;
 
 /// A unary operator.
-#[derive(Clone, Copy, Debug, PartialEq, Eq)]
+#[derive(Clone, Copy, PartialEq, Eq)]
 pub enum Unary {
     /// `.`, the name of a variable
     NameOf,
@@ -24,7 +24,7 @@ pub enum Unary {
 }
 
 /// A binary operator.
-#[derive(Clone, Copy, Debug, PartialEq, Eq)]
+#[derive(Clone, Copy, PartialEq, Eq)]
 pub enum Binary {
     /// `.`, an assignment after the match
     Conditional,

@@ -3,7 +3,7 @@
 use std::alloc::{AllocError, Global};
 
 /// A change.
-#[derive(Clone, Copy, Debug, PartialEq, Eq)]
+#[derive(Clone, Copy, PartialEq, Eq)]
 pub enum Change {
     /// Carriage returns are dropped.
     Returns,
@@ -52,7 +52,7 @@ impl Change {
 }
 
 /// A change, and the first card of the old deck where it was made, from 1; 0 where it is of the deck as a whole.
-#[derive(Clone, Copy, Debug)]
+#[derive(Clone, Copy)]
 pub struct PortNote {
     pub change: Change,
     pub card: u32,

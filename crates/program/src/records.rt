@@ -10,7 +10,7 @@ use std::io::{self, ErrorKind, Read};
 const LONGEST: usize = 16_777_216;
 
 /// Where reading stands in a record.
-#[derive(Clone, Copy, Debug, Drop)]
+#[derive(Clone, Copy, Drop)]
 enum Place {
     /// So many bytes of the record were given, at most `LONGEST`.
     Within(usize),

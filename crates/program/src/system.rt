@@ -10,7 +10,7 @@ use std::os::unix::fs::MetadataExt;
 use unit_io::UnitSystem;
 
 /// A regular file that a unit or a standard stream has open.
-#[derive(Clone, Copy, Debug, Drop)]
+#[derive(Clone, Copy, Drop)]
 struct Opened {
     device: u64,
     number: u64,

@@ -10,7 +10,7 @@ use std::io::{self, ErrorKind, Input, Read};
 const STANDARD_INPUT: &str = "-";
 
 /// What is reported at the end, and the system's reason, if there is one.
-#[derive(Debug, Drop)]
+#[derive(Drop)]
 pub(crate) struct Outcome<'a> {
     pub(crate) told: FinalReport<'a>,
     pub(crate) reason: Option<io::Error>,

@@ -11,14 +11,14 @@ const MOST_UNIT: u64 = 99;
 pub const WORDS_UNIT: u8 = 4;
 
 /// The decks in order, and the files of units, at most one for each.
-#[derive(Debug, Drop)]
+#[derive(Drop)]
 pub struct GivenFiles<'a> {
     pub decks: Vec<&'a str>,
     pub files: Vec<UnitFile<'a>>,
 }
 
 /// What is wrong with a word.
-#[derive(Clone, Copy, Debug)]
+#[derive(Clone, Copy)]
 pub enum BadWord<'a> {
     NoUnit(&'a str),
     NoFile(&'a str),
@@ -43,7 +43,7 @@ impl fmt::Display for BadWord<'_> {
 }
 
 /// Why words aren't sorted.
-#[derive(Debug, Drop)]
+#[derive(Drop)]
 pub(crate) enum Unsorted<'a> {
     Bad(BadWord<'a>),
     NoMemory,

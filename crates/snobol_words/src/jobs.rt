@@ -6,7 +6,7 @@ use messages::Form;
 use std::alloc::AllocError;
 
 /// What becomes of warnings.
-#[derive(Clone, Copy, Debug, PartialEq, Eq)]
+#[derive(Clone, Copy, PartialEq, Eq)]
 pub enum Warnings {
     Shown,
     /// They are shown, and the deck is refused for them.
@@ -15,7 +15,7 @@ pub enum Warnings {
 }
 
 /// What becomes of a deck that is refused.
-#[derive(Clone, Copy, Debug, PartialEq, Eq)]
+#[derive(Clone, Copy, PartialEq, Eq)]
 pub enum Port {
     /// It is written anew as a deck of this language, with small letters of names raised or not, and run then.
     Anew { folds: bool },
@@ -24,7 +24,7 @@ pub enum Port {
 }
 
 /// The files for what is reported of a run besides messages, where it is wanted; `-` is standard error.
-#[derive(Clone, Copy, Debug)]
+#[derive(Clone, Copy)]
 pub struct ReportFiles<'a> {
     /// A line for each statement that begins.
     pub trace: Option<&'a str>,
@@ -42,14 +42,14 @@ impl ReportFiles<'_> {
 }
 
 /// How what is wrong in a deck is reported.
-#[derive(Clone, Copy, Debug)]
+#[derive(Clone, Copy)]
 pub struct Reporting {
     pub form: Option<Form>,
     pub warnings: Warnings,
 }
 
 /// What the program is asked to do.
-#[derive(Debug, Drop)]
+#[derive(Drop)]
 pub enum Request<'a> {
     /// Compile decks as one and run the module.
     Run {
@@ -97,7 +97,7 @@ pub enum Request<'a> {
 }
 
 /// Why words ask for nothing that is done: a request for help or the version, or a mistake.
-#[derive(Debug, Drop)]
+#[derive(Drop)]
 pub enum NoJob<'a> {
     /// What `clap` says, help and the version too.
     Said(Error),

@@ -21,9 +21,8 @@ use instruction_steps::Halt;
 use joined_steps::WatchRun;
 use loader::Module;
 use model::Status;
-use parts::{Parts, parts_of};
 use segment_loop::Unwatched;
-use segments::{SegmentTable, form_of};
+use segments::{Parts, SegmentTable, form_of, parts_of};
 use std::alloc::{AllocError, Global};
 use std::marker::Model;
 use unit_io::Units;
@@ -39,7 +38,7 @@ pub struct Machine<'m, 'a> {
 }
 
 impl<'m, 'a> Model for Machine<'m, 'a> {
-    ghost use Rattle.parts.specs.Parts.{IsParts};
+    ghost use Rattle.segments.specs.Parts.{IsParts};
     ghost use Rattle.segments.specs.Leading.{IsRunnable};
     ghost use Rattle.segments.specs.Segments.{IsForm};
     ghost use Rattle.statement_machine.specs.Runs.{MachineView, IsGoing, IsInRange, LacksNothing};

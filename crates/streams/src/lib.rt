@@ -21,7 +21,7 @@ const NULL_DEVICE: &str = "/dev/null";
 const NOT_OPEN: i32 = 9;
 
 /// A standard stream.
-#[derive(Clone, Copy, Debug, PartialEq, Eq, Drop)]
+#[derive(Clone, Copy, PartialEq, Eq, Drop)]
 pub enum Stream {
     /// Standard input.
     Input,

@@ -6,7 +6,7 @@ use std::alloc::{AllocError, Global};
 use std::marker::Model;
 
 /// The records that were written, each with a line feed after it.
-#[derive(Debug, Drop)]
+#[derive(Drop)]
 pub struct Lines {
     bytes: Vec<u8>,
 }

@@ -19,7 +19,7 @@ use std::marker::Model;
 use strings::Text;
 
 /// A record, and the unit that it was written to.
-#[derive(Debug, Drop)]
+#[derive(Drop)]
 pub struct Written {
     pub unit: u8,
     pub bytes: Bytes,

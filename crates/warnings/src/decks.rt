@@ -8,32 +8,45 @@ use messages::{Message, Severity, Sources};
 use model::StmtFault;
 use std::alloc::{AllocError, Global};
 
-// The warnings as messages, by their cards; the second ones follow the first of the same card.
-fn merged(
+// Puts the message of a warning.
+fn put(
     alloc: Global,
+    messages: &mut Vec<Message>,
+    sources: &Sources<'_>,
+    severity: Severity,
+    warning: Warning<'_>,
+) -> Result<(), AllocError> {
+    let message = message_of(alloc, sources, severity, warning)?;
+    messages.push(message)?;
+    Ok(())
+}
+
+// Puts the warnings as messages, by their cards; the second ones follow the first of the same card.
+fn put_merged(
+    alloc: Global,
+    messages: &mut Vec<Message>,
     sources: &Sources<'_>,
     severity: Severity,
     names: &[Warning<'_>],
     cards: &[Warning<'_>],
-) -> Result<Vec<Message>, AllocError> {
-    let mut messages = Vec::new(alloc);
+) -> Result<(), AllocError> {
     let mut cards = cards;
     for warning in names.iter().copied() {
         for _ in 0..cards.len() {
             match cards {
                 [first, rest @ ..] if first.card < warning.card => {
-                    messages.push(message_of(alloc, sources, severity, *first)?)?;
+                    put(alloc, messages, sources, severity, *first)?;
                     cards = rest;
                 }
                 _ => break,
             }
         }
-        messages.push(message_of(alloc, sources, severity, warning)?)?;
+        put(alloc, messages, sources, severity, warning)?;
     }
     for warning in cards.iter().copied() {
-        messages.push(message_of(alloc, sources, severity, warning)?)?;
+        put(alloc, messages, sources, severity, warning)?;
     }
-    Ok(messages)
+    Ok(())
 }
 
 /// The warnings of a deck without a card fault, whose statements have these faults.
@@ -53,5 +66,7 @@ pub fn warnings_of(
     };
     let mut names = of_statements(alloc, statements, faults)?;
     let cards = of_cards(alloc, sources.bytes(), last, names.as_mut_slice())?;
-    merged(alloc, sources, severity, &names, &cards)
+    let mut messages = Vec::new(alloc);
+    put_merged(alloc, &mut messages, sources, severity, &names, &cards)?;
+    Ok(messages)
 }

@@ -3,7 +3,7 @@
 use card_text::{Piece, PieceKind};
 
 /// What a name stands for.
-#[derive(Clone, Copy, Debug, PartialEq, Eq)]
+#[derive(Clone, Copy, PartialEq, Eq)]
 pub(crate) enum Use {
     /// The label of a goto.
     Goto,
@@ -13,7 +13,7 @@ pub(crate) enum Use {
 }
 
 /// Where in a statement names are looked at.
-#[derive(Clone, Copy, Debug)]
+#[derive(Clone, Copy)]
 pub(crate) struct Place {
     in_goto: bool,
     open: u32,

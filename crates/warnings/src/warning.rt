@@ -5,7 +5,7 @@ use messages::{Message, Severity, Sources};
 use std::alloc::{AllocError, Global};
 
 /// A warning of a statement's piece, or of a card's columns, and where it stands.
-#[derive(Clone, Copy, Debug)]
+#[derive(Clone, Copy)]
 pub(crate) struct Warning<'a> {
     topic: Topic,
     name: &'a [u8],

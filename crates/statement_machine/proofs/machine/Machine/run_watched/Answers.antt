@@ -1,5 +1,5 @@
 use Rattle.std.proofs.Common.{sym, ap, ◌∙◌, subst}
-use Rattle.parts.specs.Parts.{IsParts}
+use Rattle.segments.specs.Parts.{IsParts}
 use Rattle.segments.specs.Segments.{IsForm}
 use Rattle.statement_machine.specs.Runs.{MachineView}
 use Rattle.statement_machine.proofs.Running.{goes_on}
