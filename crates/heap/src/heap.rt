@@ -393,11 +393,9 @@ impl<V: Element> Heap<V> {
         };
         if number < FIRST && number == self.first.count() {
             self.first.push(object)?;
-            self.count = next;
-            self.made = made;
-            return Ok(number);
+        } else {
+            self.rest.push(object)?;
         }
-        self.rest.push(object)?;
         self.count = next;
         self.made = made;
         Ok(number)

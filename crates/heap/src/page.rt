@@ -166,8 +166,7 @@ impl<V: Element> Page<V> {
         ensures made { OnOk result (self.new ≡ self.old ++ object_of object ∷ []) }
         ensures refused { OnErr result (self.new ≡ self.old) }
     {
-        push(&mut self.objects, object)?;
-        Ok(())
+        push(&mut self.objects, object)
     }
 
     /// Another object at a place.

@@ -150,13 +150,7 @@ impl<V: Element> Pages<V> {
         let Some(next) = number.checked_add(1) else {
             return Err(AllocError);
         };
-        if number / PAGE >= self.pages.len() {
-            let page = Page::with_room(*self.pages.allocator(), PAGE)?;
-            self.pages.push(page)?;
-            put_behind(&mut self.pages, number, object)?;
-            self.count = next;
-            return Ok(());
-        }
+        make_room(&mut self.pages, number)?;
         put_behind(&mut self.pages, number, object)?;
         self.count = next;
         Ok(())
@@ -181,6 +175,22 @@ impl<V: Element> Pages<V> {
         }
         size
     }
+}
+
+// Room for one more object behind so many: a page that holds nothing yet, where all are full.
+fn make_room<V: Element>(pages: &mut Vec<Page<V>>, count: usize) -> Result<(), AllocError>
+    requires counted { count ≤ 512 * length pages.old.items }
+    requires full { 512 * length pages.old.items ≤ count + 512 }
+    ensures room { OnOk result (count < 512 * length pages.new.items) }
+    ensures kept { take count (paged no_object 512 pages.new.items) ≡ take count (paged no_object 512 pages.old.items) }
+    ensures some { count ≤ 512 * length pages.new.items }
+    ensures most { 512 * length pages.new.items ≤ count + 512 }
+{
+    if count / PAGE >= pages.len() {
+        let page = Page::with_room(*pages.allocator(), PAGE)?;
+        pages.push(page)?;
+    }
+    Ok(())
 }
 
 // One more object, behind so many.

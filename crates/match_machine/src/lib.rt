@@ -13,7 +13,6 @@
 
 mod act;
 mod again;
-mod answers;
 mod event;
 mod falls;
 mod glide;

@@ -4,21 +4,14 @@ use Rattle.model.specs.Machine.Living.{no_object}
 use Rattle.aggregates.specs.Made.{object_of}
 use Rattle.heap.specs.Paged.{paged}
 use Rattle.heap.proofs.Objects.{on_err}
-use Rattle.heap.proofs.Paging.{taken_same}
 use Rattle.heap.proofs.pages.Pages.push.Goals as goal
 
 pub returns-in_err-put_behind-clause-refused : goal.returns-in_err-put_behind-clause-refused
 returns-in_err-put_behind-clause-refused g c =
-    let ps = c.self.inside.pages.items in
-    let n = c.self.inside.count in
-    let pushed : c.push.new.self.items ≡ ps ++ [] ∷ [] = c.in_ok-push.ensures.items ∙ ap (λ p. ps ++ p ∷ []) c.in_ok-page.ensures in
-    on_err _ (ap (take n) (c.in_err-put_behind.ensures.refused ∙ ap (paged no_object 512) pushed) ∙ taken_same no_object n ps (omega arith) ∙ c.self.view_is)
+    on_err _ (ap (take c.self.inside.count) c.in_err-put_behind.ensures.refused ∙ c.make_room.ensures.kept ∙ c.self.view_is)
 
-pub returns-then-number-len-clause-made : goal.returns-then-number-len-clause-made
-returns-then-number-len-clause-made g c =
-    let ps = c.self.inside.pages.items in
-    let n = c.self.inside.count in
-    let pushed : c.push.new.self.items ≡ ps ++ [] ∷ [] = c.in_ok-push.ensures.items ∙ ap (λ p. ps ++ p ∷ []) c.in_ok-page.ensures in
-    let next : c.in-Some.next ≡ n + 1 = omega arith in
+pub returns-clause-made : goal.returns-clause-made
+returns-clause-made g c =
+    let next : c.in-Some.next ≡ c.self.inside.count + 1 = omega arith in
     ap (λ k. take k (paged no_object 512 c.put_behind.new.pages.items)) next ∙ c.in_ok-put_behind.ensures.made
-    ∙ ap (λ os. os ++ object_of c.args.object ∷ []) (ap (λ xs. take n (paged no_object 512 xs)) pushed ∙ taken_same no_object n ps (omega arith) ∙ c.self.view_is)
+    ∙ ap (λ os. os ++ object_of c.args.object ∷ []) (c.make_room.ensures.kept ∙ c.self.view_is)
