@@ -3,12 +3,11 @@
 ghost use Rattle.std.specs.Prelude.{◌≡◌, ◌⊎◌, [], ◌∷◌, ◌++◌, OnOk, OnErr, slice_get};
 ghost use Rattle.model.specs.Module.Spelling.{instr, u16 as u16_bytes, u32 as u32_bytes};
 ghost use Rattle.model.specs.Module.Reading.{Finds, instr_of, readers, ◌>>>◌};
-ghost use Rattle.code_format.specs.Places.{instr_at};
 
 use crate::codes::{ARITH_OPS, RETURN_KINDS, SIGN_OPS, coded};
 use crate::numbers::{first_byte, first_u16, first_u32, first_u64, put_whole, put_wide};
 use byteorder::{BigEndian, ByteOrder};
-use model::{FormatFault, FormatRule, Instr, KeyId, PrimId};
+use model::{Instr, KeyId, PrimId};
 use std::alloc::AllocError;
 
 /// The instruction with a number of 4 bytes that has this code, and what is behind it.
@@ -118,21 +117,6 @@ pub fn first_instr(bytes: &[u8]) -> Option<(Instr, &[u8])>
         19 | 20 => call(code, rest),
         21 | 22 => prim(code, rest),
         _ => None,
-    }
-}
-
-/// The instruction at a place and the place behind it. One that is in no table or is cut is a fault at the place
-/// itself.
-pub fn get_instr(bytes: &[u8], at: usize) -> Result<(Instr, usize), FormatFault>
-    ensures { result ≡ instr_at bytes.now at }
-{
-    let behind = bytes.get(at..).unwrap_or(&[]);
-    match first_instr(behind) {
-        Some((instr, rest)) => Ok((instr, bytes.len().saturating_sub(rest.len()))),
-        None => Err(FormatFault {
-            offset: at,
-            rule: FormatRule::UnknownInstruction,
-        }),
     }
 }
 

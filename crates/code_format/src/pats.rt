@@ -3,10 +3,9 @@
 ghost use Rattle.std.specs.Prelude.{◌≡◌, ◌⊎◌, [], ◌++◌, OnOk, OnErr, slice_get};
 ghost use Rattle.model.specs.Module.Spelling.{pat_instr};
 ghost use Rattle.model.specs.Module.Reading.{Reads, pat_instr_at, pat_readers, required, ◌>>>◌};
-ghost use Rattle.code_format.specs.Places.{pat_at};
 
 use crate::numbers::{put_whole, put_wide, read_byte, read_u32, read_u64};
-use model::{FormatFault, FormatRule, Miss, PatInstr};
+use model::{FormatRule, Miss, PatInstr};
 use std::alloc::AllocError;
 
 /// The instruction with 4 bytes that has this kind, and what is behind it.
@@ -58,21 +57,6 @@ pub fn first_pat_instr(bytes: &[u8]) -> Result<(PatInstr, &[u8]), Miss>
         _ => Err(Miss {
             left: bytes.len(),
             rule: FormatRule::UnknownInstruction,
-        }),
-    }
-}
-
-/// The instruction at a place and the place behind it. A kind in no table is a fault at the place itself, an operand
-/// that is cut one at the end of the bytes.
-pub fn get_pat_instr(bytes: &[u8], at: usize) -> Result<(PatInstr, usize), FormatFault>
-    ensures { result ≡ pat_at bytes.now at }
-{
-    let behind = bytes.get(at..).unwrap_or(&[]);
-    match first_pat_instr(behind) {
-        Ok((instr, rest)) => Ok((instr, bytes.len().saturating_sub(rest.len()))),
-        Err(miss) => Err(FormatFault {
-            offset: bytes.len().saturating_sub(miss.left),
-            rule: miss.rule,
         }),
     }
 }

@@ -2,7 +2,7 @@
 //!
 //! `write_image(alloc, &image)` gives the bytes, `write_parts` those of an image whose code is bytes already;
 //! `read_image(alloc, bytes)` gives the image or the first fault and its offset; `view_image` the same without a copy
-//! of strings and code; `read_image_v1` and `view_image_v1` read what was written in version 1 of the format.
+//! of strings and code; `view_image_v1` reads what was written in version 1 of the format.
 //!
 //!     let bytes = write_image(alloc, &image)?;
 //!     let same = read_image(alloc, &bytes)?;
@@ -23,6 +23,6 @@ mod view;
 mod writing;
 
 pub use instrs::{Instrs, Listed, instrs_of};
-pub use reading::{read_image, read_image_v1, view_image, view_image_v1};
+pub use reading::{read_image, view_image, view_image_v1};
 pub use view::ImageView;
 pub use writing::{ImageParts, write_image, write_parts};

@@ -130,15 +130,3 @@ pub fn read_image(alloc: Global, bytes: &[u8]) -> Result<Image, FormatFault>
 {
     answer(alloc, Version::Two, bytes)
 }
-
-/// The image that bytes of version 1 spell, of level 1 and without cards, or the first fault and its offset. Where a
-/// growth was refused that is reported in place of any other result.
-pub fn read_image_v1(alloc: Global, bytes: &[u8]) -> Result<Image, FormatFault>
-    ensures exact { IsAnswer result (image_in versions.One bytes.now) (length bytes.now) }
-    ensures found { IfOk result (λ m.
-        IsImageIn versions.One m × (bytes.now ≡ spelling_in versions.One m)) }
-    ensures only { (m : Image) → IsImageIn versions.One m → bytes.now ≡ spelling_in versions.One m
-        → IsAnswer result (Ok m) (length bytes.now) }
-{
-    answer(alloc, Version::One, bytes)
-}

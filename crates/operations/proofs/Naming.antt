@@ -196,22 +196,6 @@ placed_for h os k same zs (Some i) e = λ vs all io. placed_by h os io k same zs
 pub placed_item : (h : WorldView) (os : List (Object Value)) (io : Io) (k : ℕ) (same : os ≡ h.objects) (z : ℤ) (i : ℕ) → place_in (z ∷ []) (slice_get os k) ≡ Some i → element_op (Obj k) (Int z ∷ []) (world_of h io) ≡ Gives (Element k i) (world_of h io)
 placed_item h os io k same z i e = placed_by h os io k same (z ∷ []) (Int z ∷ []) i refl e
 
--- an element that has no place by its only subscript
-pub outside_item : (h : WorldView) (os : List (Object Value)) (io : Io) (k : ℕ) (same : os ≡ h.objects) (z : ℤ) → dimensions_in (slice_get os k) ≡ 1 → place_in (z ∷ []) (slice_get os k) ≡ None
-    → element_op (Obj k) (Int z ∷ []) (world_of h io) ≡ Refuses (world_of h io)
-outside_item h os io k same z one none = asked h os io k (Int z ∷ []) same ∙ go (slice_get os k) one none
-  where
-    of_bounds : (bs : List Bounds) (es : List MVal) → length bs ≡ 1 → place_from 0 bs (z ∷ []) ≡ None → element_in k (Some (ArrayOf bs es)) (Int z ∷ []) (world_of h io) ≡ Refuses (world_of h io)
-    of_bounds [] es e n = absurd (omega (arith, e))
-    of_bounds (b ∷ []) es e n = ap (λ place. named_element k place (world_of h io)) n
-    of_bounds (b ∷ c ∷ bs) es e n = absurd (omega (arith, e))
-
-    go : (o : Option (Object Value)) → dimensions_in o ≡ 1 → place_in (z ∷ []) o ≡ None → element_in k (option_map (object_map value_of) o) (Int z ∷ []) (world_of h io) ≡ Refuses (world_of h io)
-    go None e n = absurd (omega (arith, e))
-    go (Some (ArrayOf bs es)) e n = of_bounds bs (map value_of es) e n
-    go (Some (TableOf es)) e n = absurd (omega (arith, e))
-    go (Some (RecordOf f fs es)) e n = absurd (omega (arith, e))
-
 -- the only subscript is this integer
 pub only_integer : (vs : List Value) (v : Value) (z : ℤ) → 1 ≤ length vs → length vs < 2 → v ≡ get_or vs 0 v → v ≡ Integer z → map value_of vs ≡ Int z ∷ []
 only_integer [] v z some few is e = absurd (omega (arith, some))

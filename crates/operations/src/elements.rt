@@ -45,22 +45,6 @@ pub fn place_by(world: &World, object: usize, subscripts: &[i64]) -> Option<usiz
     world.objects().place(object, subscripts)
 }
 
-/// Whether an array of one dimension has no element for a subscript.
-#[inline(never)]
-pub fn is_outside(world: &World, object: usize, subscript: i64) -> bool
-    ensures { result ≡ true → (io : Io)
-        → element_op (Obj object) (Int subscript ∷ []) (world_of world.now io) ≡ Refuses (world_of world.now io) }
-{
-    let objects = world.objects();
-    if objects.dimensions(object) != 1 {
-        return false;
-    }
-    match objects.place_of_one(object, subscript) {
-        Some(_) => false,
-        None => true,
-    }
-}
-
 /// The value of an element by its place.
 #[inline(always)]
 pub fn value_at(world: &World, object: usize, index: usize) -> Option<&Value>

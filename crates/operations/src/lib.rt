@@ -22,16 +22,16 @@ mod types;
 mod unit_calls;
 
 pub use elements::{
-    element_in, entry_at, give, index_for, is_outside, named, place_by, place_in, put_entry,
-    put_in_entry, put_in_place, put_integer, put_written, replace, value_at,
+    element_in, entry_at, give, index_for, named, place_by, place_in, put_entry, put_in_entry,
+    put_in_place, put_integer, put_written, replace, value_at,
 };
 pub use entries::entry_for;
 pub use items::item;
 pub use making::{array, copy, object_type, rows, table};
 pub use marking::{drop_unmarked, held_size, made_size, mark_reached, no_marks};
 pub use operators::{
-    begin_match, begin_match_of, begin_match_with, cat, cat_onto, cat_short, cut, is_anchored,
-    keyword, may_take, replaced, set_keyword,
+    begin_match, cat, cat_onto, cat_short, cut, is_anchored, keyword, may_take, replaced,
+    set_keyword,
 };
 pub use records::{construct, field_place, select};
 pub use types::data;

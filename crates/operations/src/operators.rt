@@ -16,7 +16,7 @@ ghost use Rattle.values.specs.declared.value.Value.TheVariants.{String};
 
 use keywords::KeyValue;
 use model::{ErrorCode, KeyId};
-use pattern_compiler::{PatCode, Pattern};
+use pattern_compiler::Pattern;
 use std::alloc::Global;
 use strings::{StrFault, Text};
 use values::{Begun, Fault, Span, Value};
@@ -325,47 +325,4 @@ pub fn is_anchored(world: &World) -> bool
         (world_of world.now io) }
 {
     !is_zero(world.keywords(), KeyId::Anchor)
-}
-
-/// What a match of these values begins with, where they are a string and a pattern.
-#[inline(always)]
-pub fn begin_match_of(
-    world: &World,
-    alloc: Global,
-    subject: &Value,
-    pattern: &Value,
-) -> Option<Begun>
-    ensures begun { IfSome result (λ begun. (io : Io)
-        → match_op codes_of (value_of subject.now) (value_of pattern.now) (world_of world.now io)
-        ≡ Gives (begun_of begun) (world_of world.now io)) }
-    ensures subject { IfSome result (λ begun. value_of subject.now ≡ Str begun.subject) }
-{
-    let Value::Pattern(pattern) = pattern else {
-        return None;
-    };
-    let Ok(code) = pattern.to_code(alloc) else {
-        return None;
-    };
-    begin_match_with(world, subject, code)
-}
-
-/// What a match of a string begins with against a pattern that has this code.
-#[inline(always)]
-pub fn begin_match_with(world: &World, subject: &Value, code: PatCode) -> Option<Begun>
-    ensures begun { IfSome result (λ begun. (io : Io)
-        → match_op codes_of (value_of subject.now) (Pat code) (world_of world.now io)
-        ≡ Gives (begun_of begun) (world_of world.now io)) }
-    ensures subject { IfSome result (λ begun. value_of subject.now ≡ Str begun.subject) }
-{
-    let Value::String(text) = subject else {
-        return None;
-    };
-    let Ok(subject) = text.clone() else {
-        return None;
-    };
-    Some(Begun {
-        subject,
-        pattern: code,
-        anchored: !is_zero(world.keywords(), KeyId::Anchor),
-    })
 }

@@ -5,8 +5,7 @@
 //!
 //!     let outcome = call_prim(alloc, PrimId::Size, &arguments, &mut world)?;
 //!
-//! `holds(id, first, second)` is a call of one that `is_test`: it says something of two values and takes no memory;
-//! `integers_hold` is a test of two integers.
+//! `holds(id, first, second)` is a call of one that `is_test`: it says something of two values and takes no memory.
 //!
 //! `integers_compare` is one that compares the integers of two values.
 //!
@@ -34,5 +33,5 @@ pub use call::call_prim;
 pub use functions::{integers_remainder, replace_strings};
 pub use outcome::Outcome;
 pub use patterns::call_one;
-pub use predicates::{holds, integers_compare, integers_hold, is_test};
+pub use predicates::{holds, integers_compare, is_test};
 pub use pure::{call_pure, is_pure};

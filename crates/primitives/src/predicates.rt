@@ -83,24 +83,6 @@ pub fn holds(id: PrimId, first: &Value, second: &Value) -> Result<bool, ErrorCod
     }
 }
 
-/// Whether a test of two integers holds.
-#[inline(always)]
-pub fn integers_hold(id: PrimId, first: i64, second: i64) -> bool
-    requires { is_test id ≡ true }
-    ensures { (vs : List MVal) (w : MW) → arg_at vs 0 ≡ Int first → arg_at vs 1 ≡ Int second
-        → prim_op codes_of id vs w ≡ tested (Ok result) w }
-{
-    match id {
-        PrimId::Eq | PrimId::Ident => first == second,
-        PrimId::Ne | PrimId::Differ => first != second,
-        PrimId::Lt => first < second,
-        PrimId::Le => first <= second,
-        PrimId::Gt => first > second,
-        PrimId::Ge => first >= second,
-        _ => unreachable!(),
-    }
-}
-
 /// Whether a comparison holds of two values that convert to these integers; what isn't a comparison is `None`.
 #[inline(always)]
 pub fn integers_compare(id: PrimId, first: i64, second: i64) -> Option<bool>

@@ -133,18 +133,6 @@ impl Text {
         }
     }
 
-    /// The text of a byte. Takes no memory.
-    #[inline(always)]
-    pub fn byte(byte: u8) -> Text
-        ensures { result ≡ byte ∷ [] }
-    {
-        let mut array = [0; FEW];
-        array[0] = byte;
-        Text {
-            bytes: Bytes::Own { len: 1, array },
-        }
-    }
-
     // The text of a few bytes, which are copied. Takes no memory.
     fn few(bytes: &[u8]) -> Text
         requires { length bytes.now ≤ 22 }

@@ -160,22 +160,6 @@ fn put_goto(waiting: &mut Vec<Expr>, goto: &mut Goto) {
     }
 }
 
-/// Drops a place.
-pub fn drop_place(alloc: Global, place: Place) {
-    let mut place = place;
-    let mut waiting = Vec::new(alloc);
-    put_place(&mut waiting, &mut place);
-    drop_all(&mut waiting);
-}
-
-/// Drops what a statement does.
-pub fn drop_body(alloc: Global, body: Body) {
-    let mut body = body;
-    let mut waiting = Vec::new(alloc);
-    put_body(&mut waiting, &mut body);
-    drop_all(&mut waiting);
-}
-
 fn put_statement(waiting: &mut Vec<Expr>, statement: &mut Stmt) {
     if let Stmt::Plain { body, goto, .. } = statement {
         put_body(waiting, body);

@@ -21,15 +21,6 @@ pub fn arith(op: ArithOp, left: &Value, right: &Value) -> Result<i64, ErrorCode>
     arith_of(op, a, b)
 }
 
-/// The same of a value and an integer.
-#[inline(always)]
-pub fn arith_with(op: ArithOp, left: &Value, right: i64) -> Result<i64, ErrorCode>
-    ensures { (w : MW) → op_of (answer_map Int result) w ≡ arith_op op (value_of left.now) (Int right) w }
-{
-    let a = left.to_int()?;
-    arith_of(op, a, right)
-}
-
 /// The same of two integers.
 #[inline(always)]
 pub fn arith_integers(op: ArithOp, left: i64, right: i64) -> Result<i64, ErrorCode>

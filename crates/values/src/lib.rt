@@ -23,7 +23,7 @@ mod value;
 mod variable;
 
 pub use arguments::{argument, fill, put_values, slot_at};
-pub use arithmetic::{arith, arith_integers, arith_with, sign};
+pub use arithmetic::{arith, arith_integers, sign};
 pub use fault::Fault;
 pub use functions::{Function, FunctionTable};
 pub use marking::{mark_code, mark_name, mark_values};

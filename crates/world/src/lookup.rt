@@ -121,19 +121,6 @@ impl World {
         }
     }
 
-    /// The integer that the variable in a slot that it keeps holds, if it reads from no unit.
-    #[inline(always)]
-    pub fn integer_in(&self, slot: u32) -> Option<i64>
-        requires { slot < length self.now.names }
-        ensures { IfSome result (λ n. (x : Bytes) → slice_get self.now.names slot ≡ Some x → (io : Io)
-            → fetch_op (target.Variable x) (world_of self.now io) ≡ Gives (Int n) (world_of self.now io)) }
-    {
-        let Some(Value::Integer(n)) = self.plain_in(slot) else {
-            return None;
-        };
-        Some(*n)
-    }
-
     /// Whether the variable in a slot that it keeps writes to no unit.
     #[inline(always)]
     pub fn takes_in(&self, slot: u32) -> bool
@@ -145,23 +132,6 @@ impl World {
             None => true,
             Some(_) => false,
         }
-    }
-
-    /// Whether the variable in a slot that it keeps neither reads from a unit nor writes to one.
-    #[inline(always)]
-    pub fn is_silent_in(&self, slot: u32) -> bool
-        requires { slot < length self.now.names }
-        ensures { result ≡ true → (x : Bytes) → slice_get self.now.names slot ≡ Some x
-            → IsSilent x slot self.now }
-    {
-        let variable = self.variable_in(slot);
-        let None = variable.output else {
-            return false;
-        };
-        let None = variable.input else {
-            return false;
-        };
-        true
     }
 
     /// The value of the variable in a slot that it keeps, if it neither reads from a unit nor writes to one.
@@ -215,51 +185,6 @@ impl World {
         };
         if *key == *name {
             Some(&variable.value)
-        } else {
-            None
-        }
-    }
-
-    /// Whether the variable in a slot has this name, and neither reads from a unit nor writes to one.
-    #[inline(always)]
-    pub fn is_silent(&self, name: &Text, slot: u32) -> bool
-        ensures { result ≡ true → IsSilent name.now slot self.now }
-    {
-        let Some((key, variable)) = self.variables.get_index(slot as usize) else {
-            return false;
-        };
-        let None = variable.output else {
-            return false;
-        };
-        let None = variable.input else {
-            return false;
-        };
-        *key == *name
-    }
-
-    /// The value of the variable in a slot.
-    #[inline(always)]
-    pub fn value_in(&self, slot: u32) -> &Value
-        requires { slot < length self.now.variables }
-        ensures { (x : Bytes) → IsSilent x slot self.now → (io : Io)
-            → fetch_op (target.Variable x) (world_of self.now io)
-            ≡ Gives (value_of result.now) (world_of self.now io) }
-    {
-        &self.variables[slot as usize].value
-    }
-
-    /// The integer in a slot, if the variable there has this name, holds an integer and reads from no unit.
-    #[inline(always)]
-    pub fn plain_integer(&self, name: &Text, slot: u32) -> Option<i64>
-        ensures { IfSome result (λ n. (io : Io)
-            → fetch_op (target.Variable name.now) (world_of self.now io) ≡ Gives (Int n) (world_of self.now io)) }
-    {
-        let (key, variable) = self.variables.get_index(slot as usize)?;
-        let Value::Integer(n) = &variable.value else {
-            return None;
-        };
-        if *key == *name && variable.input.is_none() {
-            Some(*n)
         } else {
             None
         }
