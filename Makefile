@@ -19,10 +19,9 @@ export RT
 BUILT := $(PROGRAM)/out/sno $(PROGRAM)/out/sno.by-rattle
 # The same of the program snobol.
 BUILT_FOR_PEOPLE := $(FOR_PEOPLE)/out/snobol $(FOR_PEOPLE)/out/snobol.by-rattle
-FAILING := crates/tests_failing/out/tests_failing
 # A part of the faults that `make refuse`, `failing`, `damage` and `deep` run whole.
-FAULTS := "tests/refuse --every 50 $(PROGRAM)/out/sno $(FAILING)" "tests/failing $(PROGRAM)/out/sno $(FAILING)" \
-	"tests/damage --every 90 $(PROGRAM)/out/sno $(FAILING)" "tests/deep --part $(PROGRAM)/out/sno"
+FAULTS := "tests/refuse --every 50 $(PROGRAM)/out/sno" "tests/failing $(PROGRAM)/out/sno" \
+	"tests/damage --every 270 $(PROGRAM)/out/sno" "tests/deep --part $(PROGRAM)/out/sno"
 # The decks on an unproved program that counts its ways, and fails where one is never taken.
 COUNTED := build/counted/sno
 COVERED := "tools/counted $(COUNTED)" "tests/run --coverage $(COUNTED)"
@@ -75,10 +74,6 @@ build/sno: $(SOURCES) | program
 	@echo "sno: proving and building the program (minutes where nothing is kept; all lines go to build/log)" >&2
 	@(cd $(PROGRAM) && echo END | ../../tools/progress "../../tools/quick_rt run") >&2 || { echo "sno: not proved, or not built" >&2; exit 1; }
 	@cp $(PROGRAM)/out/sno build/sno.new && mv build/sno.new build/sno
-
-build/failing: $(SOURCES) $(wildcard crates/tests_failing/src/*.rt) | program
-	@(cd crates/tests_failing && ../../tools/progress "$(RT) run -- 0 data/deck.sno" >&2) || { echo "failing: not proved, or not built" >&2; exit 1; }
-	@cp crates/tests_failing/out/tests_failing build/failing
 
 list: deck build/sno_list ## DECK=file: list a deck with what is wrong in it, on the proved program sno_list
 	@build/sno_list $(DECK) || [ $$? -eq 3 ]
@@ -152,14 +147,14 @@ batch: build/sno ## many files on two logins of this machine and on a cluster of
 load: build/sno ## a thousand runs at once, more files than the system opens, and units that are opened on and on
 	@tests/load build/sno
 
-refuse: build/sno build/failing ## each growth of memory refused in turn, to the proved program on some hundred decks
-	@tests/refuse build/sno build/failing
+refuse: build/sno ## each growth of memory refused in turn, to the proved program on some hundred decks
+	@tests/refuse build/sno
 
-failing: build/sno build/failing ## each read and write failed or the program killed there, and streams closed, on the proved program
-	@tests/failing build/sno build/failing
+failing: build/sno ## each read and write failed or the program killed there, and streams closed, on the proved program
+	@tests/failing build/sno
 
-damage: build/sno build/failing ## some nine million damaged modules, run by the proved code
-	@tests/damage build/sno build/failing
+damage: build/sno ## some nine million damaged modules, run by the proved code
+	@tests/damage build/sno
 
 deep: build/sno ## deep and large decks on the proved program, with a small stack and little memory
 	@tests/deep build/sno

@@ -2,10 +2,8 @@
 
 The modules are those of some decks of decks/, with each instruction that runs among them. Each is cut at each length;
 each byte of a short one gets each other value, and each bit of a longer one is turned. A module must be refused with
-one line `offset N F` or `W` and status 4, or run at most 10,000 steps and end with the status of a run. With a program
-`tests_failing` too, it runs them all without being started anew, some thousand in a process, and each fiftieth is run
-by `sno` as well, which must tell the same. The lines before the last tell how many came to what; the last line is `N
-passed, M failed`; the exit status is 0 if M is 0, and else 1.
+one line `offset N F` or `W` and status 4, or run at most 10,000 steps and end with the status of a run. The lines before
+the last tell how many came to what; the last line is `N passed, M failed`; the exit status is 0 if M is 0, and else 1.
 """
 
 import argparse
@@ -15,7 +13,6 @@ import functools
 import os
 import pathlib
 import re
-import subprocess
 import tempfile
 import typing
 
@@ -27,9 +24,6 @@ SHORT = 200
 # How many damaged modules are run one after another in one place.
 BATCH = 5000
 SUBJECTS = ("worked", "fence", "replacement", "keywords", "gotos", "text_functions")
-# With `tests_failing`, each so many-th is run by `sno` too; a process has so many seconds.
-BOTH = 50
-SECONDS = 600
 # What a run reports with each status.
 TOLD = {
     0: re.compile(rb""),
@@ -73,16 +67,16 @@ def modules(library_file, program):
 
 
 class Damaged(typing.NamedTuple):
-    """A damaged module, what is reported of it and the status, None if the program ended before."""
+    """A damaged module, what is reported of it and the status."""
 
     name: str
     content: bytes
-    told: typing.Optional[bytes]
-    status: typing.Optional[int]
+    told: bytes
+    status: int
 
     def kind(self):
         """What came of it, in few words; numbers and places left out."""
-        if self.status is None:
+        if self.status not in TOLD:
             return "the program ended"
         words = re.sub(rb"offset [0-9]+ |steps|statement [0-9]+|card [0-9]+|unit [0-9]+ ", b"", self.told).split()
         return {0: "a normal end", 4: "refused"}.get(self.status) or b" ".join(words).decode("latin-1")
@@ -95,20 +89,17 @@ class Damaged(typing.NamedTuple):
 
 
 class Batch(typing.NamedTuple):
-    """Some forms of a module, and the programs: `sno`, and `tests_failing` if there is one."""
+    """Some forms of a module, and the program."""
 
     module: Module
     numbers: range
-    programs: typing.List[pathlib.Path]
+    program: pathlib.Path
 
     def damaged(self, library_file):
         """The forms and what is reported of them."""
         names = [f"{self.module.name}, form {number}" for number in self.numbers]
         contents = [self.module.form(number) for number in self.numbers]
-        if len(self.programs) == 1:
-            answers = alone(library_file, self.programs[0], contents)
-        else:
-            answers = together(self.programs[1], contents)
+        answers = alone(library_file, self.program, contents)
         return [Damaged(*it) for it in zip(names, contents, *zip(*answers))]
 
 
@@ -119,57 +110,24 @@ def alone(library_file, program, contents):
             return [(seen.told, seen.status) for seen in served.run_each(contents)]
 
 
-def together(program, contents):
-    """What `tests_failing` reports of modules; where it ends within one, nothing of that one, and the others anew."""
-    answers = []
-    while len(answers) < len(contents):
-        left = contents[len(answers) :]
-        with tempfile.NamedTemporaryFile(prefix="sno-damage-") as file:
-            file.write(b"".join(len(it).to_bytes(4, "big") + it for it in left))
-            file.flush()
-            ran = subprocess.run([program, "each", file.name], capture_output=True, check=False, timeout=SECONDS)
-        answers += answered(ran.stdout)[: len(left)]
-        if len(answers) < len(contents):
-            answers.append((ran.stderr, None))
-    return answers
-
-
-def answered(out):
-    """The answers that `tests_failing` printed: what is reported, and behind it a line with the status."""
-    found, told = [], b""
-    for line in out.splitlines(keepends=True):
-        if line.strip().isdigit():
-            found.append((told, int(line)))
-            told = b""
-        else:
-            told += line
-    return found
-
-
 def some(library_file, batch):
     """Runs a batch: how many forms came to what, and the lines that report what failed."""
     found = batch.damaged(library_file)
     lines = [line for line in map(Damaged.failure, found) if line]
-    if len(batch.programs) > 1:
-        both = found[::BOTH]
-        other = alone(library_file, batch.programs[0], [it.content for it in both])
-        pairs = ((it, seen) for it, seen in zip(both, other) if seen != (it.told, it.status))
-        lines += [f"{it.name}: sno run tells {seen}, tests_failing {it.told, it.status}" for it, seen in pairs]
     return collections.Counter(it.kind() for it in found), lines
 
 
-def batches(found, every, programs):
+def batches(found, every, program):
     """Each so many-th form of all modules, in batches."""
     for number, module in enumerate(found):
         numbers = range(number % every, module.forms(), every)
-        yield from (Batch(module, numbers[at : at + BATCH], programs) for at in range(0, len(numbers), BATCH))
+        yield from (Batch(module, numbers[at : at + BATCH], program) for at in range(0, len(numbers), BATCH))
 
 
 def arguments():
     """The words of the command line."""
     parser = argparse.ArgumentParser(description=__doc__.partition("\n\n")[0])
     parser.add_argument("program", nargs="?", default=PROGRAM, help="build/sno if none is given")
-    parser.add_argument("failing", nargs="?", help="a program tests_failing, which runs many in a process")
     parser.add_argument("--every", type=int, default=1, metavar="K", help="only each K-th damaged module")
     parser.add_argument("--jobs", type=int, default=os.cpu_count(), metavar="N", help="how many at once")
     return parser.parse_args()
@@ -178,13 +136,13 @@ def arguments():
 def main():
     """Runs what the command line asks for."""
     given = arguments()
-    programs = [pathlib.Path(it).resolve() for it in (given.program, given.failing) if it]
+    program = pathlib.Path(given.program).resolve()
     came, failed = collections.Counter(), 0
     with tempfile.TemporaryDirectory(prefix="sno-damage-") as folder:
         built = library(folder)
-        found = modules(built, programs[0])
+        found = modules(built, program)
         with concurrent.futures.ProcessPoolExecutor(given.jobs) as pool:
-            for counts, lines in pool.map(functools.partial(some, built), batches(found, given.every, programs)):
+            for counts, lines in pool.map(functools.partial(some, built), batches(found, given.every, program)):
                 came, failed = came + counts, failed + len(lines)
                 print("".join(f"FAILED {line}\n" for line in lines[:5]), end="", flush=True)
     ran = sum(came.values())

@@ -1,9 +1,7 @@
-"""Lets each read and write fail in turn, and compares what a run does then with the reference.
+"""Lets each call of the system fail in turn, and compares what a run does then with what it does otherwise.
 
-The decks are those of decks/failing/, which read and write several units, and one that copies records. The program
-`tests_failing` runs them on units whose call K fails, for each K until none fails; what it prints on each unit, tells,
-and its status are those of the reference with such units. Then the calls of the system fail in turn in the program
-itself: each read, write, opening and renaming of a file; it answers as before, or tells what can't be read or written,
+The decks are those of decks/failing.cases, which read and write several units, and one that copies records. Each read,
+write, opening and renaming of a file fails; the program answers as before, or tells what can't be read or written,
 having printed a beginning. Where calls move one byte or are interrupted, it answers as before. Where standard streams
 are closed, it answers as before, or tells what can't be read or written. Where the process is killed at a call that
 changes files, each unit holds a beginning, and a module is the old one or the new one. The last line is `N passed, M
@@ -15,117 +13,20 @@ import collections
 import pathlib
 import re
 import signal
-import subprocess
 import tempfile
-import typing
-
-from reference.command import seen_of
-from reference.units import UnitFault, Units
 
 from . import cases
-from .refuse import FAILING, PROGRAM, Command, Run, commands_of, left_beside
+from .refuse import PROGRAM, Command, Run, commands_of, left_beside
 from .served import LAST, SIGNAL, Served, library
 
-SECONDS = 60
 OLDER = pathlib.Path(__file__).resolve().parents[1] / "older" / "a_deck_of_arithmetic.module"
 FAULT = re.compile(rb"(unit [5-9] U[23]|cannot (read|write) [a-z. ]+)\n")
-# The calls of a run of the copying deck that fail, and what comes then.
-COPIED = {
-    2: (b"", b"unit 6 U3\n", 6),
-    4: (b"A\n", b"unit 6 U3\n", 6),
-    5: (b"A\n\n", b"unit 5 U2\n", 6),
-    7: (b"A\n\nB\n", b"unit 5 U2\n", 6),
-    8: (b"A\n\nB\n", b"", 0),
-}
-
-
-class FailingUnits(Units):
-    """Units of which one call fails."""
-
-    def __init__(self, inputs, outputs, k):
-        super().__init__(inputs, outputs)
-        self.left_to = k
-
-    def failing(self, unit, rule):
-        """Counts a call, and fails if it's the one."""
-        self.left_to -= 1
-        if self.left_to == 0:
-            raise UnitFault(unit, rule)
-
-    def read(self, unit):
-        """Reads, or fails."""
-        self.failing(unit, 2)
-        return super().read(unit)
-
-    def write(self, unit, record):
-        """Writes, or fails."""
-        self.failing(unit, 3)
-        super().write(unit, record)
-
-
-class Seen(typing.NamedTuple):
-    """What a run prints and reports, its status, and what its files hold."""
-
-    out: bytes
-    told: bytes
-    status: int
-    files: typing.Dict[str, bytes]
-
-
-def wanted_of(case, k):
-    """What the reference does where call k fails, and whether there is such a call."""
-    inputs = {int(name): content for name, content in case.files.items() if content is not None}
-    outputs = [int(name) for name, content in case.files.items() if content is None]
-    units = FailingUnits({5: case.given, **inputs}, (6, *outputs), k)
-    seen = seen_of(case.deck, units)
-    files = {name: units.bytes_on(int(name)) for name, content in case.files.items() if content is None}
-    return Seen(seen.out, seen.told, seen.status, files), units.left_to <= 0
-
-
-def found_of(program, case, k, folder):
-    """What the program does where call k fails."""
-    folder = pathlib.Path(folder)
-    (folder / "deck.sno").write_bytes(case.deck)
-    for name, content in case.files.items():
-        (folder / name).unlink(missing_ok=True)
-        if content is not None:
-            (folder / name).write_bytes(content)
-    how = {"input": case.given, "capture_output": True, "cwd": folder, "timeout": SECONDS}
-    ran = subprocess.run([str(program), str(k), "deck.sno"], check=False, **how)
-    outputs = (name for name, content in case.files.items() if content is None)
-    files = {name: cases.content(folder / name) or b"" for name in outputs}
-    return Seen(ran.stdout, ran.stderr, ran.returncode, files)
-
-
-def with_failing_units(program, case):
-    """Lets each call of the units fail; how many runs, and what is wrong."""
-    count, lines = 0, []
-    with tempfile.TemporaryDirectory(prefix="sno-failing-") as folder:
-        for k in range(LAST):
-            wanted, is_there = wanted_of(case, k)
-            found = found_of(program, case, k, folder)
-            count += 1
-            if wanted != found:
-                lines.append(f"{case.name}, call {k}: wanted {wanted}, found {found}")
-            if k and not is_there:
-                return count, lines
 
 
 def copying():
     """The deck that copies records, on three records."""
     deck = b"L OUTPUT = INPUT :S(L)\nEND\n"
     return cases.Case("copying", deck, [], b"A\n\nB", {})
-
-
-def known(program):
-    """Compares runs of the copying deck with what is known of them."""
-    lines = []
-    with tempfile.TemporaryDirectory(prefix="sno-failing-") as folder:
-        for k, wanted in COPIED.items():
-            found = found_of(program, copying(), k, folder)
-            if found[:3] != wanted:
-                lines.append(f"copying, call {k}: wanted {wanted}, found {found[:3]}")
-    return len(COPIED), lines
 
 
 def wrong_file(run, wanted, seen):
@@ -238,8 +139,7 @@ def upgrading():
 def of_system(library_file, program, case):
     """Lets calls of the system fail in each command of a case."""
     if case.deck:
-        commands = [it for it in commands_of(case) if not it.asks_again]
-        commands.append(Command(["go", "deck.sno", *case.words]))
+        commands = [*commands_of(case), Command(["go", "deck.sno", *case.words])]
     else:
         commands = [Command(["upgrade", "old.module", "new.module"], ("new.module",))]
     with tempfile.TemporaryDirectory(prefix="sno-failing-") as folder:
@@ -252,27 +152,23 @@ def arguments():
     """The words of the command line."""
     parser = argparse.ArgumentParser(description=__doc__.partition("\n\n")[0])
     parser.add_argument("program", nargs="?", default=PROGRAM, help="build/sno if none is given")
-    parser.add_argument("failing", nargs="?", default=FAILING, help="tests_failing; build/failing if none is given")
     return parser.parse_args()
 
 
 def main():
     """Runs what the command line asks for."""
-    given = arguments()
-    program, failing = (pathlib.Path(it).resolve() for it in (given.program, given.failing))
-    decks = cases.cases_of(["failing"])
-    parts = [("units", *known(failing))]
-    parts += (("units", *with_failing_units(failing, case)) for case in [copying(), *decks])
+    program = pathlib.Path(arguments().program).resolve()
+    decks = [copying(), upgrading(), *cases.cases_of(["failing"])]
     with tempfile.TemporaryDirectory(prefix="sno-failing-") as folder:
         built = library(folder)
-        parts += (part for case in [copying(), upgrading(), *decks] for part in of_system(built, program, case))
+        parts = [part for case in decks for part in of_system(built, program, case)]
     for line in (line for _, _, lines in parts for line in lines[:5]):
         print(f"FAILED {line}")
     counts = collections.Counter()
     for kind, count, _ in parts:
         counts[kind] += count
     failed = sum(len(lines) for _, _, lines in parts)
-    print(f"{len(decks) + 2} cases, {counts['units']} runs with a failing call of a unit, ", end="")
-    print(f"{counts['failing']} of the system, {counts['closed']} with closed streams, {counts['killed']} killed")
+    print(f"{len(decks)} cases, {counts['failing']} runs with a failing call of the system, ", end="")
+    print(f"{counts['closed']} with closed streams, {counts['killed']} killed")
     print(f"{sum(counts.values()) - failed} passed, {failed} failed")
     return 1 if failed else 0

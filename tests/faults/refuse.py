@@ -2,9 +2,8 @@
 
 For each deck and each command the Nth growth is refused, for each N until none is refused, once alone and once with all
 that follow. The command answers as it does with ample memory, or tells `no memory` with status 6, having printed a
-beginning of the right records; a compilation leaves the same module, or none. `tests_failing` shows besides that a
-machine which was stopped answers the same again. Then the commands are run with so little address space that memory is
-really refused, at twenty sizes. The last line is `N passed, M failed`.
+beginning of the right records; a compilation leaves the same module, or none. Then the commands are run with so little
+address space that memory is really refused, at twenty sizes. The last line is `N passed, M failed`.
 """
 
 import argparse
@@ -19,7 +18,6 @@ from . import cases
 from .served import LAST, SIGNAL, Served, library
 
 PROGRAM = pathlib.Path(__file__).resolve().parents[2] / "build" / "sno"
-FAILING = PROGRAM.parent / "failing"
 NO_MEMORY = (6, b"no memory\n")
 # Sizes of address space, as bytes more than the program has at its start.
 SPACES = [1024 * k * k for k in range(20)]
@@ -35,25 +33,20 @@ class Seen(typing.NamedTuple):
 
 
 class Command(typing.NamedTuple):
-    """The words of a command, the files that it writes whole or not at all, and whether it's one of `tests_failing`."""
+    """The words of a command, and the files that it writes whole or not at all."""
 
     words: typing.List[str]
     whole: typing.Tuple[str, ...] = ()
-    asks_again: bool = False
 
 
 COMPILE = Command(["compile", "deck.sno", "deck.module"], ("deck.module",))
 OF_MODULES = (Command(["check", "deck.module"]), Command(["show", "deck.module"]))
 
 
-ASKING_AGAIN = Command(["0", "deck.sno"], asks_again=True)
-
-
 def commands_of(case):
     """The commands that a deck is given to."""
     alone = [] if case.words or case.given else [Command([])]
-    again = [ASKING_AGAIN] if case.words == [f"{it}={it}" for it in case.files] else []
-    return [*alone, *again, COMPILE, *OF_MODULES, Command(["run", "deck.module", *case.words])]
+    return [*alone, COMPILE, *OF_MODULES, Command(["run", "deck.module", *case.words])]
 
 
 def is_beginning(some, whole):
@@ -94,8 +87,7 @@ class Run:
 
     def name(self):
         """The name of the deck, and the command."""
-        program = "tests_failing" if self.command.asks_again else "sno"
-        return f"{self.case.name}, {program} {' '.join(self.command.words)}"
+        return f"{self.case.name}, sno {' '.join(self.command.words)}"
 
     def beside(self):
         """The names of files that a command writes beside others, and gives their names only when they are whole."""
@@ -143,7 +135,7 @@ def in_little_space(run):
     return count, lines
 
 
-def of_case(library_file, program, failing, every, number, case):
+def of_case(library_file, program, every, number, case):
     """Refuses memory to each command of a case; how many growths were refused, and what is wrong."""
     total, found = 0, []
     with tempfile.TemporaryDirectory(prefix="sno-refuse-") as folder:
@@ -151,7 +143,7 @@ def of_case(library_file, program, failing, every, number, case):
             of_a_module = "deck.module" in command.words and command != COMPILE
             if of_a_module and not pathlib.Path(folder, "deck.module").is_file():
                 break
-            with Served(library_file, failing if command.asks_again else program, command.words, folder) as served:
+            with Served(library_file, program, command.words, folder) as served:
                 run = Run(served, case, command)
                 parts = [refused(run, 1 + number % every, every)]
                 if number % every == 0:
@@ -167,7 +159,6 @@ def arguments():
     """The words of the command line."""
     parser = argparse.ArgumentParser(description=__doc__.partition("\n\n")[0])
     parser.add_argument("program", nargs="?", default=PROGRAM, help="build/sno if none is given")
-    parser.add_argument("failing", nargs="?", default=FAILING, help="tests_failing; build/failing if none is given")
     parser.add_argument("--every", type=int, default=1, metavar="K", help="only each K-th growth")
     parser.add_argument("--jobs", type=int, default=os.cpu_count(), metavar="N", help="how many at once")
     return parser.parse_args()
@@ -176,12 +167,12 @@ def arguments():
 def main():
     """Runs what the command line asks for."""
     given = arguments()
-    program, failing = (pathlib.Path(it).resolve() for it in (given.program, given.failing))
+    program = pathlib.Path(given.program).resolve()
     total = failed = 0
     with tempfile.TemporaryDirectory(prefix="sno-refuse-") as folder:
         built = library(folder)
         decks, instructions = cases.chosen(built, program)
-        one = functools.partial(of_case, built, program, failing, given.every)
+        one = functools.partial(of_case, built, program, given.every)
         with concurrent.futures.ProcessPoolExecutor(given.jobs) as pool:
             for count, lines in pool.map(one, range(len(decks)), decks):
                 total, failed = total + count, failed + len(lines)
