@@ -14,8 +14,8 @@ use Rattle.backtrack.specs.declared.trail.Entry.{Entry}
 use Rattle.backtrack.specs.Choices.{Choice}
 use Rattle.backtrack.specs.declared.way_back.WayBack.{WayBack}
 use Rattle.backtrack.specs.declared.way_back.WayBack.TheVariants as kept
-use Rattle.backtrack.specs.Standing.{Back, Standing, IsAtArb, no_backs, older, oldest}
-use Rattle.backtrack.specs.Logs.{note_of, pending_of, chain, entry_at, below_of, last_code, Logs, cut, back_of, backs, Marks}
+use Rattle.backtrack.specs.Standing.{Back, Standing, IsAtArb, IsOfCode, from_kept, no_backs, oldest}
+use Rattle.backtrack.specs.Logs.{note_of, pending_of, chain, last_code, Logs, cut, back_of, backs, Marks}
 
 -- ---- lists of notes
 pub chain_top : (e : Entry) (es : List Entry) (h : ℕ) → h ≡ suc (length es) → chain (e ∷ es) h ≡ note_of e.note ∷ chain es e.below
@@ -37,13 +37,17 @@ not_past h n l e = omega arith
 not_zero : (n : ℕ) → 0 ≡ suc n → ⊥
 not_zero n e = omega arith
 
-chain_zero : (es : List Entry) → chain es 0 ≡ []
+pub chain_zero : (es : List Entry) → chain es 0 ≡ []
 chain_zero [] = refl
 chain_zero (e ∷ es) = chain_more e es 0 (not_zero (length es)) ∙ chain_zero es
 
 chain_past : (es : List Entry) (h : ℕ) → length es < h → chain es h ≡ []
 chain_past [] h l = refl
 chain_past (e ∷ es) h l = chain_more e es h (not_past h (length es) l) ∙ chain_past es h (omega (arith, l))
+
+-- the list below an entry of the list h
+abbrev pub below_of : ℕ → ℕ → ℕ
+below_of h b = cond (ltb b h) b 0
 
 chain_limit : (e : Entry) (es : List Entry) (h b : ℕ) → h ≡ suc (length es) → chain (e ∷ es) (below_of h b) ≡ chain es b
 chain_limit e es h b q = go (ltb b h) refl
@@ -88,17 +92,15 @@ chain_entry (e ∷ es) k x h =
         ∙ ap (λ y. note_of y.note ∷ chain (e ∷ es) (below_of (suc k) y.below)) p
 
 -- the newest note, by its entry
-pub chain_head : (log : List Entry) (h : ℕ) (x : Entry) → entry_at log h ≡ Some x → chain (reverse log) h ≡ note_of x.note ∷ chain (reverse log) (below_of h x.below)
-chain_head log zero x e = absurd (none-some x e)
-chain_head log (suc k) x e = chain_entry (reverse log) k x (ap (λ l. slice_get l k) (reverse-reverse log) ∙ e)
+pub chain_head : (log : List Entry) (h b : ℕ) (x : Entry) → 0 < h → slice_get log (h - 1) ≡ Some x → b ≡ below_of h x.below → chain (reverse log) h ≡ note_of x.note ∷ chain (reverse log) b
+chain_head log zero b x l e q = absurd (omega (arith, l))
+chain_head log (suc k) b x l e q =
+    let here : suc k - 1 ≡ k = omega arith in
+    chain_entry (reverse log) k x (ap (λ l. slice_get l k) (reverse-reverse log) ∙ ap (slice_get log) (sym here) ∙ e)
+    ∙ ap (λ n. note_of x.note ∷ chain (reverse log) n) (sym q)
 
-pub chain_no_head : (log : List Entry) (h : ℕ) → entry_at log h ≡ None → chain (reverse log) h ≡ []
-chain_no_head log zero e = chain_zero (reverse log)
-chain_no_head log (suc k) e = go (slice_get_cases log k).1
-  where
-    go : ((x : Entry) × (k < length log) × (slice_get log k ≡ Some x) × (get_or log k x ≡ x)) ⊎ ((length log ≤ k) × (slice_get log k ≡ None)) → chain (reverse log) (suc k) ≡ []
-    go (inl (x, l, g, o)) = absurd (none-some x (sym e ∙ g))
-    go (inr (l, g)) = chain_past (reverse log) (suc k) (omega (arith, l, length-reverse log))
+pub chain_no_head : (log : List Entry) (h : ℕ) → 0 < h → length log ≤ h - 1 → chain (reverse log) h ≡ []
+chain_no_head log h l m = chain_past (reverse log) h (omega (arith, l, m, length-reverse log))
 
 -- with an entry more
 pub chain_push : (log : List Entry) (e : Entry) (h : ℕ) → h ≡ length log + 1 → chain (reverse (log ++ e ∷ [])) h ≡ note_of e.note ∷ chain (reverse log) e.below
@@ -213,14 +215,26 @@ last_is xs x h = go (reverse xs) refl
         last (inl (g, l)) = absurd (omega (arith, l))
         last (inr (g, p)) = (zs, e ∙ ap (λ (y : Choice). y ∷ zs) p)
 
-pub at_arb : (l : Logs) (xs : List Choice) (x : Choice) (e : ℕ) (st : Standing) → slice_get xs (length xs - 1) ≡ Some x → x.kept ≡ kept.Arb e → length l.codes ≤ x.codes → last_code l.codes ≡ st.code → st.backs ≡ backs l (reverse xs) → IsAtArb st x.place e
-at_arb l xs x e st h k n c b = go (last_is xs x h)
+-- it is what is gone back to
+pub newest_of : (l : Logs) (xs : List Choice) (x : Choice) → slice_get xs (length xs - 1) ≡ Some x → (ys : List Choice) × (backs l (reverse xs) ≡ back_of (cut l x) x ∷ backs (cut l x) ys)
+newest_of l xs x h = go (last_is xs x h)
   where
-    go : (ys : List Choice) × (reverse xs ≡ x ∷ ys) → IsAtArb st x.place e
-    go (ys, q) =
-        let t : s.Thread = (back_of (cut l x) x).thread in
-        let bs : List Back = backs (cut l x) ys in
-        (t, bs, b ∙ ap (backs l) q ∙ ap (λ (y : WayBack). let all : List Back = record { kept = y; thread = t } ∷ bs in all) k, refl, ap last_code (take_all x.codes l.codes n) ∙ c)
+    go : (ys : List Choice) × (reverse xs ≡ x ∷ ys) → (ys : List Choice) × (backs l (reverse xs) ≡ back_of (cut l x) x ∷ backs (cut l x) ys)
+    go (ys, q) = (ys, ap (backs l) q)
+
+-- and its code is the last of those that its cut leaves
+pub here_is : (l : Logs) (xs : List Choice) (x : Choice) (code : Code) → slice_get xs (length xs - 1) ≡ Some x → last_code (take x.codes l.codes) ≡ code → IsOfCode code (backs l (reverse xs))
+here_is l xs x code h e = subst (IsOfCode code) (sym (newest_of l xs x h).1) e
+
+pub code_is : (l : Logs) (xs : List Choice) (x : Choice) (code : Code) → slice_get xs (length xs - 1) ≡ Some x → IsOfCode code (backs l (reverse xs)) → last_code (take x.codes l.codes) ≡ code
+code_is l xs x code h e = subst (IsOfCode code) (newest_of l xs x h).1 e
+
+pub at_arb : (l : Logs) (xs : List Choice) (x : Choice) (e : ℕ) (st : Standing) → slice_get xs (length xs - 1) ≡ Some x → x.kept ≡ kept.Arb e → last_code (take x.codes l.codes) ≡ st.code → st.backs ≡ backs l (reverse xs) → IsAtArb st x.place e
+at_arb l xs x e st h k c b =
+    let t : s.Thread = (back_of (cut l x) x).thread in
+    let newest = newest_of l xs x h in
+    let bs : List Back = backs (cut l x) newest.0 in
+    (t, bs, b ∙ newest.1 ∙ ap (λ (y : WayBack). let all : List Back = record { kept = y; thread = t } ∷ bs in all) k, refl, c)
 
 -- ---- the oldest choices
 -- the marks of older choices are those of the whole logs too
@@ -263,6 +277,65 @@ pub rest_marks : (l : Logs) (xs rest : List Choice) (x : Choice) → xs ≡ rest
 rest_marks l xs rest x e m =
     older_marks 1 l (x ∷ reverse rest) (subst (Marks l) (ap reverse e ∙ reverse-append rest (x ∷ [])) m)
 
+-- without the newest
+pub rest_backs : (l : Logs) (xs rest : List Choice) (x : Choice) → xs ≡ rest ++ x ∷ [] → Marks l (reverse xs) → backs l (reverse rest) ≡ from_kept None (backs l (reverse xs))
+rest_backs l xs rest x e m =
+    let r : reverse xs ≡ x ∷ reverse rest = ap reverse e ∙ reverse-append rest (x ∷ []) in
+    (uncut_same l x (reverse rest) (subst (Marks l) r m).3).backs ∙ sym (ap (λ ys. from_kept None (backs l ys)) r)
+
+-- the logs cut no further than the newest cuts them, which stays
+module _ (l m : Logs) (xs : List Choice) (x : Choice) (h : slice_get xs (length xs - 1) ≡ Some x) (same : cut m x ≡ cut l x) where
+  pub cut_same : x.codes ≤ length m.codes → x.log ≤ length m.log → x.pending ≤ length m.pending → Marks l (reverse xs) → Same l m (reverse xs)
+  cut_same c n p all = go (last_is xs x h)
+    where
+      go : (ys : List Choice) × (reverse xs ≡ x ∷ ys) → Same l m (reverse xs)
+      go (ys, q) =
+          record {
+            marks = subst (Marks m) (sym q) (c, n, p, subst (λ k. Marks k ys) (sym same) (subst (Marks l) q all).3);
+            backs = ap (backs m) q ∙ ap (λ (k : Logs). back_of k x ∷ backs k ys) same ∙ sym (ap (backs l) q);
+          }
+
+take_twice : {A : Type 0} (n : ℕ) (xs : List A) → take n (take n xs) ≡ take n xs
+take_twice n xs = take_all n (take n xs) (omega (arith, length-take n xs))
+
+-- its own marks
+newest_marks : (l : Logs) (xs : List Choice) (x : Choice) → slice_get xs (length xs - 1) ≡ Some x → Marks l (reverse xs) → (x.codes ≤ length l.codes) × (x.log ≤ length l.log) × (x.pending ≤ length l.pending)
+newest_marks l xs x h m = go (last_is xs x h)
+  where
+    go : (ys : List Choice) × (reverse xs ≡ x ∷ ys) → (x.codes ≤ length l.codes) × (x.log ≤ length l.log) × (x.pending ≤ length l.pending)
+    go (ys, q) = let marks : Marks l (x ∷ ys) = subst (Marks l) q m in (marks.0, marks.1, marks.2)
+
+-- its code recovered
+pub recovered : (l : Logs) (xs : List Choice) (x : Choice) → slice_get xs (length xs - 1) ≡ Some x → Marks l (reverse xs) → Same l (record { codes = take x.codes l.codes; log = l.log; pending = l.pending }) (reverse xs)
+recovered l xs x h all =
+    let m = newest_marks l xs x h all in
+    let codes : length (take x.codes l.codes) ≡ min x.codes (length l.codes) = length-take x.codes l.codes in
+    cut_same l (record { codes = take x.codes l.codes; log = l.log; pending = l.pending }) xs x h (ap (λ cs. let logs : Logs = record { codes = cs; log = take x.log l.log; pending = take x.pending l.pending } in logs) (take_twice x.codes l.codes)) (omega (arith, codes, m.0)) m.1 m.2 all
+
+-- the logs cut to it, but for the codes
+abbrev pub cut_here : Logs → Choice → Logs
+cut_here l x = record { codes = l.codes; log = take x.log l.log; pending = take x.pending l.pending }
+
+cut_here_is : (l : Logs) (x : Choice) → cut (cut_here l x) x ≡ cut l x
+cut_here_is l x = λ i. record { codes = take x.codes l.codes; log = take_twice x.log l.log i; pending = take_twice x.pending l.pending i }
+
+pub rewound : (l : Logs) (xs : List Choice) (x : Choice) → slice_get xs (length xs - 1) ≡ Some x → Marks l (reverse xs) → Same l (cut_here l x) (reverse xs)
+rewound l xs x h all =
+    let m = newest_marks l xs x h all in
+    let log : length (take x.log l.log) ≡ min x.log (length l.log) = length-take x.log l.log in
+    let pending : length (take x.pending l.pending) ≡ min x.pending (length l.pending) = length-take x.pending l.pending in
+    cut_same l (cut_here l x) xs x h (cut_here_is l x) m.0 (omega (arith, log, m.1)) (omega (arith, pending, m.2)) all
+
+pub rewound_to : (l : Logs) (xs : List Choice) (x : Choice) (code : Code) → slice_get xs (length xs - 1) ≡ Some x → IsOfCode code (backs l (reverse xs))
+    → (bs : List Back) × (backs (cut_here l x) (reverse xs) ≡ record { kept = x.kept; thread = record { code = code; place = x.place; cursor = x.cursor; notes = chain (reverse (take x.log l.log)) x.head; pending = pending_of (take x.pending l.pending) } } ∷ bs)
+rewound_to l xs x code h here =
+    let newest = newest_of (cut_here l x) xs x h in
+    let bs : List Back = backs (cut (cut_here l x) x) newest.0 in (
+      bs,
+      newest.1 ∙ ap (λ (k : Logs). back_of k x ∷ bs) (cut_here_is l x)
+          ∙ ap (λ (code' : Code). let all : List Back = record { kept = x.kept; thread = record { code = code'; place = x.place; cursor = x.cursor; notes = chain (reverse (take x.log l.log)) x.head; pending = pending_of (take x.pending l.pending) } } ∷ bs in all) (code_is l xs x code h here),
+    )
+
 -- the newest is the one that is taken off
 newest_is : (xs rest : List Choice) (x y : Choice) → xs ≡ rest ++ x ∷ [] → slice_get xs (length xs - 1) ≡ Some y → y ≡ x
 newest_is xs rest x y e h =
@@ -272,60 +345,19 @@ newest_is xs rest x y e h =
     same (inl (g, l)) = absurd (omega (arith, l, ap length e ∙ length-append rest (x ∷ [])))
     same (inr (g, z)) = sym z
 
--- the logs cut to a choice of the code under way
-abbrev pub cut_here : Logs → Choice → Logs
-cut_here l x = record { codes = l.codes; log = take x.log l.log; pending = take x.pending l.pending }
-
-pub newest_marks : (l : Logs) (xs rest : List Choice) (x y : Choice) → xs ≡ rest ++ x ∷ [] → slice_get xs (length xs - 1) ≡ Some y → length l.codes ≤ y.codes → Marks l (reverse xs) → Marks (record { codes = l.codes; log = take y.log l.log; pending = take y.pending l.pending }) (reverse rest)
-newest_marks l xs rest x y e h c m =
+pub taken_marks : (l : Logs) (xs rest : List Choice) (x y : Choice) → xs ≡ rest ++ x ∷ [] → slice_get xs (length xs - 1) ≡ Some y → length l.codes ≤ y.codes → Marks l (reverse xs) → Marks (record { codes = l.codes; log = take y.log l.log; pending = take y.pending l.pending }) (reverse rest)
+taken_marks l xs rest x y e h c m =
     let below : Marks (cut l x) (reverse rest) = (subst (Marks l) (ap reverse e ∙ reverse-append rest (x ∷ [])) m).3 in
     let same : cut l x ≡ cut_here l y = ap (cut l) (sym (newest_is xs rest x y e h)) ∙ ap (λ cs. let logs : Logs = record { codes = cs; log = take y.log l.log; pending = take y.pending l.pending } in logs) (take_all y.codes l.codes c) in
     subst (λ k. Marks k (reverse rest)) same below
 
-pub newest_here : (l : Logs) (xs rest : List Choice) (x y : Choice) (code : Code) → xs ≡ rest ++ x ∷ [] → slice_get xs (length xs - 1) ≡ Some y → length l.codes ≤ y.codes → last_code l.codes ≡ code → backs l (reverse xs) ≡ record { kept = y.kept; thread = record { code = code; place = y.place; cursor = y.cursor; notes = chain (reverse (take y.log l.log)) y.head; pending = pending_of (take y.pending l.pending) } } ∷ backs (record { codes = l.codes; log = take y.log l.log; pending = take y.pending l.pending }) (reverse rest)
-newest_here l xs rest x y code e h c k =
+pub taken_here : (l : Logs) (xs rest : List Choice) (x y : Choice) (code : Code) → xs ≡ rest ++ x ∷ [] → slice_get xs (length xs - 1) ≡ Some y → length l.codes ≤ y.codes → last_code l.codes ≡ code → backs l (reverse xs) ≡ record { kept = y.kept; thread = record { code = code; place = y.place; cursor = y.cursor; notes = chain (reverse (take y.log l.log)) y.head; pending = pending_of (take y.pending l.pending) } } ∷ backs (record { codes = l.codes; log = take y.log l.log; pending = take y.pending l.pending }) (reverse rest)
+taken_here l xs rest x y code e h c k =
     let same : cut l y ≡ cut_here l y = ap (λ cs. let logs : Logs = record { codes = cs; log = take y.log l.log; pending = take y.pending l.pending } in logs) (take_all y.codes l.codes c) in
     ap (backs l) (ap reverse e ∙ reverse-append rest (x ∷ []))
     ∙ ap (λ z. back_of (cut l z) z ∷ backs (cut l z) (reverse rest)) (sym (newest_is xs rest x y e h))
     ∙ ap (λ (m : Logs). back_of m y ∷ backs m (reverse rest)) same
     ∙ ap (λ (code' : Code). let bs : List Back = record { kept = y.kept; thread = record { code = code'; place = y.place; cursor = y.cursor; notes = chain (reverse (take y.log l.log)) y.head; pending = pending_of (take y.pending l.pending) } } ∷ backs (cut_here l y) (reverse rest) in bs) k
-
--- without the newest
-pub rest_backs : (l : Logs) (xs rest : List Choice) (x : Choice) → xs ≡ rest ++ x ∷ [] → Marks l (reverse xs) → backs l (reverse rest) ≡ older (backs l (reverse xs))
-rest_backs l xs rest x e m =
-    let r : reverse xs ≡ x ∷ reverse rest = ap reverse e ∙ reverse-append rest (x ∷ []) in
-    (uncut_same l x (reverse rest) (subst (Marks l) r m).3).backs ∙ sym (ap (λ ys. older (backs l ys)) r)
-
--- the logs cut to the newest, which stays
-pub rewound : (l : Logs) (xs : List Choice) (x : Choice) → slice_get xs (length xs - 1) ≡ Some x → length l.codes ≤ x.codes → Marks l (reverse xs) → Same l (cut_here l x) (reverse xs)
-rewound l xs x h c m = go (last_is xs x h)
-  where
-    go : (ys : List Choice) × (reverse xs ≡ x ∷ ys) → Same l (cut_here l x) (reverse xs)
-    go (ys, q) =
-        let marks : Marks l (x ∷ ys) = subst (Marks l) q m in
-        let log : length (take x.log l.log) ≡ min x.log (length l.log) = length-take x.log l.log in
-        let pending : length (take x.pending l.pending) ≡ min x.pending (length l.pending) = length-take x.pending l.pending in
-        let same : cut (cut_here l x) x ≡ cut l x =
-        uncut_by (cut_here l x) x c (omega (arith, log)) (omega (arith, pending))
-        ∙ ap (λ cs. let logs : Logs = record { codes = cs; log = take x.log l.log; pending = take x.pending l.pending } in logs) (sym (take_all x.codes l.codes c)) in
-        record {
-          marks = subst (Marks (cut_here l x)) (sym q) (marks.0, omega (arith, log, marks.1), omega (arith, pending, marks.2), subst (λ k. Marks k ys) (sym same) marks.3);
-          backs = ap (backs (cut_here l x)) q ∙ ap (λ (k : Logs). back_of k x ∷ backs k ys) same ∙ sym (ap (backs l) q);
-        }
-
-pub rewound_to : (l : Logs) (xs : List Choice) (x : Choice) (code : Code) → slice_get xs (length xs - 1) ≡ Some x → length l.codes ≤ x.codes → last_code l.codes ≡ code
-    → (bs : List Back) × (backs (cut_here l x) (reverse xs) ≡ record { kept = x.kept; thread = record { code = code; place = x.place; cursor = x.cursor; notes = chain (reverse (take x.log l.log)) x.head; pending = pending_of (take x.pending l.pending) } } ∷ bs)
-rewound_to l xs x code h c k = go (last_is xs x h)
-  where
-    go : (ys : List Choice) × (reverse xs ≡ x ∷ ys) → (bs : List Back) × (backs (cut_here l x) (reverse xs) ≡ record { kept = x.kept; thread = record { code = code; place = x.place; cursor = x.cursor; notes = chain (reverse (take x.log l.log)) x.head; pending = pending_of (take x.pending l.pending) } } ∷ bs)
-    go (ys, q) =
-        let log : length (take x.log l.log) ≡ min x.log (length l.log) = length-take x.log l.log in
-        let pending : length (take x.pending l.pending) ≡ min x.pending (length l.pending) = length-take x.pending l.pending in
-        let same : cut (cut_here l x) x ≡ cut_here l x = uncut_by (cut_here l x) x c (omega (arith, log)) (omega (arith, pending)) in (
-          backs (cut_here l x) ys,
-          ap (backs (cut_here l x)) q ∙ ap (λ (m : Logs). back_of m x ∷ backs m ys) same
-              ∙ ap (λ (code' : Code). let bs : List Back = record { kept = x.kept; thread = record { code = code'; place = x.place; cursor = x.cursor; notes = chain (reverse (take x.log l.log)) x.head; pending = pending_of (take x.pending l.pending) } } ∷ backs (cut_here l x) ys in bs) k,
-        )
 
 -- the choices that are left of the k oldest
 oldest_choices : (k : ℕ) (xs : List Choice) → reverse (take k xs) ≡ drop (length xs - k) (reverse xs)

@@ -1,5 +1,5 @@
 -- The logs of a match, and what is left of them at a choice.
-use Rattle.std.specs.Prelude.{zero, suc, ltb, eqb, ◌≡◌, ◌≤◌, ◌-◌, ℕ, List, [], ◌∷◌, map, reverse, length, take, slice_get, Option, Some, None, true, cond}
+use Rattle.std.specs.Prelude.{suc, eqb, ◌≡◌, ◌≤◌, ◌-◌, ℕ, List, [], ◌∷◌, map, reverse, length, take, slice_get, Some, None, true, cond}
 use Rattle.model.specs.Pattern.Patterns as p
 use Rattle.model.specs.Deck.Target as target
 use Rattle.model.specs.Pattern.Steps as s
@@ -28,15 +28,6 @@ note_of (note.Left code q) = s.Left code q
 abbrev pub chain : List Entry → ℕ → List s.Note
 chain [] h = []
 chain (e ∷ es) h = cond (eqb h (suc (length es))) (note_of e.note ∷ chain es e.below) (chain es h)
-
--- the entry of the newest note
-abbrev pub entry_at : List Entry → ℕ → Option Entry
-entry_at es zero = None
-entry_at es (suc k) = slice_get es k
-
--- the list below an entry of the list h
-abbrev pub below_of : ℕ → ℕ → ℕ
-below_of h b = cond (ltb b h) b 0
 
 -- the last code
 abbrev pub last_code : List Code → Code

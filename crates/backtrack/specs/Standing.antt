@@ -2,7 +2,6 @@
 use Rattle.std.specs.Prelude.{◌≡◌, ℕ, ◌-◌, List, [], ◌∷◌, length, drop, Option, Some, None, Bool, true, false}
 use Rattle.model.specs.Pattern.Patterns.{Pending}
 use Rattle.model.specs.Pattern.Steps as s
-use Rattle.backtrack.specs.Choices.{Choice}
 use Rattle.backtrack.specs.declared.way_back.WayBack.{WayBack}
 use Rattle.backtrack.specs.declared.way_back.WayBack.TheVariants as kept
 
@@ -23,11 +22,6 @@ abbrev pub with_choice : Standing → WayBack → (q c : ℕ) → Standing
 with_choice x k q c =
     record x { backs = record { kept = k; thread = record { code = x.code; place = q; cursor = c; notes = x.notes; pending = x.pending } } ∷ x.backs }
 
--- back from one to another, at its newest choice
-abbrev pub IsBackTo : Standing → Standing → Choice → Type 0
-IsBackTo old new x =
-    old.backs ≡ record { kept = x.kept; thread = record { code = new.code; place = x.place; cursor = x.cursor; notes = new.notes; pending = new.pending } } ∷ new.backs
-
 abbrev pub no_backs : List Back → Bool
 no_backs [] = true
 no_backs (b ∷ bs) = false
@@ -41,19 +35,19 @@ abbrev pub IsAtArb : Standing → ℕ → ℕ → Type 0
 IsAtArb st p e =
     (t : s.Thread) × (bs : List Back) × (st.backs ≡ record { kept = kept.Arb e; thread = t } ∷ bs) × (t.place ≡ p) × (t.code ≡ st.code)
 
--- the newest choice goes back to something else
-abbrev pub from_kept : WayBack → List Back → List Back
+-- the newest choice is of the code, if there is one
+abbrev pub IsOfCode : s.Code → List Back → Type 0
+IsOfCode code [] = Unit {0}
+IsOfCode code (x ∷ xs) = x.thread.code ≡ code
+
+abbrev pub IsHere : Standing → Type 0
+IsHere st = IsOfCode st.code st.backs
+
+-- the newest choice goes back to something else, or is taken off
+abbrev pub from_kept : Option WayBack → List Back → List Back
 from_kept k [] = []
-from_kept k (x ∷ xs) = record { kept = k; thread = x.thread } ∷ xs
-
--- it goes back to ARB from the end e on
-abbrev pub from_end : ℕ → List Back → List Back
-from_end e xs = from_kept (kept.Arb e) xs
-
--- without the newest
-abbrev pub older : List Back → List Back
-older [] = []
-older (x ∷ xs) = xs
+from_kept None (x ∷ xs) = xs
+from_kept (Some k) (x ∷ xs) = record { kept = k; thread = x.thread } ∷ xs
 
 -- the newest note is that of OPEN
 abbrev pub IsOpen : Standing → Type 0
@@ -84,19 +78,20 @@ abbrev pub unfenced : List s.Note → List s.Note
 unfenced (s.Fenced k ∷ ns) = ns
 unfenced ns = ns
 
+-- the newest note is that of FOPEN, and it and the choices since are taken off
+abbrev pub IsUnfenced : Standing → Standing → Type 0
+IsUnfenced old new =
+    (k : ℕ) × (fenced old.notes ≡ Some k) × (new ≡ record old { notes = unfenced old.notes; backs = oldest k old.backs })
+
 -- the attempt at a place and a cursor
 abbrev pub standing_at : Standing → ℕ → ℕ → s.Thread
 standing_at x q c = record { code = x.code; place = q; cursor = c; notes = x.notes; pending = x.pending }
+
+-- it stands where the newest choice was kept, at a place of the code under way with a cursor
+abbrev pub IsKeptAt : Standing → (q c : ℕ) → WayBack → Type 0
+IsKeptAt x q c k = (bs : List Back) × (x.backs ≡ record { kept = k; thread = standing_at x q c } ∷ bs)
 
 -- the newest choice goes on at a place of the code under way, from a cursor
 abbrev pub IsRetried : Standing → Standing → ℕ → ℕ → Type 0
 IsRetried old new p c =
     (q : ℕ) × (old.backs ≡ record { kept = kept.To p; thread = standing_at new q c } ∷ new.backs)
-
--- it stands where the newest choice was kept, at a place of the code under way
-abbrev pub IsKeptAt : Standing → ℕ → WayBack → Type 0
-IsKeptAt x q k = (c : ℕ) × (bs : List Back) × (x.backs ≡ record { kept = k; thread = standing_at x q c } ∷ bs)
-
--- back to there, with the choice
-abbrev pub IsRewound : Standing → Standing → ℕ → WayBack → Type 0
-IsRewound old new q k = IsKeptAt new q k × (new.backs ≡ old.backs)

@@ -110,33 +110,6 @@ impl Choice {
         })
     }
 
-    /// The same choice, of something else that is gone back to.
-    #[inline(always)]
-    pub fn leading_to(self, kept: WayBack) -> Result<Choice, AllocError>
-        ensures { IfOk result (λ x. x ≡ record self { kept = kept }) }
-    {
-        let (kind, target) = parts(kept);
-        if target > u32::MAX as usize {
-            return Err(AllocError);
-        }
-        Ok(Choice {
-            kind,
-            target: target as u32,
-            place: self.place,
-            cursor: self.cursor,
-            head: self.head,
-            log: self.log,
-            pending: self.pending,
-            codes: self.codes,
-        })
-    }
-
-    /// Whether it goes on at a further end of ARB or BAL.
-    #[inline(always)]
-    pub fn goes_to_end(&self) -> bool {
-        matches!(self.kind, Kind::Arb | Kind::Bal)
-    }
-
     /// What is gone back to.
     #[inline(always)]
     pub fn kept(&self) -> WayBack

@@ -1,12 +1,13 @@
 //! The trail of a match: where the attempt under way stands, and the choices that are gone back to.
 //!
 //! `Trail` has the attempt's code, its notes and its pending assignments, and a stack of choices. `keep` keeps one more;
-//! `back`, `retry` and `rewind` go back to the newest.
+//! `rewind` goes back to the newest.
 //!
 //!     let mut trail = Trail::new(alloc);
 //!     trail.begin(&code)?;
 //!     trail.keep(WayBack::To(3), place, cursor)?;
-//!     let choice = trail.back()?;
+//!     trail.recover()?;
+//!     let choice = trail.rewind();
 //!
 //! Promised: what it goes back to is the attempt as it was when the choice was kept (`Standing` of
 //! `specs/Standing.antt`). A choice takes 32 bytes at most, and no copy of notes or assignments.
@@ -18,6 +19,5 @@ mod trail;
 mod way_back;
 
 pub use assignment::Assignment;
-pub use choice::Choice;
 pub use trail::Trail;
 pub use way_back::WayBack;

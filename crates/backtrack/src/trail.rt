@@ -6,8 +6,8 @@ ghost use Rattle.std.specs.Prelude.{if◌then◌else◌};
 ghost use Rattle.model.specs.Pattern.Steps as s;
 ghost use Rattle.model.specs.Pattern.Steps.{Code};
 ghost use Rattle.model.specs.Pattern.Patterns.{Pending};
-ghost use Rattle.backtrack.specs.Standing.{Standing, IsBackTo, inside, opened, unopened, fenced, with_choice, unfenced, no_backs, oldest, older, IsAtArb, IsOpen, from_kept, IsRetried, IsRewound};
-ghost use Rattle.backtrack.specs.Logs.{assigned, pending_of, note_of, chain, entry_at, below_of, last_code};
+ghost use Rattle.backtrack.specs.Standing.{Standing, inside, opened, unopened, fenced, with_choice, no_backs, IsUnfenced, IsAtArb, IsHere, IsKeptAt, IsOpen, IsRetried, from_kept};
+ghost use Rattle.backtrack.specs.Logs.{assigned, pending_of, note_of, chain, last_code};
 
 use crate::assignment::Assignment;
 use crate::choice::{Choice, Marks};
@@ -125,9 +125,9 @@ impl Trail {
         self.stored = false;
         self.head = 0;
         self.choices.clear();
-        empty(&mut self.codes);
-        empty(&mut self.log);
-        empty(&mut self.pending);
+        self.codes.truncate(0);
+        self.log.truncate(0);
+        self.pending.truncate(0);
     }
 
     /// The first attempt of a start.
@@ -147,20 +147,14 @@ impl Trail {
     pub fn clear(&mut self, alloc: Global)
         ensures { self.new ≡ record { code = []; notes = []; pending = []; backs = [] } }
     {
-        self.shorten(alloc);
-        self.strip();
-        self.code = PatCode::null();
-        self.stored = false;
-    }
-
-    /// Lets go of lists that have more room than they keep for the next match.
-    #[inline(always)]
-    fn shorten(&mut self, alloc: Global) {
         let shorter = self.choices.capacity() | self.codes.capacity();
         let longer = self.log.capacity() | self.pending.capacity();
         if shorter | longer > MANY {
             *self = Trail::new(alloc);
         }
+        self.strip();
+        self.code = PatCode::null();
+        self.stored = false;
     }
 
     /// Adds a note.
@@ -210,26 +204,20 @@ impl Trail {
         self.add(Note::Fenced(count))
     }
 
-    /// The newest note is taken off if it is that of FOPEN, and its number is answered.
-    pub fn take_fenced(&mut self) -> Option<usize>
-        ensures count { result ≡ fenced self.old.notes }
-        ensures taken { self.new ≡ record self.old { notes = unfenced self.old.notes } }
+    /// Takes off the newest note and the choices since, if that note is of FOPEN; whether it is.
+    #[inline(never)]
+    pub fn close_fence(&mut self) -> bool
+        ensures closed { result ≡ true → IsUnfenced self.old self.new }
+        ensures none { result ≡ false → (fenced self.old.notes ≡ None) × (self.new ≡ self.old) }
     {
         match newest(self.log.as_slice(), self.head) {
             Some((Note::Fenced(count), below)) => {
-                let count = *count;
+                self.choices.truncate(*count);
                 self.head = below;
-                Some(count)
+                true
             }
-            _ => None,
+            _ => false,
         }
-    }
-
-    /// Keeps the oldest choices, so many of them.
-    pub fn keep_oldest(&mut self, count: usize)
-        ensures { self.new ≡ record self.old { backs = oldest count self.old.backs } }
-    {
-        self.choices.truncate(count);
     }
 
     /// Into a pattern, which goes on at the place.
@@ -245,16 +233,6 @@ impl Trail {
         self.add(Note::Left(left, after))
     }
 
-    /// Whether the newest note is that of an entered pattern.
-    pub fn is_inside(&self) -> bool
-        ensures { result ≡ inside self.now.notes }
-    {
-        match newest(self.log.as_slice(), self.head) {
-            Some((Note::Left(_code, _place), _below)) => true,
-            _ => false,
-        }
-    }
-
     /// The code and the place that the newest note leads to, if it is that of an entered pattern.
     #[inline(always)]
     pub fn outer(&self) -> Option<(&PatCode, usize)>
@@ -267,14 +245,14 @@ impl Trail {
         }
     }
 
-    /// Out of an entered pattern; the place where it goes on.
-    pub fn leave(&mut self) -> Result<usize, AllocError>
-        requires { inside self.old.notes ≡ true }
-        ensures { IfOk result (λ place.
+    /// Out of the pattern that was entered last, if the newest note is that of one; the place where it goes on.
+    pub fn leave(&mut self) -> Result<Option<usize>, AllocError>
+        ensures left { IfOk result (λ o. IfSome o (λ place.
             self.old ≡ record self.new {
               code = self.old.code;
               notes = s.Left self.new.code place ∷ self.new.notes;
-            }) }
+            })) }
+        ensures none { IfOk result (λ o. o ≡ None → (inside self.old.notes ≡ false) × (self.new ≡ self.old)) }
     {
         match newest(self.log.as_slice(), self.head) {
             Some((Note::Left(code, place), below)) => {
@@ -282,32 +260,15 @@ impl Trail {
                 self.code = code.clone()?;
                 self.stored = false;
                 self.head = below;
-                Ok(place)
+                Ok(Some(place))
             }
-            _ => unreachable!(),
+            _ => Ok(None),
         }
     }
 
     /// A pending assignment more.
     #[inline(always)]
     pub fn assign(&mut self, assignment: Assignment) -> Result<(), AllocError>
-        ensures { OnOk result
-            (self.new ≡ record self.old {
-              pending = self.old.pending
-                  ++ assigned assignment ∷ [];
-            }) }
-    {
-        if self.pending.len() >= self.pending.capacity() {
-            return self.assign_growing(assignment);
-        }
-        self.pending.push_reserved(assignment);
-        Ok(())
-    }
-
-    /// A pending assignment more, where the list has no room. Apart, so that the other way is short.
-    #[cold]
-    #[inline(never)]
-    fn assign_growing(&mut self, assignment: Assignment) -> Result<(), AllocError>
         ensures { OnOk result
             (self.new ≡ record self.old {
               pending = self.old.pending
@@ -364,6 +325,17 @@ impl Trail {
         Ok(())
     }
 
+    /// Whether the newest choice is of the code under way.
+    #[inline(always)]
+    pub fn is_here(&self) -> bool
+        ensures { result ≡ true → IsHere self.now }
+    {
+        match self.choices.last() {
+            Some(choice) => self.stored && self.codes.len() <= choice.marks().codes,
+            None => false,
+        }
+    }
+
     /// The place and the next end of ARB, where the newest choice goes back to one of the code under way.
     #[inline(always)]
     pub fn arb_here(&self) -> Option<(usize, usize)>
@@ -372,8 +344,7 @@ impl Trail {
         let choice = self.choices.last()?;
         match choice.kept() {
             WayBack::Arb(end) => {
-                let codes = choice.marks().codes;
-                if self.stored && self.codes.len() <= codes {
+                if self.is_here() {
                     Some((choice.place(), end))
                 } else {
                     None
@@ -383,15 +354,36 @@ impl Trail {
         }
     }
 
-    /// The newest choice goes back to something else.
+    /// The newest choice goes back to something else, or is taken off.
     #[inline(always)]
-    pub fn pass_to(&mut self, kept: WayBack) -> Result<(), AllocError>
+    pub fn pass_on(&mut self, kept: Option<WayBack>) -> Result<(), AllocError>
         ensures ok { OnOk result
             (self.new ≡ record self.old { backs = from_kept kept self.old.backs }) }
         ensures code { self.new.code ≡ self.old.code }
     {
         if let Some(choice) = self.choices.pop() {
-            self.choices.push_reserved(choice.leading_to(kept)?);
+            if let Some(kept) = kept {
+                let next = Choice::new(kept, choice.place(), choice.cursor(), choice.marks())?;
+                self.choices.push_reserved(next);
+            }
+        }
+        Ok(())
+    }
+
+    /// The code of the newest choice is the one under way.
+    #[inline(always)]
+    pub fn recover(&mut self) -> Result<(), AllocError>
+        ensures here { OnOk result (IsHere self.new) }
+        ensures same { self.new.backs ≡ self.old.backs }
+    {
+        if self.is_here() {
+            return Ok(());
+        }
+        if let Some(choice) = self.choices.last() {
+            let len = choice.marks().codes;
+            self.stored = false;
+            self.code = cut_to_last(&mut self.codes, len)?;
+            self.stored = true;
         }
         Ok(())
     }
@@ -422,47 +414,31 @@ impl Trail {
         }
     }
 
-    /// Back to where the newest choice was kept, with the choice, if it goes on at a further end in the code under way;
-    /// at which place it was kept, and what is gone back to. Else nothing changes.
+    /// Back to where the newest choice was kept, which is of the code under way, with the choice: what is gone back to,
+    /// the place and the cursor. None where there is no choice.
     #[inline(always)]
-    pub fn rewind(&mut self) -> Option<(usize, WayBack)>
-        ensures back { IfSome result (λ (place, kept). IsRewound self.old self.new place kept) }
+    pub fn rewind(&mut self) -> Option<(WayBack, usize, usize)>
+        requires { IsHere self.old }
+        ensures back { IfSome result (λ (kept, place, cursor). IsKeptAt self.new place cursor kept) }
+        ensures same { self.new.backs ≡ self.old.backs }
         ensures code { self.new.code ≡ self.old.code }
-        ensures none { result ≡ None → self.new ≡ self.old }
+        ensures none { result ≡ None → self.old.backs ≡ [] }
     {
         let choice = self.choices.last()?;
-        let kept = choice.kept();
-        let (WayBack::Arb(_) | WayBack::Bal(_)) = kept else {
-            return None;
-        };
-        let place = choice.place();
+        let (kept, place, cursor) = (choice.kept(), choice.place(), choice.cursor());
         let marks = choice.marks();
-        if self.codes.len() > marks.codes || !self.stored {
-            return None;
-        }
         self.head = marks.head;
         cut(&mut self.log, marks.log);
         cut(&mut self.pending, marks.pending);
-        Some((place, kept))
+        Some((kept, place, cursor))
     }
 
     /// Whether the newest choice goes on at a further end.
     #[inline(always)]
     pub fn goes_to_end(&self) -> bool {
         match self.choices.last() {
-            Some(choice) => choice.goes_to_end(),
+            Some(choice) => matches!(choice.kept(), WayBack::Arb(_) | WayBack::Bal(_)),
             None => false,
-        }
-    }
-
-    /// Without the newest choice.
-    #[inline(always)]
-    pub fn forget(&mut self)
-        ensures { self.new ≡ record self.old { backs = older self.old.backs } }
-    {
-        match self.choices.pop() {
-            Some(_choice) => return,
-            None => {}
         }
     }
 
@@ -476,53 +452,6 @@ impl Trail {
             _ => false,
         }
     }
-
-    /// Back to the newest choice, if there is one.
-    #[inline(never)]
-    pub fn back(&mut self) -> Result<Option<Choice>, AllocError>
-        ensures { IfOk result (λ o. MatchOption o (self.old.backs ≡ []) (λ x. IsBackTo self.old self.new x)) }
-    {
-        match self.choices.pop() {
-            Some(choice) => {
-                let stored = self.stored;
-                let marks = choice.marks();
-                self.stored = false;
-                self.head = marks.head;
-                cut(&mut self.log, marks.log);
-                cut(&mut self.pending, marks.pending);
-                cut_codes(&mut self.code, stored, &mut self.codes, marks.codes)?;
-                self.stored = true;
-                Ok(Some(choice))
-            }
-            None => Ok(None),
-        }
-    }
-}
-
-/// Lets go of all that a list holds, and keeps its room.
-#[inline(always)]
-fn empty<T: Drop>(list: &mut Vec<T>)
-    ensures { list.new.items ≡ [] }
-{
-    while let Some(last) = list.pop() {
-        drop(last);
-    }
-}
-
-/// The entry of the newest note.
-#[inline(always)]
-fn newest_entry(log: &[Entry], head: usize) -> Option<&Entry>
-    ensures { option_copied result ≡ entry_at log.now head }
-{
-    if head > 0 { log.get(head - 1) } else { None }
-}
-
-/// The list below an entry.
-#[inline(always)]
-fn list_below(head: usize, below: usize) -> usize
-    ensures { result ≡ below_of head below }
-{
-    if below < head { below } else { 0 }
 }
 
 /// The newest note of a list, and the list below it.
@@ -532,8 +461,12 @@ fn newest(log: &[Entry], head: usize) -> Option<(&Note, usize)>
         chain (reverse log.now) head ≡ note_of note.now ∷ chain (reverse log.now) below) }
     ensures none { result ≡ None → chain (reverse log.now) head ≡ [] }
 {
-    let entry = newest_entry(log, head)?;
-    Some((&entry.note, list_below(head, entry.below)))
+    if head == 0 {
+        return None;
+    }
+    let entry = log.get(head - 1)?;
+    let below = if entry.below < head { entry.below } else { 0 };
+    Some((&entry.note, below))
 }
 
 /// The code as the last of the codes, where it isn't yet.
@@ -551,27 +484,17 @@ fn store(code: &PatCode, stored: bool, codes: &mut Vec<PatCode>) -> Result<(), A
     Ok(())
 }
 
-/// The codes cut to a length, and the last that is left. Where nothing is cut off, the stored code stays.
-#[inline(always)]
-fn cut_codes(
-    code: &mut PatCode,
-    stored: bool,
-    codes: &mut Vec<PatCode>,
-    len: usize,
-) -> Result<(), AllocError>
-    requires { stored ≡ true → last_code codes.old.items ≡ code.old }
+/// The last of the codes, cut to a length. Apart, so that the other way is short.
+#[inline(never)]
+fn cut_to_last(codes: &mut Vec<PatCode>, len: usize) -> Result<PatCode, AllocError>
     ensures codes { codes.new.items ≡ take len codes.old.items }
-    ensures code { OnOk result (code.new ≡ last_code (take len codes.old.items)) }
+    ensures last { IfOk result (λ code. code ≡ last_code (take len codes.old.items)) }
 {
-    if stored && codes.len() <= len {
-        return Ok(());
-    }
     codes.truncate(len);
-    *code = match codes.as_slice().last() {
-        Some(last) => last.clone()?,
-        None => PatCode::null(),
-    };
-    Ok(())
+    match codes.as_slice().last() {
+        Some(last) => Ok(last.clone()?),
+        None => Ok(PatCode::null()),
+    }
 }
 
 /// A log cut to a length.

@@ -1,5 +1,5 @@
 -- What a match is in the definitions.
-use Rattle.std.specs.Prelude.{◌≡◌, ℕ, ◌+◌, ◌-◌, List, [], ◌∷◌, map, length, drop, ◌<◌, ◌≤◌, Option, Some, None, Bool, true, false}
+use Rattle.std.specs.Prelude.{◌≡◌, ℕ, ◌+◌, ◌-◌, List, [], ◌∷◌, map, length, drop, Option, Some, None, Bool, true, false}
 use Rattle.model.specs.Pattern.Patterns as p
 use Rattle.model.specs.Pattern.BasicEnds.{from_up, balanced}
 use Rattle.model.specs.Pattern.Steps as s
@@ -117,14 +117,6 @@ failed u r = back (choices_of u r.thread.trail.backs) r.start r.left []
 -- the match after an instruction
 abbrev pub done : List ℕ → Run → s.Act → MatchState
 done u r x = after_act x (choices_of u r.thread.trail.backs) r.start r.left []
-
--- what is kept with an attempt fits the subject and the attempt's code
-abbrev pub KeptFits : List ℕ → Thread → WayBack → Type 0
-KeptFits u t (kept.To q) = Unit {0}
-KeptFits u t (kept.Arb e) = (e ≤ length u) × (t.place < length t.trail.code)
-KeptFits u t (kept.Bal e) = (e ≤ length u) × (t.place < length t.trail.code)
-KeptFits u t kept.Again = t.cursor ≤ length u
-KeptFits u t kept.Quit = Unit {0}
 
 abbrev pub is_running : p.Event ℕ → Bool
 is_running p.Running = true

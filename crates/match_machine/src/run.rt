@@ -17,8 +17,11 @@ fn settle(thread: &mut Thread) -> Result<(), AllocError>
         thread.old.trail.pending) }
     ensures choices { OnOk result (thread.new.trail.backs ≡ thread.old.trail.backs) }
 {
-    while thread.place >= thread.trail.code().len() && thread.trail.is_inside() {
-        thread.place = thread.trail.leave()?;
+    while thread.place >= thread.trail.code().len() {
+        let Some(place) = thread.trail.leave()? else {
+            return Ok(());
+        };
+        thread.place = place;
     }
     Ok(())
 }

@@ -1,28 +1,44 @@
 -- Starts from which a look or a filter shows that the match fails.
-use Rattle.std.proofs.Common.{◌≡◌, ℕ, ℤ, zero, suc, ◌+◌, ◌-◌, ◌*◌, ◌<◌, ◌≤◌, List, [], ◌∷◌, ◌++◌, length, get_or, drop, take, refl, sym, ◌∙◌, ap, subst, arith, Bool, true, false}
-use Rattle.std.specs.Prelude.{min, not, Some, slice_get, ◌/◌, ◌==◌, ◌||◌}
-use Rattle.std.specs.List.{prefix_len, starts_with}
+use Rattle.std.proofs.Common.{◌≡◌, ℕ, ℤ, zero, suc, ◌+◌, ◌-◌, ◌*◌, ◌<◌, ◌≤◌, List, [], ◌∷◌, length, get_or, drop, refl, sym, ◌∙◌, ap, subst, arith, Bool, true, false, inl, inr}
+use Rattle.std.specs.Prelude.{min, Some, slice_get, ◌/◌, ◌%◌, ◌==◌, ◌||◌}
+use Rattle.std.specs.List.{starts_with}
 use Rattle.std.proofs.Math.Dec.{eqb}
 use Rattle.std.proofs.Math.Nat.{div-mul-le_self, mul-le-mul_right, suc-mul, zero-mul}
+use Rattle.std.proofs.lemmas.Bool.{cases_lt, eqb-false}
 use Rattle.std.proofs.lemmas.Bool.Decides.{nat_tests}
-use Rattle.std.proofs.lemmas.List.{drop_more}
 use Rattle.std.proofs.lemmas.List.Folds.{list_any-append}
 use Rattle.model.specs.Pattern.Patterns.{Lit, Open, Split}
 use Rattle.model.specs.Pattern.BasicEnds.{ends_at, end_if, is_in_set}
 use Rattle.model.specs.Pattern.Steps.{Code, MatchState, Note, Opened, Starting, Over, Lost, at_distance, back, go, pattern_steps, settled}
-use Rattle.prefilter.specs.Looks.{FailFrom, FailsAt, FailsUnless, HasFirst, LeadsFromFront}
+use Rattle.prefilter.specs.Looks.{FailFrom, FailsAt, FailsUnless, HasKey, LeadsFromFront, StartFails, key_of}
 use Rattle.prefilter.specs.Starts.{AreIdle, ArePassed, Leads, RunsOn}
 use Rattle.prefilter.specs.declared.prefilter.Passed.{Passed}
 use Rattle.prefilter.proofs.Going.{Came, then_comes, step_on, leads_none, leads_on}
 use Rattle.prefilter.proofs.Looks.{fails_open, fails_part, fails_split}
-use Rattle.prefilter.proofs.ManyStarts.{first_differs, not_true, stands}
+use Rattle.prefilter.proofs.Needles.{read_at}
 use Rattle.prefilter.proofs.ManyRounds.{AreRounds, round_steps, round_way, times}
 
 -- ---- alternations of literals
-lit_missing : (u w : List ℕ) (x c : ℕ) → c < length u → eqb x (get_or u c 0) ≡ false → ends_at u (Lit (x ∷ w)) c ≡ []
-lit_missing u w x c within e =
-    ap (λ ys. end_if (starts_with eqb ys (x ∷ w)) (c + length (x ∷ w))) (drop_more u c 0 within)
-    ∙ first_differs x (get_or u c 0) c w (drop (c + 1) u) e
+first_alone : (x y z : ℕ) → key_of x y 0 ≡ key_of x z 0
+first_alone x y z = let same : x + y * 0 ≡ x + z * 0 = omega arith in ap (λ n. n % 256) same
+
+lit_missing : (u w : List ℕ) (f c : ℕ) → c + 1 < length u → 0 < length w → (length w ≡ 1 → f ≡ 0) → eqb (key_of (get_or w 0 0) (get_or w 1 0) f) (key_of (get_or u c 0) (get_or u (c + 1) 0) f) ≡ false → ends_at u (Lit w) c ≡ []
+lit_missing u w f c within some short e = go (starts_with eqb (drop c u) w) refl
+  where
+    go : (t : Bool) → starts_with eqb (drop c u) w ≡ t → ends_at u (Lit w) c ≡ []
+    go false p = ap (λ t. end_if t (c + length w)) p
+    go true p =
+        let there = read_at u w c (omega (arith, within)) p in
+        let first : get_or u c 0 ≡ get_or w 0 0 = there.reads c 0 some (omega arith) in
+        let same : key_of (get_or w 0 0) (get_or w 1 0) f ≡ key_of (get_or u c 0) (get_or u (c + 1) 0) f = elim (cases_lt 1 (length w)) [
+          | inl m ↦ ap (λ x. key_of x (get_or w 1 0) f) (sym first) ∙ ap (λ y. key_of (get_or u c 0) y f) (sym (there.reads (c + 1) 1 m refl))
+          | inr m ↦
+              let none : f ≡ 0 = short (omega (arith, some, m)) in
+              ap (λ x. key_of x (get_or w 1 0) f) (sym first) ∙ ap (key_of (get_or u c 0) (get_or w 1 0)) none
+              ∙ first_alone (get_or u c 0) (get_or w 1 0) (get_or u (c + 1) 0)
+              ∙ ap (key_of (get_or u c 0) (get_or u (c + 1) 0)) (sym none)
+        ] in
+        absurd (eqb-false _ _ e same)
 
 only_one : (x b : ℕ) → is_in_set (x ∷ []) b ≡ false → eqb x b ≡ false
 only_one x b h = grind (arith, nat_tests, h)
@@ -31,20 +47,24 @@ neither : (a b : Bool) → (a || b) ≡ false → (a ≡ false) × (b ≡ false)
 neither false b h = (refl, h)
 neither true b h = absurd (cc)
 
-parted : (ws : List ℕ) (x b : ℕ) → is_in_set (ws ++ x ∷ []) b ≡ false → (is_in_set ws b ≡ false) × (is_in_set (x ∷ []) b ≡ false)
-parted ws x b h = neither (is_in_set ws b) (is_in_set (x ∷ []) b) (sym (list_any-append (λ y. y == b) ws (x ∷ [])) ∙ h)
+parted : (ws : List ℕ) (x b : ℕ) → is_in_set (x ∷ ws) b ≡ false → (is_in_set (x ∷ []) b ≡ false) × (is_in_set ws b ≡ false)
+parted ws x b h = neither (is_in_set (x ∷ []) b) (is_in_set ws b) (sym (list_any-append (λ y. y == b) (x ∷ []) ws) ∙ h)
 
-fails_first : (u : List ℕ) (code : Code) (ns : List Note) (q x c : ℕ) → HasFirst code q x → c < length u → is_in_set (x ∷ []) (get_or u c 0) ≡ false → FailsAt u code ns q c 1
-fails_first u code ns q x c (w, here) within none =
-    fails_part u code ns q c (Lit (x ∷ w)) here (lit_missing u w x c within (only_one x (get_or u c 0) none))
+-- the number for two bytes of a subject
+abbrev pub key_here : List ℕ → (c f : ℕ) → ℕ
+key_here u c f = key_of (get_or u c 0) (get_or u (c + 1) 0) f
 
-pub unless_one : (code : Code) (q x : ℕ) → HasFirst code q x → FailsUnless code q (x ∷ []) 1
-unless_one code q x here = λ u ns c within none. fails_first u code ns q x c here within none
+fails_first : (u : List ℕ) (code : Code) (ns : List Note) (q f k c : ℕ) → HasKey code q f k → c + 1 < length u → is_in_set (k ∷ []) (key_here u c f) ≡ false → FailsAt u code ns q c 1
+fails_first u code ns q f k c (w, here, some, short, is) within none =
+    fails_part u code ns q c (Lit w) here (lit_missing u w f c within some short (ap (λ j. eqb j (key_here u c f)) (sym is) ∙ only_one k (key_here u c f) none))
 
-pub unless_more : (code : Code) (q n x : ℕ) (ws : List ℕ) (d : ℤ) → slice_get code q ≡ Some (Split d) → FailsUnless code (q + 1) ws n → HasFirst code (at_distance code q d) x → FailsUnless code q (ws ++ x ∷ []) (n + 3)
-unless_more code q n x ws d splits first other = λ u ns c within none.
-    let parts = parted ws x (get_or u c 0) none in
-    fails_split u code ns q c n 1 d splits (first u ns c within parts.0) (fails_first u code ns (at_distance code q d) x c other within parts.1)
+pub unless_one : (code : Code) (q f k : ℕ) → HasKey code q f k → FailsUnless code q f (k ∷ []) 1
+unless_one code q f k here = λ u ns c within none. fails_first u code ns q f k c here within none
+
+pub unless_more : (code : Code) (q f n k : ℕ) (ws : List ℕ) (d : ℤ) → slice_get code q ≡ Some (Split d) → FailsUnless code (q + 1) f ws n → HasKey code (at_distance code q d) f k → FailsUnless code q f (k ∷ ws) (n + 3)
+unless_more code q f n k ws d splits first other = λ u ns c within none.
+    let parts = parted ws k (key_here u c f) none in
+    fails_split u code ns q c n 1 d splits (first u ns c within parts.1) (fails_first u code ns (at_distance code q d) f k c other within parts.0)
 
 -- ---- behind OPEN
 pub front_opens : (code : Code) → slice_get code 0 ≡ Some Open → LeadsFromFront code 1 1
@@ -53,8 +73,8 @@ front_opens code opens = λ u ns c m fails. fails_open u code ns 0 c m opens (fa
 pub front_alone : (code : Code) → LeadsFromFront code 0 0
 front_alone code = λ u ns c m fails. let same : m ≡ m + 0 = omega arith in subst (λ n. FailsAt u code ns 0 c n) same (fails ns)
 
-pub front_fails : (code : Code) (q n m : ℕ) (ws : List ℕ) → LeadsFromFront code q n → FailsUnless code q ws m → FailsUnless code 0 ws (m + n)
-front_fails code q n m ws leads fails = λ u ns c within none. leads u ns c m (λ ms. fails u ms c within none)
+pub front_fails : (code : Code) (q f n m : ℕ) (ws : List ℕ) → LeadsFromFront code q n → FailsUnless code q f ws m → FailsUnless code 0 f ws (m + n)
+front_fails code q f n m ws leads fails = λ u ns c within none. leads u ns c m (λ ms. fails u ms c within none)
 
 -- ---- starts
 pub start_fails : (u : List ℕ) (code : Code) (b left n : ℕ) → FailsAt u code [] 0 b n → Came u code (n + 1) (Starting b left []) (back [] b left [])
@@ -111,15 +131,16 @@ starts_passed u code b left most k n each is le fits h =
           (came_leads u code (k * (n + 1)) _ _ (starts_skipped u code n k b rest h)));
     }
 
-pub start_passed : (u : List ℕ) (code : Code) (b left most n : ℕ) → 0 < left → n + 1 ≤ most → FailsAt u code [] 0 b n → ArePassed u code b left most (record { starts = 1; steps = n + 1 })
-start_passed u code b left most n some fits h =
+pub start_passed : (u : List ℕ) (code : Code) (b left most n : ℕ) → 0 < left → n ≤ most → StartFails u code b n → ArePassed u code b left most (record { starts = 1; steps = n })
+start_passed u code b left most n some fits (m, is, h) =
     record {
       starts = omega (arith, some);
       bound = fits;
       leads = λ rest e.
           let g : left ≡ suc rest = omega (arith, e) in
-          subst (λ m. Leads u code (n + 1) (Starting b m []) (Starting (b + 1) rest [])) (sym g)
-          (came_leads u code (n + 1) (Starting b (suc rest) []) (Starting (b + 1) rest []) (start_fails u code b (suc rest) n h));
+          subst (λ k. Leads u code n (Starting b k []) (Starting (b + 1) rest [])) (sym g)
+          (subst (λ k. Leads u code k (Starting b (suc rest) []) (Starting (b + 1) rest [])) (sym is)
+          (came_leads u code (m + 1) (Starting b (suc rest) []) (Starting (b + 1) rest []) (start_fails u code b (suc rest) m h)));
     }
 
 pub nothing_passed : (u : List ℕ) (code : Code) (b left most : ℕ) → ArePassed u code b left most (record { starts = 0; steps = 0 })
@@ -146,6 +167,12 @@ passed_more u code b left most p q h g =
           leads_on u code p.steps q.steps (p.steps + q.steps) _ _ _ refl first next;
     }
 
+-- one start more
+pub one_more : (u : List ℕ) (code : Code) (b left most n : ℕ) (p : Passed) → ArePassed u code b left most p → p.starts < left → n ≤ most - p.steps → StartFails u code (b + p.starts) n → ArePassed u code b left most (record { starts = p.starts + 1; steps = p.steps + n })
+one_more u code b left most n p h some fits fails =
+    passed_more u code b left most p (record { starts = 1; steps = n }) h
+    (start_passed u code (b + p.starts) (left - p.starts) (most - p.steps) n (omega (arith, some)) fits fails)
+
 -- a part that fails, which may stand behind OPEN
 pub part_fails : (u : List ℕ) (code : Code) (q n b k : ℕ) → LeadsFromFront code q n → AreIdle u code q b k → FailFrom u code b k (1 + n)
 part_fails u code q n b k leads idle c l m =
@@ -158,14 +185,8 @@ fits_within k left bound each few some =
     let less : k ≤ bound / each = omega (arith, few) in
     omega (arith, mul-le-mul_right {m = k} {n = bound / each} each less, div-mul-le_self bound each)
 
--- where a byte stands that passes none of a set
-pub absent : (u ws : List ℕ) (b r n : ℕ) → n ≡ prefix_len (λ x. not (is_in_set ws x)) (take r (drop b u)) → (c : ℕ) → b ≤ c → c < b + n → is_in_set ws (get_or u c 0) ≡ false
-absent u ws b r n is c l m = not_true (is_in_set ws (get_or u c 0)) (stands (λ x. not (is_in_set ws x)) u b r n c is l m).passes
-
-pub head_split : (xs : List ℕ) → 0 < length xs → xs ≡ get_or xs 0 0 ∷ drop 1 xs
-head_split [] h = absurd (omega (arith, h))
-head_split (x ∷ xs) h = refl
-
 -- the last start, which fails
-pub last_fails : (u : List ℕ) (code : Code) (b n : ℕ) → FailsAt u code [] 0 b n → Leads u code (n + 1) (Starting b 0 []) (Over Lost)
-last_fails u code b n h = came_leads u code (n + 1) (Starting b 0 []) (Over Lost) (start_fails u code b 0 n h)
+pub last_fails : (u : List ℕ) (code : Code) (b n : ℕ) → StartFails u code b n → Leads u code n (Starting b 0 []) (Over Lost)
+last_fails u code b n (m, is, h) =
+    subst (λ k. Leads u code k (Starting b 0 []) (Over Lost)) (sym is)
+    (came_leads u code (m + 1) (Starting b 0 []) (Over Lost) (start_fails u code b 0 m h))

@@ -65,6 +65,24 @@ fails_before u w b r n m z le cover never c l h = go (starts_with eqb (drop c u)
         let e : b + k ≡ c = omega (arith, l) in
         absurd (never k (omega arith) (omega (arith, below, le)) (occurs u w b r k c e (omega (arith, h, z)) (cover k below) p))
 
+-- the bytes of a text that stands at a place
+pub record ReadAt (u w : List ℕ) (c : ℕ) : Type 0 where
+  pub fits : c + length w ≤ length u
+  pub reads : (k j : ℕ) → j < length w → c + j ≡ k → get_or u k 0 ≡ get_or w j 0
+
+pub read_at : (u w : List ℕ) (c : ℕ) → c ≤ length u → starts_with eqb (drop c u) w ≡ true → ReadAt u w c
+read_at u w c within p =
+    let rest = take (length u) (drop c u) in
+    let there = occurs u w c (length u) 0 c (omega arith) within (λ m. omega (arith, m)) p in
+    let size_left = length-take (length u) (drop c u) in
+    let fits = there.fits in
+    record {
+      fits = omega (arith, fits, size_left, length-drop c u);
+      reads = λ k j m e.
+          let q : j ≡ 0 + j = omega arith in
+          ap (λ i. get_or u i 0) (sym e) ∙ sym (get_or-drop c u j 0) ∙ sym (get_or-take (length u) (drop c u) j 0 (omega (arith, m, fits, size_left))) ∙ ap (λ i. get_or rest i 0) q ∙ there.reads j m;
+    }
+
 -- where no place has the first and the last byte of the text as far from each other as they are in it
 pub fails_by_ends : (u w : List ℕ) (b n gap : ℕ) → b + n ≤ length u → length w ≡ gap + 1 → ((k : ℕ) → b ≤ k → k < b + n → k + gap < length u → get_or u k 0 ≡ get_or w 0 0 → get_or u (k + gap) 0 ≢ get_or w gap 0) → FailsFrom u (Lit w) b n
 fails_by_ends u w b n gap le size apart c l h = go (starts_with eqb (drop c u) w) refl
@@ -72,13 +90,5 @@ fails_by_ends u w b n gap le size apart c l h = go (starts_with eqb (drop c u) w
     go : (t : Bool) → starts_with eqb (drop c u) w ≡ t → ends_at u (Lit w) c ≡ []
     go false p = ap (λ t. end_if t (c + length w)) p
     go true p =
-        let rest = take (length u) (drop c u) in
-        let there = occurs u w c (length u) 0 c (omega arith) (omega (arith, le, h)) (λ m. omega (arith, m)) p in
-        let size_left = length-take (length u) (drop c u) in
-        let size_here = length-drop c u in
-        let fits = there.fits in
-        let read : (k j : ℕ) → j < length w → c + j ≡ k → get_or u k 0 ≡ get_or w j 0 =
-        λ k j m e.
-        let q : j ≡ 0 + j = omega arith in
-        ap (λ i. get_or u i 0) (sym e) ∙ sym (get_or-drop c u j 0) ∙ sym (get_or-take (length u) (drop c u) j 0 (omega (arith, m, fits, size_left))) ∙ ap (λ i. get_or rest i 0) q ∙ there.reads j m in
-        absurd (apart c l h (omega (arith, size, fits, size_left, size_here)) (read c 0 (omega (arith, size)) (omega arith)) (read (c + gap) gap (omega (arith, size)) refl))
+        let there = read_at u w c (omega (arith, le, h)) p in
+        absurd (apart c l h (omega (arith, size, there.fits)) (there.reads c 0 (omega (arith, size)) (omega arith)) (there.reads (c + gap) gap (omega (arith, size)) refl))

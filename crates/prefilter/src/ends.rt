@@ -1,17 +1,15 @@
 //! The ends of parts without parts.
 
-ghost use Rattle.std.specs.Prelude.{◌≡◌, ◌≢◌, ◌+◌, ◌-◌, ◌<◌, ◌≤◌, ◌^◌, ◌∷◌, [], ℕ, List, length};
-ghost use Rattle.std.specs.Prelude.{drop, not, true, false, Some, IfSome, option_to_list};
-ghost use Rattle.std.specs.List.{prefix_len};
+ghost use Rattle.std.specs.Prelude.{◌≡◌, ◌≢◌, ◌+◌, ◌-◌, ◌<◌, ◌≤◌, ℕ, length};
+ghost use Rattle.std.specs.Prelude.{drop, true, false, Some, IfSome, option_to_list};
 ghost use Rattle.model.specs.Pattern.Patterns as p;
-ghost use Rattle.model.specs.Pattern.BasicEnds.{ends_at, is_in_set, balanced};
-ghost use Rattle.prefilter.specs.Balance.{ends_from, balanced_after};
+ghost use Rattle.model.specs.Pattern.BasicEnds.{ends_at, balanced};
+ghost use Rattle.prefilter.specs.Balance.{ends_from};
 ghost use Rattle.prefilter.specs.Starts.{FailsFrom};
 ghost use Rattle.prefilter.specs.Act.{HasOneEnd, IsOther};
 ghost use Rattle.pattern_compiler.specs.View.{basic_of};
-ghost use Rattle.prefilter.specs.declared.ends.Balance.{Balance};
 
-use crate::search::{count_of, lit_fails_for};
+use crate::search::places_of;
 use pattern_compiler::{Basic, Set};
 
 /// The end of a literal.
@@ -45,19 +43,6 @@ pub fn lit_end(subject: &[u8], cursor: usize, text: &[u8]) -> Option<usize>
     let rest = &subject[cursor..];
     if rest.starts_with(text) {
         Some(cursor + text.len())
-    } else {
-        None
-    }
-}
-
-/// The end of RPOS.
-#[inline(always)]
-pub fn rpos_end(subject: &[u8], cursor: usize, n: u64) -> Option<usize>
-    requires { cursor ≤ length subject.now }
-    ensures { option_to_list result ≡ ends_at subject.now (p.RPos n) cursor }
-{
-    if (subject.len() - cursor) as u64 == n {
-        Some(cursor)
     } else {
         None
     }
@@ -100,35 +85,6 @@ fn places_beside(from: usize, limit: usize, place: u64) -> usize
     (place - here).min(limit as u64) as usize
 }
 
-/// At how many places from here on another is left of them to the end; at most so many.
-#[inline(always)]
-fn rpos_fails_for(subject: &[u8], from: usize, limit: usize, n: u64) -> usize
-    requires { from + limit ≤ length subject.now }
-    ensures fails { FailsFrom subject.now (p.RPos n) from result }
-    ensures limit { result ≤ limit }
-{
-    let len = subject.len() as u64;
-    if n > len {
-        return limit;
-    }
-    places_beside(from, limit, len - n)
-}
-
-/// At how many places from here on no byte of a set is left, where none is left here; at most so many. It looks at all
-/// that is left, so it is asked only behind a place where a match failed.
-#[inline(never)]
-fn break_fails_for(subject: &[u8], from: usize, limit: usize, set: &Set) -> usize
-    requires { from + limit ≤ length subject.now }
-    ensures fails { FailsFrom subject.now (p.Break set.now) from result }
-    ensures limit { result ≤ limit }
-{
-    if from > 0 && from + set.break_len(&subject[from..]) == subject.len() {
-        limit
-    } else {
-        0
-    }
-}
-
 /// At how many places from here on a part has no end, as a look at the place or one search shows; at most so many.
 #[inline(never)]
 pub fn fails_for(subject: &[u8], from: usize, limit: usize, part: &Basic) -> usize
@@ -138,13 +94,14 @@ pub fn fails_for(subject: &[u8], from: usize, limit: usize, part: &Basic) -> usi
 {
     let rest = &subject[from..from + limit];
     match part {
-        Basic::Lit(text) => lit_fails_for(subject, from, limit, text.as_slice()),
         Basic::Any(set) => set.break_len(rest),
         Basic::NotAny(set) => set.span_len(rest),
         Basic::Span(set) => set.break_len(rest),
-        Basic::Break(set) => break_fails_for(subject, from, limit, set),
+        Basic::Break(set) if from > 0 && from + set.break_len(&subject[from..]) == subject.len() =>
+            limit,
         Basic::Pos(n) => places_beside(from, limit, *n),
-        Basic::RPos(n) => rpos_fails_for(subject, from, limit, *n),
+        Basic::RPos(n) if *n > subject.len() as u64 => limit,
+        Basic::RPos(n) => places_beside(from, limit, subject.len() as u64 - *n),
         Basic::Len(n) | Basic::RTab(n) if *n > (subject.len() - from) as u64 => limit,
         Basic::Tab(n) if *n < from as u64 || *n > subject.len() as u64 => limit,
         Basic::Fail => limit,
@@ -172,7 +129,7 @@ pub fn one_end(subject: &[u8], cursor: usize, part: &Basic) -> Option<usize>
         Basic::Lit(text) => lit_end(subject, cursor, text.as_slice()),
         Basic::Len(n) if *n <= (subject.len() - cursor) as u64 => Some(cursor + *n as usize),
         Basic::Pos(n) if cursor as u64 == *n => Some(cursor),
-        Basic::RPos(n) => rpos_end(subject, cursor, *n),
+        Basic::RPos(n) if (subject.len() - cursor) as u64 == *n => Some(cursor),
         Basic::Tab(n) if cursor as u64 <= *n && *n <= subject.len() as u64 => Some(*n as usize),
         Basic::RTab(n) if *n <= (subject.len() - cursor) as u64 => Some(
             subject.len() - *n as usize,
@@ -188,41 +145,6 @@ pub fn one_end(subject: &[u8], cursor: usize, part: &Basic) -> Option<usize>
     }
 }
 
-/// How brackets stand after a byte.
-#[derive(Clone, Copy)]
-pub enum Balance {
-    /// More are closed than were open.
-    Unbalanced,
-    /// None is open.
-    Whole,
-    /// So many are open.
-    Inside(usize),
-}
-
-/// How brackets stand after a byte, where so many were open before it.
-fn after_byte(depth: usize, byte: u8) -> Balance
-    requires { depth + 1 < 2 ^ 64 }
-    ensures ends { (s : List ℕ) (c : ℕ) → balanced (byte ∷ s) depth c ≡ balanced_after result s c }
-    ensures depth { (d : ℕ) → result ≡ Balance.Inside d → d ≤ depth + 1 }
-    ensures open { (d : ℕ) → result ≡ Balance.Inside d → 0 < d }
-{
-    if byte == b'(' {
-        Balance::Inside(depth + 1)
-    } else if byte != b')' {
-        if depth == 0 {
-            Balance::Whole
-        } else {
-            Balance::Inside(depth)
-        }
-    } else if depth == 0 {
-        Balance::Unbalanced
-    } else if depth == 1 {
-        Balance::Whole
-    } else {
-        Balance::Inside(depth - 1)
-    }
-}
-
 /// The first end of BAL from here.
 #[inline(always)]
 pub fn bal_end(subject: &[u8], cursor: usize) -> Option<usize>
@@ -233,43 +155,41 @@ pub fn bal_end(subject: &[u8], cursor: usize) -> Option<usize>
     if cursor >= subject.len() {
         return None;
     }
-    match after_byte(0, subject[cursor]) {
-        Balance::Unbalanced => None,
-        Balance::Whole => Some(cursor + 1),
-        Balance::Inside(open) => closing_from(subject, cursor + 1, open),
+    match subject[cursor] {
+        b'(' => closing_from(subject, cursor + 1),
+        b')' => None,
+        _ => Some(cursor + 1),
     }
 }
 
-/// The first end of BAL from a place on, where so many brackets are open before it. Sixteen bytes that close fewer than
-/// are open are passed together.
+/// The first end of BAL from a place on, where one bracket is open before it. Sixteen bytes that close fewer than are
+/// open are passed together.
 #[inline(never)]
-fn closing_from(subject: &[u8], from: usize, opened: usize) -> Option<usize>
-    requires within { from ≤ length subject.now }
-    requires opened { (0 < opened) × (opened ≤ from) }
-    ensures ends { ends_from subject.now result ≡ balanced (drop from subject.now) opened from }
+fn closing_from(subject: &[u8], from: usize) -> Option<usize>
+    requires { from ≤ length subject.now }
+    ensures ends { ends_from subject.now result ≡ balanced (drop from subject.now) 1 from }
     ensures within { IfSome result (λ e. e ≤ length subject.now) }
 {
-    let mut depth = opened;
+    let mut depth = 1;
     let mut at = from;
+    let mut next = from;
     while at < subject.len() {
-        let rest = subject.len() - at;
-        if rest >= 16 {
-            let closed = count_of(subject, at, b')');
+        if at >= next && subject.len() - at >= 16 {
+            let closed = places_of(subject, at, b')').count_ones() as usize;
             if closed < depth {
-                depth = depth + count_of(subject, at, b'(') - closed;
+                depth = depth + places_of(subject, at, b'(').count_ones() as usize - closed;
                 at += 16;
                 continue;
             }
+            next = at + 16;
         }
-        let to = at + rest.min(16);
-        while at < to {
-            match after_byte(depth, subject[at]) {
-                Balance::Unbalanced => return None,
-                Balance::Whole => return Some(at + 1),
-                Balance::Inside(further) => depth = further,
-            }
-            at += 1;
+        match subject[at] {
+            b'(' => depth += 1,
+            b')' if depth == 1 => return Some(at + 1),
+            b')' => depth -= 1,
+            _ => {},
         }
+        at += 1;
     }
     None
 }

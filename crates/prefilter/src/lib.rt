@@ -10,14 +10,12 @@
 //! `specs/Starts.antt`).
 #![tactic(auto)]
 
-mod distance;
 mod ends;
 mod look;
 mod prefilter;
 mod search;
 
-pub use distance::target;
 pub use ends::{bal_end, has_one_end, lit_end, one_end};
-pub use look::{both_miss, fails_at, jump_from, part_of, parts_beside};
+pub use look::{both_miss, fails_at, jump_from, part_of, parts_beside, target};
 pub use prefilter::{Passed, front, idle_from, lost_from, none_passed, pass, pass_part};
 pub use search::lit_fails_for;

@@ -1,19 +1,30 @@
 //! Looks at the subject before an attempt goes on: in how many steps it fails.
 
-ghost use Rattle.std.specs.Prelude.{◌≡◌, ◌+◌, ◌<◌, ◌≤◌, ◌^◌, [], ℕ, ℤ, List, Some, true, length, slice_get, IfSome};
+ghost use Rattle.std.specs.Prelude.{◌≡◌, ◌+◌, ◌<◌, ◌≤◌, [], ℕ, ℤ, List, Some, true, length, slice_get, IfSome};
 ghost use Rattle.model.specs.Pattern.BasicEnds.{ends_at};
-ghost use Rattle.model.specs.Pattern.Patterns.{Do, Jmp, Open, RPos, Split};
+ghost use Rattle.model.specs.Pattern.Patterns.{Do, Jmp, Open, Split};
 ghost use Rattle.model.specs.Pattern.Steps.{Code, Note, at_distance};
 ghost use Rattle.pattern_compiler.specs.View.{basic_of, code_of};
 ghost use Rattle.prefilter.specs.Looks.{FailsAt};
 
-use crate::distance::target;
-use crate::ends::{has_one_end, lit_end, one_end, rpos_end};
+use crate::ends::{has_one_end, lit_end, one_end};
 use backtrack::Trail;
 use pattern_compiler::{Basic, Instr};
 
 /// Behind so many steps no further SPLIT is looked at.
 const MANY: u64 = 96;
+
+/// The place at a distance.
+#[inline(always)]
+pub fn target(len: usize, place: usize, d: i64) -> usize
+    ensures { (code : Code) → length code ≡ len → result ≡ at_distance code place d }
+{
+    if d >= 0 {
+        place.saturating_add(d as usize).min(len)
+    } else {
+        place.saturating_sub(d.unsigned_abs() as usize).min(len)
+    }
+}
 
 /// Whether a part has no end from a place, where a look at the bytes there shows it.
 #[inline(always)]
@@ -45,8 +56,9 @@ pub fn part_of(instrs: &[Instr], place: usize) -> Option<&Basic>
 /// The other place that SPLIT leads to, if it stands at a place.
 #[inline(always)]
 pub fn other_of(instrs: &[Instr], place: usize) -> Option<usize>
-    ensures { IfSome result (λ other. (d : ℤ) × (slice_get (code_of instrs.now) place ≡ Some (Split d))
+    ensures leads { IfSome result (λ other. (d : ℤ) × (slice_get (code_of instrs.now) place ≡ Some (Split d))
         × (other ≡ at_distance (code_of instrs.now) place d)) }
+    ensures within { IfSome result (λ other. place < length instrs.now) }
 {
     match instrs.get(place) {
         Some(Instr::Split(d)) => Some(target(instrs.len(), place, *d)),
@@ -78,18 +90,6 @@ pub fn opens_at(instrs: &[Instr], place: usize) -> bool
     }
 }
 
-/// Whether the part at a place has no end from a cursor, where a look shows.
-#[inline(always)]
-fn misses_at(bytes: &[u8], instrs: &[Instr], place: usize, cursor: usize) -> bool
-    requires cursor { cursor ≤ length bytes.now }
-    ensures { result ≡ true → (ns : List Note) → FailsAt bytes.now (code_of instrs.now) ns place cursor 1 }
-{
-    match part_of(instrs, place) {
-        Some(part) => misses(bytes, cursor, part),
-        None => false,
-    }
-}
-
 /// The parts from which an attempt fails at a place, and in how many steps, if both have no end: the part there, or,
 /// where SPLIT stands there, the parts that it leads to.
 #[inline(always)]
@@ -102,9 +102,6 @@ pub fn parts_beside(instrs: &[Instr], place: usize) -> Option<(&Basic, Option<&B
     let Some(to) = other_of(instrs, place) else {
         return Some((part_of(instrs, place)?, None, 1));
     };
-    if place >= instrs.len() {
-        return None;
-    }
     Some((part_of(instrs, place + 1)?, Some(part_of(instrs, to)?), 4))
 }
 
@@ -134,15 +131,18 @@ fn misses_outside(bytes: &[u8], trail: Option<&Trail>, cursor: usize) -> bool
     let Some(trail) = trail else {
         return false;
     };
-    match trail.outer() {
-        Some((outer, after)) => misses_at(bytes, outer.as_slice(), after, cursor),
+    let Some((outer, after)) = trail.outer() else {
+        return false;
+    };
+    match part_of(outer.as_slice(), after) {
+        Some(part) => misses(bytes, cursor, part),
         None => false,
     }
 }
 
 /// Whether an attempt fails at a place where a part stands, or the code ends.
 #[inline(always)]
-fn fails_near(
+fn misses_at(
     bytes: &[u8],
     instrs: &[Instr],
     trail: Option<&Trail>,
@@ -153,45 +153,9 @@ fn fails_near(
     ensures { result ≡ true → (ns : List Note) → IfSome trail.entry (λ t. t.now.notes ≡ ns)
         → FailsAt bytes.now (code_of instrs.now) ns place cursor 1 }
 {
-    if place < instrs.len() {
-        misses_at(bytes, instrs, place, cursor)
-    } else {
-        misses_outside(bytes, trail, cursor)
-    }
-}
-
-/// In how many steps an attempt fails at a place where no SPLIT stands, as by `fails_at`.
-#[inline(always)]
-fn fails_straight(
-    bytes: &[u8],
-    instrs: &[Instr],
-    trail: Option<&Trail>,
-    place: usize,
-    cursor: usize,
-) -> u64
-    requires cursor { cursor ≤ length bytes.now }
-    ensures fails { 0 < result → (ns : List Note) → IfSome trail.entry (λ t. t.now.notes ≡ ns)
-        → FailsAt bytes.now (code_of instrs.now) ns place cursor result }
-    ensures few { result ≤ 2 }
-{
-    if let Some(to) = jump_from(instrs, place) {
-        return if fails_near(bytes, instrs, trail, to, cursor) {
-            2
-        } else {
-            0
-        };
-    }
-    if opens_at(instrs, place) {
-        return if misses_at(bytes, instrs, place + 1, cursor) {
-            2
-        } else {
-            0
-        };
-    }
-    if fails_near(bytes, instrs, trail, place, cursor) {
-        1
-    } else {
-        0
+    match part_of(instrs, place) {
+        Some(part) => misses(bytes, cursor, part),
+        None => place >= instrs.len() && misses_outside(bytes, trail, cursor),
     }
 }
 
@@ -213,14 +177,24 @@ fn fails_split(
     let mut at = place;
     let mut steps = 0;
     while let Some(other) = other_of(instrs, at) {
-        if steps >= MANY || !misses_at(bytes, instrs, other, cursor) {
+        if steps >= MANY || !misses_at(bytes, instrs, None, other, cursor) {
             return 0;
         }
         steps += 3;
         at += 1;
     }
-    let more = fails_straight(bytes, instrs, trail, at, cursor);
-    if more > 0 { steps + more } else { 0 }
+    let (last, outside, more) = if let Some(to) = jump_from(instrs, at) {
+        (to, trail, 2)
+    } else if opens_at(instrs, at) {
+        (at + 1, None, 2)
+    } else {
+        (at, trail, 1)
+    };
+    if misses_at(bytes, instrs, outside, last, cursor) {
+        steps + more
+    } else {
+        0
+    }
 }
 
 /// Whether a part has no end from a place. Apart, so that each instruction is short.
@@ -230,18 +204,6 @@ fn misses_apart(bytes: &[u8], cursor: usize, part: &Basic) -> bool
     ensures { result ≡ true → ends_at bytes.now (basic_of part.now) cursor ≡ [] }
 {
     misses(bytes, cursor, part)
-}
-
-/// Whether a part has no end from a place, with RPOS looked at in line.
-#[inline(always)]
-fn misses_in_line(bytes: &[u8], cursor: usize, part: &Basic) -> bool
-    requires { cursor ≤ length bytes.now }
-    ensures { result ≡ true → ends_at bytes.now (basic_of part.now) cursor ≡ [] }
-{
-    match part {
-        Basic::RPos(n) => rpos_end(bytes, cursor, *n).is_none(),
-        _ => misses_apart(bytes, cursor, part),
-    }
 }
 
 /// In how many steps an attempt fails at a place, which may be the end of its code, whatever is gone back to; at most
@@ -269,16 +231,16 @@ pub fn fails_at(
             0
         };
     }
-    if let Some(part) = part_of(instrs, place) {
-        return if misses_in_line(bytes, cursor, part) {
-            1
-        } else {
-            0
-        };
-    }
-    if jump_from(instrs, place).is_some() {
-        return 0;
-    }
-    let steps = fails_split(bytes, instrs, trail, place, cursor);
-    if steps <= most { steps } else { 0 }
+    let Some(part) = part_of(instrs, place) else {
+        if jump_from(instrs, place).is_some() {
+            return 0;
+        }
+        let steps = fails_split(bytes, instrs, trail, place, cursor);
+        return if steps <= most { steps } else { 0 };
+    };
+    let fails = match part {
+        Basic::RPos(n) => (bytes.len() - cursor) as u64 != *n,
+        _ => misses_apart(bytes, cursor, part),
+    };
+    if fails { 1 } else { 0 }
 }

@@ -1,27 +1,28 @@
 //! Starts from which a match must fail, which are passed many at a time.
 
-ghost use Rattle.std.specs.List.{prefix_len};
-ghost use Rattle.std.specs.Prelude.{◌≡◌, ◌+◌, ◌<◌, ◌≤◌, ℕ, List, [], Some, false, not, length, get_or, slice_get, take, IfSome};
+ghost use Rattle.std.specs.Prelude.{◌≡◌, ◌+◌, ◌<◌, ◌≤◌, ℕ, List, [], Some, false, length, get_or, take, IfSome};
 ghost use Rattle.model.specs.Pattern.BasicEnds.{is_in_set};
 ghost use Rattle.model.specs.Pattern.Steps.{Lost, Over, Starting};
 ghost use Rattle.model.specs.Language.Strings.{flags_of};
-ghost use Rattle.model.specs.Pattern.Patterns as p;
 ghost use Rattle.pattern_compiler.specs.View.{code_of};
 ghost use Rattle.prefilter.specs.Filters.{AreFirsts};
-ghost use Rattle.prefilter.specs.Looks.{FailsAt, FailsUnless, HasFirst, LeadsFromFront};
+ghost use Rattle.prefilter.specs.Looks.{FailsUnless, HasKey, LeadsFromFront, StartFails, key_of};
 ghost use Rattle.prefilter.specs.Starts.{AreIdle, ArePassed, Leads};
 
 use crate::ends::fails_for;
-use crate::look::{fails_at, opens_at, other_of};
+use crate::look::{fails_at, opens_at, other_of, part_of};
 use crate::search::lit_fails_for;
 use pattern_compiler::{Basic, Instr, PatCode};
-use strings::{ByteSet, break_end};
+use strings::ByteSet;
 
 /// So many alternatives are looked at, at most.
 const MANY: usize = 32;
 
 /// Of fewer starts the bytes aren't gathered that a match may begin with.
 const FEW: usize = 16;
+
+/// What the second byte is multiplied by in the number for two bytes.
+const PAIRS: u8 = 37;
 
 /// Starts that were passed, and the steps of all of them.
 #[derive(Clone, Copy)]
@@ -30,10 +31,11 @@ pub struct Passed {
     pub steps: u64,
 }
 
-/// The bytes that an attempt may begin with, and in how many steps it fails that begins with none of them.
+/// The numbers for the two bytes that an attempt may begin with, and in how many steps it fails that begins with others.
 #[derive(Drop)]
 pub struct Firsts {
     set: ByteSet,
+    factor: u8,
     pub steps: u64,
 }
 
@@ -89,71 +91,53 @@ pub fn pass_part(bytes: &[u8], code: &PatCode, start: usize, left: usize, bound:
     }
 }
 
-/// The literal at a place, if one stands there.
+/// A number for two bytes; for the first of them alone, where the factor is 0.
 #[inline(always)]
-fn literal_of(instrs: &[Instr], place: usize) -> Option<&[u8]>
-    ensures { IfSome result (λ text. slice_get (code_of instrs.now) place ≡ Some (p.Do (p.Lit text.now))) }
+fn key_of(first: u8, second: u8, factor: u8) -> u8
+    ensures { result ≡ key_of first second factor }
 {
-    match instrs.get(place) {
-        Some(Instr::Do(Basic::Lit(text))) => Some(text.as_slice()),
+    ((first as u32 + second as u32 * factor as u32) % 256) as u8
+}
+
+/// The number for the first two bytes of the literal at a place.
+#[inline(always)]
+fn key_at(instrs: &[Instr], place: usize, factor: u8) -> Option<u8>
+    ensures { IfSome result (λ key. HasKey (code_of instrs.now) place factor key) }
+{
+    let Some(Basic::Lit(text)) = part_of(instrs, place) else {
+        return None;
+    };
+    match text.as_slice() {
+        [first, second, ..] => Some(key_of(*first, *second, factor)),
+        [first] if factor == 0 => Some(key_of(*first, 0, 0)),
         _ => None,
     }
 }
 
-/// The first byte of the literal at a place.
+/// The numbers for the first bytes of an alternation of literals at a place, and in how many steps an attempt there fails
+/// that begins with others; nothing where something else stands there, or more than so many.
 #[inline(always)]
-fn first_at(instrs: &[Instr], place: usize) -> Option<u8>
-    ensures { IfSome result (λ first. HasFirst (code_of instrs.now) place first) }
-{
-    let Some(text) = literal_of(instrs, place) else {
-        return None;
-    };
-    match text {
-        [first, ..] => Some(*first),
-        [] => None,
-    }
-}
-
-/// The first place from one on where SPLIT doesn't stand.
-#[inline(always)]
-fn behind_splits(instrs: &[Instr], from: usize) -> usize
-    ensures { from ≤ result }
-{
-    let mut place = from;
-    while let Some(Instr::Split(_)) = instrs.get(place) {
-        place += 1;
-    }
-    place
-}
-
-/// The first bytes of an alternation of literals at a place, and in how many steps an attempt there fails that begins
-/// with none of them; nothing where something else stands there, or more than so many.
-#[inline(always)]
-fn gather(instrs: &[Instr], place: usize, found: &mut [u8; 32]) -> Option<(usize, u64)>
+fn gather(instrs: &[Instr], place: usize, factor: u8, found: &mut [u8; 32]) -> Option<(usize, u64)>
     ensures few { IfSome result (λ (count, steps). count ≤ 32) }
     ensures steps { IfSome result (λ (count, steps). steps ≤ 96) }
     ensures fails { IfSome result (λ (count, steps).
-        FailsUnless (code_of instrs.now) place (take count found.new) steps) }
+        FailsUnless (code_of instrs.now) place factor (take count found.new) steps) }
 {
-    let mut at = behind_splits(instrs, place);
-    let mut count = 1;
-    let mut steps = 1;
-    found[0] = first_at(instrs, at)?;
-    while at > place {
-        at -= 1;
-        let other = other_of(instrs, at)?;
-        let first = first_at(instrs, other)?;
-        if count >= MANY {
+    let mut at = place;
+    let mut count = 0;
+    while let Some(other) = other_of(instrs, at) {
+        if count + 1 >= MANY {
             return None;
         }
-        found[count] = first;
+        found[count] = key_at(instrs, other, factor)?;
         count += 1;
-        steps += 3;
+        at += 1;
     }
-    Some((count, steps))
+    found[count] = key_at(instrs, at, factor)?;
+    Some((count + 1, 3 * count as u64 + 1))
 }
 
-/// The bytes that a match of code may begin with, if many starts are left and an alternation of literals shows them.
+/// What a match of code may begin with, if many starts are left and an alternation of literals shows it.
 #[inline(never)]
 fn firsts_of(instrs: &[Instr], left: usize) -> Option<Firsts>
     ensures { IfSome result (λ firsts. AreFirsts (code_of instrs.now) firsts) }
@@ -163,36 +147,42 @@ fn firsts_of(instrs: &[Instr], left: usize) -> Option<Firsts>
     }
     let (place, opening) = front(instrs);
     let mut found = [0u8; 32];
-    let (count, steps) = gather(instrs, place, &mut found)?;
-    Some(Firsts {
-        set: ByteSet::of(&found[..count]),
-        steps: steps + opening,
-    })
-}
-
-/// How many bytes come before the first of a set.
-#[inline(always)]
-fn bytes_before(bytes: &[u8], set: &ByteSet) -> usize
-    ensures value { (w : List ℕ) → set.now ≡ flags_of w
-        → result ≡ prefix_len (λ b. not (is_in_set w b)) bytes.now }
-    ensures within { result ≤ length bytes.now }
-{
-    match break_end(bytes, 0, set) {
-        Some(end) => end,
-        None => bytes.len(),
+    let mut factor = PAIRS;
+    loop {
+        if let Some((count, steps)) = gather(instrs, place, factor, &mut found) {
+            return Some(Firsts {
+                set: ByteSet::of(&found[..count]),
+                factor,
+                steps: steps + opening,
+            });
+        }
+        if factor == 0 {
+            return None;
+        }
+        factor = 0;
     }
 }
 
 impl Firsts {
-    /// At how many places from one on none of the bytes stands; at most so many.
+    /// At how many places from one on the next two bytes have another number; at most so many. The last byte is never
+    /// passed.
     #[inline(never)]
     fn missing_for(&self, bytes: &[u8], from: usize, limit: usize) -> usize
         requires { from + limit ≤ length bytes.now }
         ensures limit { result ≤ limit }
+        ensures within { 0 < result → from + result < length bytes.now }
         ensures others { (ws : List ℕ) → self.now.set ≡ flags_of ws → (c : ℕ) → from ≤ c → c < from + result
-            → is_in_set ws (get_or bytes.now c 0) ≡ false }
+            → is_in_set ws (key_of (get_or bytes.now c 0) (get_or bytes.now (c + 1) 0) self.now.factor) ≡ false }
     {
-        bytes_before(&bytes[from..from + limit], &self.set)
+        let to = (from + limit).min(bytes.len().saturating_sub(1));
+        if from >= to {
+            return 0;
+        }
+        let mut at = from;
+        while at < to && !self.set.has(key_of(bytes[at], bytes[at + 1], self.factor)) {
+            at += 1;
+        }
+        at - from
     }
 }
 
@@ -222,66 +212,19 @@ fn pass_others(
     }
 }
 
-/// In how many steps the first attempt of a start fails, if a look shows that it does, and 0 else; at most so many.
+/// In how many steps a start fails, if a look shows that it does, and 0 else; at most so many.
 #[inline(always)]
-fn fails_from(bytes: &[u8], instrs: &[Instr], start: usize, most: u64) -> u64
+fn fails_from(bytes: &[u8], instrs: &[Instr], start: usize, bound: u64) -> u64
     requires { start ≤ length bytes.now }
-    ensures fails { 0 < result → FailsAt bytes.now (code_of instrs.now) [] 0 start result }
-    ensures most { result ≤ most }
+    ensures fails { 0 < result → StartFails bytes.now (code_of instrs.now) start result }
+    ensures bound { result ≤ bound }
 {
     let (place, opening) = front(instrs);
-    if most <= opening {
+    if bound <= opening + 1 {
         return 0;
     }
-    let fails = fails_at(bytes, instrs, None, place, start, most - opening);
-    if fails > 0 { fails + opening } else { 0 }
-}
-
-/// Past one start, if a look shows that the match fails from there.
-#[inline(always)]
-fn pass_one(bytes: &[u8], instrs: &[Instr], start: usize, left: usize, bound: u64) -> Passed
-    requires starts { start + left ≤ length bytes.now }
-    ensures { ArePassed bytes.now (code_of instrs.now) start left bound result }
-{
-    if left == 0 || bound == 0 {
-        return none_passed();
-    }
-    let fails = fails_from(bytes, instrs, start, bound - 1);
-    if fails == 0 {
-        return none_passed();
-    }
-    Passed {
-        starts: 1,
-        steps: fails + 1,
-    }
-}
-
-/// Past starts that a filter, if there is one, or a look shows to fail.
-#[inline(always)]
-fn pass_some(
-    bytes: &[u8],
-    instrs: &[Instr],
-    filter: &Option<Firsts>,
-    start: usize,
-    left: usize,
-    bound: u64,
-) -> Passed
-    requires firsts { IfSome filter.now (λ firsts. AreFirsts (code_of instrs.now) firsts) }
-    requires starts { start + left ≤ length bytes.now }
-    ensures { ArePassed bytes.now (code_of instrs.now) start left bound result }
-{
-    let others = pass_others(bytes, instrs, filter, start, left, bound);
-    let next = pass_one(
-        bytes,
-        instrs,
-        start + others.starts,
-        left - others.starts,
-        bound - others.steps,
-    );
-    Passed {
-        starts: others.starts + next.starts,
-        steps: others.steps + next.steps,
-    }
+    let fails = fails_at(bytes, instrs, None, place, start, bound - opening - 1);
+    if fails > 0 { fails + opening + 1 } else { 0 }
 }
 
 /// Past starts of code with an alternation in front, as looks and the bytes show that it may begin with.
@@ -290,13 +233,17 @@ fn pass_alternation(bytes: &[u8], instrs: &[Instr], start: usize, left: usize, b
     requires starts { start + left ≤ length bytes.now }
     ensures { ArePassed bytes.now (code_of instrs.now) start left bound result }
 {
-    let mut passed = pass_one(bytes, instrs, start, left, bound);
-    if passed.starts == 0 {
-        return passed;
+    let first = fails_from(bytes, instrs, start, bound);
+    if left == 0 || first == 0 {
+        return none_passed();
     }
     let filter = firsts_of(instrs, left);
+    let mut passed = Passed {
+        starts: 1,
+        steps: first,
+    };
     while passed.starts < left {
-        let more = pass_some(
+        let others = pass_others(
             bytes,
             instrs,
             &filter,
@@ -304,12 +251,20 @@ fn pass_alternation(bytes: &[u8], instrs: &[Instr], start: usize, left: usize, b
             left - passed.starts,
             bound - passed.steps,
         );
-        if more.starts == 0 {
+        passed = Passed {
+            starts: passed.starts + others.starts,
+            steps: passed.steps + others.steps,
+        };
+        if passed.starts == left {
+            return passed;
+        }
+        let next = fails_from(bytes, instrs, start + passed.starts, bound - passed.steps);
+        if next == 0 {
             return passed;
         }
         passed = Passed {
-            starts: passed.starts + more.starts,
-            steps: passed.steps + more.steps,
+            starts: passed.starts + 1,
+            steps: passed.steps + next,
         };
     }
     passed
@@ -336,9 +291,5 @@ pub fn lost_from(bytes: &[u8], code: &PatCode, start: usize, bound: u64) -> u64
     ensures lost { 0 < result → Leads bytes.now code.now result (Starting start 0 []) (Over Lost) }
     ensures bound { result ≤ bound }
 {
-    if bound == 0 {
-        return 0;
-    }
-    let fails = fails_from(bytes, code.as_slice(), start, bound - 1);
-    if fails > 0 { fails + 1 } else { 0 }
+    fails_from(bytes, code.as_slice(), start, bound)
 }

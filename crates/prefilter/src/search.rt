@@ -1,6 +1,6 @@
 //! A search for a literal.
 
-ghost use Rattle.std.specs.Prelude.{◌≡◌, ◌≢◌, ◌+◌, ◌<◌, ◌≤◌, ◌==◌, ℕ, true, length, get_or};
+ghost use Rattle.std.specs.Prelude.{◌≡◌, ◌≢◌, ◌+◌, ◌<◌, ◌≤◌, ◌==◌, ℕ, length, get_or};
 ghost use Rattle.std.specs.Prelude.{count_by, count_ones, drop, take};
 ghost use Rattle.std.specs.Int.{bit_at};
 ghost use Rattle.model.specs.Pattern.Patterns as p;
@@ -18,7 +18,7 @@ const TRIES: usize = 4;
 
 // The bits of those of the sixteen places from `at` on where a byte stands.
 #[inline(always)]
-fn places_of(bytes: &[u8], at: usize, byte: u8) -> u64
+pub fn places_of(bytes: &[u8], at: usize, byte: u8) -> u64
     requires { at + 16 ≤ length bytes.now }
     ensures bits { (k : ℕ) → k < 16 → get_or bytes.now (at + k) 0 ≡ byte → bit_at result k ≡ 1 }
     ensures ones { count_ones result ≡ count_by (λ b. b == byte) (take 16 (drop at bytes.now)) }
@@ -39,16 +39,6 @@ fn pair_free(bytes: &[u8], at: usize, skip: usize, gap: usize, first: u8, last: 
 {
     let pairs = places_of(bytes, at, first) & places_of(bytes, at + gap, last);
     ((pairs >> skip).trailing_zeros() as usize).min(WIDE - skip)
-}
-
-/// How many of the sixteen bytes from `at` on are this one.
-#[inline(always)]
-pub fn count_of(bytes: &[u8], at: usize, byte: u8) -> usize
-    requires { at + 16 ≤ length bytes.now }
-    ensures count { result ≡ count_by (λ b. b == byte) (take 16 (drop at bytes.now)) }
-    ensures few { result ≤ 16 }
-{
-    places_of(bytes, at, byte).count_ones() as usize
 }
 
 // The first place from one on, below another, where a byte stands with another so far after it; the other where none
@@ -99,23 +89,8 @@ fn ends_fail_for(subject: &[u8], from: usize, limit: usize, text: &[u8]) -> usiz
     if at == to { limit } else { at - from }
 }
 
-// At how many places from here on a literal doesn't stand, as a search for the whole of it shows; at most so many.
-#[inline(never)]
-fn text_fails_for(subject: &[u8], from: usize, limit: usize, text: &[u8]) -> usize
-    requires { from + limit ≤ length subject.now }
-    ensures fails { FailsFrom subject.now (p.Lit text.now) from result }
-    ensures limit { result ≤ limit }
-{
-    let room = subject.len() - from;
-    let far = limit.saturating_add(text.len()).min(room);
-    match memmem::find(&subject[from..from + far], text) {
-        Some(at) => at.min(limit),
-        None => limit,
-    }
-}
-
 // At how many places a literal doesn't stand, behind so many that are known: as a look at the whole shows where both
-// ends stand, and after a few of these a search.
+// ends stand, and after a few of these a search for the whole.
 #[inline(never)]
 fn whole_fails_for(subject: &[u8], from: usize, limit: usize, behind: usize, text: &[u8]) -> usize
     requires within { from + limit ≤ length subject.now }
@@ -137,7 +112,14 @@ fn whole_fails_for(subject: &[u8], from: usize, limit: usize, behind: usize, tex
         }
         tries -= 1;
     }
-    passed + text_fails_for(subject, from + passed, limit - passed, text)
+    let at = from + passed;
+    let far = (limit - passed)
+        .saturating_add(text.len())
+        .min(subject.len() - at);
+    match memmem::find(&subject[at..at + far], text) {
+        Some(more) => passed + more.min(limit - passed),
+        None => limit,
+    }
 }
 
 /// At how many places from here on a literal doesn't stand, as a search for it shows; at most so many.

@@ -1,4 +1,5 @@
-use Rattle.prefilter.proofs.Misses.{fails_pos}
+use Rattle.std.proofs.Common.{arith}
+use Rattle.prefilter.proofs.Misses.{fails_break, fails_pos, fails_rpos}
 use Rattle.prefilter.proofs.ManyStarts.{fails_any, fails_not_any, fails_span}
 use Rattle.prefilter.proofs.ends.fails_for.Goals as goal
 
@@ -16,3 +17,13 @@ returns-in-Span-clause-fails c =
 pub returns-in-Pos-clause-fails : goal.returns-in-Pos-clause-fails
 returns-in-Pos-clause-fails c =
     rw c.in-Pos.is (λ k l m. fails_pos c.args.subject.now c.in-Pos.n k (c.places_beside.ensures.others k l m))
+
+pub returns-in-RPos-2-clause-fails : goal.returns-in-RPos-2-clause-fails
+returns-in-RPos-2-clause-fails c =
+    rw c.in-RPos-2.is (λ k l m. fails_rpos c.args.subject.now c.in-RPos-2.n k (omega (arith, c.places_beside-in-RPos-2.ensures.others k l m)))
+
+pub returns-in-Break-clause-fails : goal.returns-in-Break-clause-fails
+returns-in-Break-clause-fails c =
+    rw c.in-Break.is
+    (fails_break c.args.subject.now _ c.args.from c.args.limit c.break_len-then-from-gt0.result c.requires c.break_len-then-from-gt0.ensures.value
+    (omega (arith, c.if-from-break_len.true)))

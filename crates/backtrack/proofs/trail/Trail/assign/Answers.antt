@@ -4,17 +4,17 @@ use Rattle.backtrack.specs.Logs.{chain, assigned}
 use Rattle.backtrack.proofs.Chains.{more_pending}
 use Rattle.backtrack.proofs.trail.Trail.assign.Goals as goal
 
-pub invariant_of-self : goal.invariant_of-self
-invariant_of-self c =
+pub invariant_of-self-2 : goal.invariant_of-self-2
+invariant_of-self-2 c =
     record {
-      marks = rw c.push_reserved.ensures.items (more_pending _ _ _ _ _ c.self.invariant.marks).marks;
+      marks = rw c.in_ok-push.ensures.items (more_pending _ _ _ _ _ c.self.invariant.marks).marks;
       stored = c.self.invariant.stored;
     }
 
 pub returns : goal.returns
 returns c =
     let a = c.self.inside in
-    rw (c.push_reserved.ensures.items, ← c.self.view_is)
+    rw (c.in_ok-push.ensures.items, ← c.self.view_is)
     (λ i. record {
       code = a.code;
       notes = chain (reverse a.log.items) a.head;

@@ -2,7 +2,7 @@ use Rattle.std.proofs.Common.{◌≡◌, ◌∙◌, ◌-◌, ◌≤◌, List, ap
 use Rattle.std.specs.Prelude.{Some, slice_get}
 use Rattle.backtrack.specs.Choices.{Choice}
 use Rattle.backtrack.specs.Logs.{Logs, Marks, logs_of}
-use Rattle.backtrack.proofs.Chains.{newest_marks, newest_here}
+use Rattle.backtrack.proofs.Chains.{taken_marks, taken_here}
 use Rattle.backtrack.proofs.trail.Trail.retry.Goals as goal
 
 pub invariant_of-self : goal.invariant_of-self
@@ -18,7 +18,7 @@ invariant_of-self c =
     λ i. record { codes = a.codes.items; log = log i; pending = pending i } in
     record {
       marks = subst (λ (l : Logs). Marks l (reverse c.pop.new.self.items)) cut
-          (newest_marks (logs_of a) a.choices.items c.pop.new.self.items c.in-Some._choice x c.in-Some.ensures.items newest whole c.self.invariant.marks);
+          (taken_marks (logs_of a) a.choices.items c.pop.new.self.items c.in-Some._choice x c.in-Some.ensures.items newest whole c.self.invariant.marks);
       stored = c.self.invariant.stored;
     }
 
@@ -33,5 +33,5 @@ returns-clause-back c =
     let pending : take x.pending a.pending.items ≡ c.cut-2.new.list.items = ap (λ n. take n a.pending.items) (sym c.marks-marks.ensures.pending) ∙ sym c.cut-2.ensures in (
       x.place,
       rw (c.cursor-cursor.ensures, c.marks-marks.ensures.head, ← c.in-To.is, c.kept.ensures, ← log, ← pending, ← c.self.view_is)
-          (newest_here (logs_of a) a.choices.items c.pop.new.self.items c.in-Some._choice x a.code c.in-Some.ensures.items newest whole (c.self.invariant.stored c.if-not-self.false)),
+          (taken_here (logs_of a) a.choices.items c.pop.new.self.items c.in-Some._choice x a.code c.in-Some.ensures.items newest whole (c.self.invariant.stored c.if-not-self.false)),
     )

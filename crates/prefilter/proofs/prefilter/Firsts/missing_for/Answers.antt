@@ -1,6 +1,25 @@
-use Rattle.prefilter.proofs.Filters.{absent}
+use Rattle.std.proofs.Common.{◌≡◌, ◌∙◌, false, ap, sym, subst, arith, inl, inr}
+use Rattle.std.proofs.lemmas.Bool.{cases_lt}
+use Rattle.model.specs.Language.Strings.{has}
+use Rattle.model.specs.Pattern.BasicEnds.{is_in_set}
+use Rattle.pattern_compiler.proofs.Sets.{has-flags_of}
+use Rattle.prefilter.proofs.Filters.{key_here}
 use Rattle.prefilter.proofs.prefilter.Firsts.missing_for.Goals as goal
 
-pub returns-clause-others : goal.returns-clause-others
-returns-clause-others c = λ ws e k l m.
-    absent c.args.bytes.now ws c.args.from _ c.bytes_before.result (c.bytes_before.ensures.value ws e) k l m
+pub loop-at-preserved : goal.loop-at-preserved
+loop-at-preserved c =
+    let u = c.args.bytes.now in
+    let f = c.args.self.now.factor in
+    let at = c.loop-at.invariant in
+    record {
+      after = omega (arith, at.after);
+      before = omega (arith, c.loop-at-test.true);
+      others = λ ws e k l m. elim (cases_lt k c.loop-at.at) [
+        | inl n ↦ at.others ws e k l n
+        | inr n ↦
+            let here : c.loop-at.at ≡ k = omega (arith, m, n) in
+            let none : is_in_set ws (key_here u c.loop-at.at f) ≡ false =
+            sym (has-flags_of ws (key_here u c.loop-at.at f) (omega arith)) ∙ ap (λ fs. has fs (key_here u c.loop-at.at f)) (sym e) ∙ ap (has c.args.self.now.set) (sym c.key_of.ensures) ∙ sym c.has.ensures ∙ c.if-not-has.true in
+            subst (λ j. is_in_set ws (key_here u j f) ≡ false) here none
+      ];
+    }
