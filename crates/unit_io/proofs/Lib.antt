@@ -6,6 +6,7 @@ pub mod FirstLine
 pub mod Holding
 pub mod KnownSteps
 pub mod OpenSides
+pub mod ReadOn
 pub mod Serving
 pub mod ToldLines
 pub mod Untold

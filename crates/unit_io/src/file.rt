@@ -5,7 +5,7 @@ ghost use Rattle.std.specs.Prelude.{IfOk, IfErr, OnErr, OnOk, IsTrue, false, rep
 ghost use Rattle.std.specs.Io.KnownBytes.{Appends, Keeps};
 ghost use Rattle.model.specs.Language.Units.{IsCounted, Reads, Writes};
 ghost use Rattle.unit_io.specs.Counts.{failures_at, Same, SameBut, IfMemory, IfNoneFailed};
-ghost use Rattle.unit_io.specs.Files.{back_of, back_on, file_on, left_on, written_on};
+ghost use Rattle.unit_io.specs.Files.{back_of, back_on, file_on, left_on, standard, written_on};
 ghost use Rattle.unit_io.specs.Sides.{exposed, IsHandedOn, kept_by, left_by, TakesFirst, written_by};
 ghost use Rattle.unit_io.specs.Streams.{AppendsBeginning, HasNoFeed};
 ghost use Rattle.unit_io.specs.Ways.{any_may_fail, FailsNoMore, Reading, Writing};
@@ -301,6 +301,32 @@ fn next_input<R: Read, W: Write + Drop>(
     input.next_record()
 }
 
+// The first record that is left on a unit for which no file is given.
+fn take_standard<R: Read, W: Write + Drop>(
+    input: &mut LineReader<R>,
+    output: &mut LineWriter<W>,
+    unit: u8,
+) -> Result<Option<Text>, UnitFault>
+    ensures ok { IfOk result (λ got. TakesFirst got
+        (standard 5 (left_by R.remaining input.old) (Some []) unit)
+        (standard 5 (left_by R.remaining input.new) (Some []) unit)) }
+    ensures err { OnErr result (Keeps
+        (standard 5 (left_by R.remaining input.old) (Some []) unit)
+        (standard 5 (left_by R.remaining input.new) (Some []) unit)) }
+    ensures others { (u : ℕ) → u ≢ unit
+        → standard 5 (left_by R.remaining input.new) (Some []) u
+        ≡ standard 5 (left_by R.remaining input.old) (Some []) u }
+    ensures written { Keeps (written_by W.contents output.old) (written_by W.contents output.new) }
+    ensures handed_on { unit ≡ 5 → HasNoFeed input.old.held
+        → IsHandedOn (kept_by output.new) output.new.refused }
+{
+    if unit != 5 {
+        return Err(UnitFault::NotOpen);
+    }
+    hand_on(input, output);
+    next_input(input, output)
+}
+
 // The first record that is left on a unit.
 fn take<S: UnitSystem>(
     input: &mut LineReader<S::Input>,
@@ -329,11 +355,35 @@ fn take<S: UnitSystem>(
             return file.read_record();
         }
     }
-    if unit != 5 {
+    take_standard(input, output, unit)
+}
+
+// Writes a record to a unit for which no file is given.
+fn put_standard<W: Write + Drop>(
+    output: &mut LineWriter<W>,
+    unit: u8,
+    bytes: &[u8],
+) -> Result<(), UnitFault>
+    ensures ok { OnOk result (Appends
+        (standard 6 (written_by W.contents output.old) (Some []) unit)
+        (standard 6 (written_by W.contents output.new) (Some []) unit)
+        (bytes.now ++ 10 ∷ [])) }
+    ensures err { OnErr result (AppendsBeginning
+        (standard 6 (written_by W.contents output.old) (Some []) unit)
+        (standard 6 (written_by W.contents output.new) (Some []) unit)
+        (bytes.now ++ 10 ∷ [])) }
+    ensures memory { IfErr result (λ fault. IfMemory fault (Keeps
+        (standard 6 (written_by W.contents output.old) (Some []) unit)
+        (standard 6 (written_by W.contents output.new) (Some []) unit))) }
+    ensures others { (u : ℕ) → u ≢ unit
+        → standard 6 (written_by W.contents output.new) (Some []) u
+        ≡ standard 6 (written_by W.contents output.old) (Some []) u }
+    ensures sound { OnOk result (output.old.refused ≡ false) }
+{
+    if unit != 6 {
         return Err(UnitFault::NotOpen);
     }
-    hand_on(input, output);
-    next_input(input, output)
+    output.write_record(bytes)
 }
 
 // Writes a record to a unit.
@@ -368,10 +418,7 @@ fn put<S: UnitSystem>(
             return file.write_record(bytes);
         }
     }
-    if unit != 6 {
-        return Err(UnitFault::NotOpen);
-    }
-    output.write_record(bytes)
+    put_standard(output, unit, bytes)
 }
 
 // Writes what the file of a unit keeps back.

@@ -10,5 +10,5 @@ returns-in-Some-clause-err g c =
 
 pub returns-clause-err : goal.returns-clause-err
 returns-clause-err g c =
-    begins_as c.write_record-2.result _ _ _ _ (c.args.bytes.now ++ 10 ∷ [])
-    (first_of (search rules, grind (arith, common_steps))) (first_of (search rules, grind (arith, common_steps))) c.write_record-2.ensures.err
+    begins_as c.put_standard.result _ _ _ _ (c.args.bytes.now ++ 10 ∷ [])
+    (first_of (search rules, grind (arith, common_steps))) (first_of (search rules, grind (arith, common_steps))) c.put_standard.ensures.err
