@@ -119,7 +119,7 @@ release: build/sno build/sno_list build/snobol ## leave programs, manual pages, 
 test: toolchain ## the gate: every proof from nothing, must-fail edits, tests, programs, decks (last line 'N passed, M failed')
 	@echo "test: proving every crate from nothing; this takes many minutes (all lines go to build/log)"
 	@mkdir -p build && touch build/began
-	@RT_JOBS=$${RT_JOBS:-$$(tools/jobs)} tools/progress "$(RT) ci" "tools/wrong --texts" "tests/docs $(PROGRAM)/out/sno $(LISTER)/out/sno_list $(FOR_PEOPLE)/out/snobol" "tests/run $(BUILT)" $(COVERED) "tests/run --commands snobol $(BUILT_FOR_PEOPLE)" "tests/terminal $(FOR_PEOPLE)/out/snobol" "tests/ported $(FOR_PEOPLE)/out/snobol" "tests/reports $(FOR_PEOPLE)/out/snobol" "tests/pipe $(PROGRAM)/out/sno --list $(LISTER)/out/sno_list" "tests/load $(PROGRAM)/out/sno" "tests/batch $(PROGRAM)/out/sno" "tests/bound --decks 100 $(PROGRAM)/out/sno" "tests/ways $(BUILT)" $(FAULTS)
+	@RT_JOBS=$${RT_JOBS:-$$(tools/jobs)} tools/progress "tools/quick_rt ci" "tools/wrong --texts" "tests/docs $(PROGRAM)/out/sno $(LISTER)/out/sno_list $(FOR_PEOPLE)/out/snobol" "tests/run $(BUILT)" $(COVERED) "tests/run --commands snobol $(BUILT_FOR_PEOPLE)" "tests/terminal $(FOR_PEOPLE)/out/snobol" "tests/ported $(FOR_PEOPLE)/out/snobol" "tests/reports $(FOR_PEOPLE)/out/snobol" "tests/pipe $(PROGRAM)/out/sno --list $(LISTER)/out/sno_list" "tests/load $(PROGRAM)/out/sno" "tests/batch $(PROGRAM)/out/sno" "tests/bound --decks 100 $(PROGRAM)/out/sno" "tests/ways $(BUILT)" $(FAULTS)
 	@cp $(PROGRAM)/out/sno build/sno.new && touch -r build/began build/sno.new && mv build/sno.new build/sno
 
 decks: build/sno build/snobol ## the decks and commands of tests/ alone, on the proved programs
