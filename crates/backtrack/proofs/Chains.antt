@@ -5,17 +5,18 @@ use Rattle.std.proofs.Math.Seq.{drop-append_seam}
 use Rattle.std.specs.Prelude.{slice_get, get_or, drop, min}
 use Rattle.std.proofs.lemmas.Bool.{ne_eqb, ltb-true, ltb-false}
 use Rattle.std.proofs.lemmas.Bool.Decides.{eqb_tells}
-use Rattle.std.proofs.lemmas.List.{reverse-append, reverse-reverse, length-reverse, length-append, length-drop, length-take, take-append-le, take-append-drop, take_all}
+use Rattle.std.proofs.lemmas.List.{reverse-append, reverse-reverse, length-reverse, length-append, length-drop, length-take, take-append-le, take-append-drop, take_all, append-nil}
 use Rattle.std.proofs.lemmas.Option.{none-some, same_Some, slice_get_cases}
 use Rattle.model.specs.Pattern.Steps as s
 use Rattle.model.specs.Pattern.Steps.{Code}
 use Rattle.backtrack.specs.declared.assignment.Assignment.{Assignment}
 use Rattle.backtrack.specs.declared.trail.Entry.{Entry}
-use Rattle.backtrack.specs.Choices.{Choice}
+use Rattle.backtrack.specs.declared.trail.Trail.TheInside.{Inside}
+use Rattle.backtrack.specs.declared.way_back.Choice.{Choice}
 use Rattle.backtrack.specs.declared.way_back.WayBack.{WayBack}
 use Rattle.backtrack.specs.declared.way_back.WayBack.TheVariants as kept
-use Rattle.backtrack.specs.Standing.{Back, Standing, IsAtArb, IsOfCode, from_kept, no_backs, oldest}
-use Rattle.backtrack.specs.Logs.{note_of, pending_of, chain, last_code, Logs, cut, back_of, backs, Marks}
+use Rattle.backtrack.specs.Standing.{Back, Standing, IsAtArb, IsOfCode, from_kept, no_backs, oldest, with_choice}
+use Rattle.backtrack.specs.Logs.{IsChoice, kept_by, note_of, pending_of, chain, last_code, Logs, logs_of, standing, cut, back_of, backs, Marks}
 
 -- ---- lists of notes
 pub chain_top : (e : Entry) (es : List Entry) (h : ℕ) → h ≡ suc (length es) → chain (e ∷ es) h ≡ note_of e.note ∷ chain es e.below
@@ -191,6 +192,42 @@ keep_backs cs cs' more log ps xs xs' x e f c n p m =
     ∙ ap (λ (k : List Code). back_of l x ∷ backs (record { codes = k; log = log; pending = ps }) (reverse xs)) e
     ∙ ap (λ (bs : List Back). back_of l x ∷ bs) (more_codes cs more log ps (reverse xs) m).backs
 
+-- the code is the last of the codes, and all else as it was
+pub record IsReady (a b : Inside) : Type 0 where
+  pub code : b.code ≡ a.code
+  pub head : b.head ≡ a.head
+  pub log : b.log.items ≡ a.log.items
+  pub pending : b.pending.items ≡ a.pending.items
+  pub choices : b.choices.items ≡ a.choices.items
+  pub more : (cs : List Code) × (b.codes.items ≡ a.codes.items ++ cs)
+  pub last : last_code b.codes.items ≡ a.code
+
+pub ready_now : (a : Inside) → last_code a.codes.items ≡ a.code → IsReady a a
+ready_now a last =
+    record { code = refl; head = refl; log = refl; pending = refl; choices = refl; more = ([], sym (append-nil a.codes.items)); last = last }
+
+pub ready_marks : (a b : Inside) → IsReady a b → Marks (logs_of a) (reverse a.choices.items) → Marks (logs_of b) (reverse b.choices.items)
+ready_marks a b r m =
+    rw (r.log, r.pending, r.choices, r.more.1) (more_codes a.codes.items r.more.0 a.log.items a.pending.items (reverse a.choices.items) m).marks
+
+-- with a choice more
+module _ (a b : Inside) (r : IsReady a b) (x : Choice) (xs : List Choice) (k : WayBack) (q c h j i : ℕ) (new : IsChoice x k q c b.head (h, j, i)) (is : xs ≡ b.choices.items ++ x ∷ []) (l : h ≡ length b.log.items) (p : j ≡ length b.pending.items) (n : i ≡ length b.codes.items) (m : Marks (logs_of a) (reverse a.choices.items)) where
+  all : xs ≡ a.choices.items ++ x ∷ []
+  all = is ∙ ap (λ ys. ys ++ x ∷ []) r.choices
+
+  pub kept_marks : Marks (logs_of b) (reverse xs)
+  kept_marks =
+      rw (r.log, r.pending) (keep_marks a.codes.items b.codes.items r.more.0 a.log.items a.pending.items a.choices.items xs x r.more.1 all (new.codes ∙ n) (new.log ∙ l ∙ ap length r.log) (new.pending ∙ p ∙ ap length r.pending) m)
+
+  pub kept_standing : record { code = b.code; notes = chain (reverse b.log.items) b.head; pending = pending_of b.pending.items; backs = backs (logs_of b) (reverse xs) } ≡ with_choice (standing a) k q c
+  kept_standing =
+      let newest : back_of (record { codes = b.codes.items; log = a.log.items; pending = a.pending.items }) x ≡ record { kept = k; thread = record { code = a.code; place = q; cursor = c; notes = chain (reverse a.log.items) a.head; pending = pending_of a.pending.items } } =
+      λ t. record { kept = new.kept t; thread = record { code = r.last t; place = new.place t; cursor = new.cursor t; notes = chain (reverse a.log.items) ((new.head ∙ r.head) t); pending = pending_of a.pending.items } } in
+      let backs_are : backs (record { codes = b.codes.items; log = a.log.items; pending = a.pending.items }) (reverse xs) ≡ (with_choice (standing a) k q c).backs =
+      keep_backs a.codes.items b.codes.items r.more.0 a.log.items a.pending.items a.choices.items xs x r.more.1 all (new.codes ∙ n) (new.log ∙ l ∙ ap length r.log) (new.pending ∙ p ∙ ap length r.pending) m ∙ ap (λ (y : Back). y ∷ backs (logs_of a) (reverse a.choices.items)) newest in
+      rw (r.code, r.head, r.log, r.pending)
+      (λ t. record { code = a.code; notes = chain (reverse a.log.items) a.head; pending = pending_of a.pending.items; backs = backs_are t })
+
 no_backs_of : (l : Logs) (xs : List Choice) → no_backs (backs l xs) ≡ eqb (length xs) 0
 no_backs_of l [] = refl
 no_backs_of l (x ∷ xs) = sym (eqb-suc-zero (length xs))
@@ -229,7 +266,7 @@ here_is l xs x code h e = subst (IsOfCode code) (sym (newest_of l xs x h).1) e
 pub code_is : (l : Logs) (xs : List Choice) (x : Choice) (code : Code) → slice_get xs (length xs - 1) ≡ Some x → IsOfCode code (backs l (reverse xs)) → last_code (take x.codes l.codes) ≡ code
 code_is l xs x code h e = subst (IsOfCode code) (newest_of l xs x h).1 e
 
-pub at_arb : (l : Logs) (xs : List Choice) (x : Choice) (e : ℕ) (st : Standing) → slice_get xs (length xs - 1) ≡ Some x → x.kept ≡ kept.Arb e → last_code (take x.codes l.codes) ≡ st.code → st.backs ≡ backs l (reverse xs) → IsAtArb st x.place e
+pub at_arb : (l : Logs) (xs : List Choice) (x : Choice) (e : ℕ) (st : Standing) → slice_get xs (length xs - 1) ≡ Some x → kept_by x.kind x.target ≡ kept.Arb e → last_code (take x.codes l.codes) ≡ st.code → st.backs ≡ backs l (reverse xs) → IsAtArb st x.place e
 at_arb l xs x e st h k c b =
     let t : s.Thread = (back_of (cut l x) x).thread in
     let newest = newest_of l xs x h in
@@ -327,37 +364,14 @@ rewound l xs x h all =
     cut_same l (cut_here l x) xs x h (cut_here_is l x) m.0 (omega (arith, log, m.1)) (omega (arith, pending, m.2)) all
 
 pub rewound_to : (l : Logs) (xs : List Choice) (x : Choice) (code : Code) → slice_get xs (length xs - 1) ≡ Some x → IsOfCode code (backs l (reverse xs))
-    → (bs : List Back) × (backs (cut_here l x) (reverse xs) ≡ record { kept = x.kept; thread = record { code = code; place = x.place; cursor = x.cursor; notes = chain (reverse (take x.log l.log)) x.head; pending = pending_of (take x.pending l.pending) } } ∷ bs)
+    → (bs : List Back) × (backs (cut_here l x) (reverse xs) ≡ record { kept = kept_by x.kind x.target; thread = record { code = code; place = x.place; cursor = x.cursor; notes = chain (reverse (take x.log l.log)) x.head; pending = pending_of (take x.pending l.pending) } } ∷ bs)
 rewound_to l xs x code h here =
     let newest = newest_of (cut_here l x) xs x h in
     let bs : List Back = backs (cut (cut_here l x) x) newest.0 in (
       bs,
       newest.1 ∙ ap (λ (k : Logs). back_of k x ∷ bs) (cut_here_is l x)
-          ∙ ap (λ (code' : Code). let all : List Back = record { kept = x.kept; thread = record { code = code'; place = x.place; cursor = x.cursor; notes = chain (reverse (take x.log l.log)) x.head; pending = pending_of (take x.pending l.pending) } } ∷ bs in all) (code_is l xs x code h here),
+          ∙ ap (λ (code' : Code). let all : List Back = record { kept = kept_by x.kind x.target; thread = record { code = code'; place = x.place; cursor = x.cursor; notes = chain (reverse (take x.log l.log)) x.head; pending = pending_of (take x.pending l.pending) } } ∷ bs in all) (code_is l xs x code h here),
     )
-
--- the newest is the one that is taken off
-newest_is : (xs rest : List Choice) (x y : Choice) → xs ≡ rest ++ x ∷ [] → slice_get xs (length xs - 1) ≡ Some y → y ≡ x
-newest_is xs rest x y e h =
-    same (get_push rest x y (length xs - 1) (ap (λ (zs : List Choice). slice_get zs (length xs - 1)) (sym e) ∙ h))
-  where
-    same : ((slice_get rest (length xs - 1) ≡ Some y) × (length xs - 1 < length rest)) ⊎ ((length xs - 1 ≡ length rest) × (x ≡ y)) → y ≡ x
-    same (inl (g, l)) = absurd (omega (arith, l, ap length e ∙ length-append rest (x ∷ [])))
-    same (inr (g, z)) = sym z
-
-pub taken_marks : (l : Logs) (xs rest : List Choice) (x y : Choice) → xs ≡ rest ++ x ∷ [] → slice_get xs (length xs - 1) ≡ Some y → length l.codes ≤ y.codes → Marks l (reverse xs) → Marks (record { codes = l.codes; log = take y.log l.log; pending = take y.pending l.pending }) (reverse rest)
-taken_marks l xs rest x y e h c m =
-    let below : Marks (cut l x) (reverse rest) = (subst (Marks l) (ap reverse e ∙ reverse-append rest (x ∷ [])) m).3 in
-    let same : cut l x ≡ cut_here l y = ap (cut l) (sym (newest_is xs rest x y e h)) ∙ ap (λ cs. let logs : Logs = record { codes = cs; log = take y.log l.log; pending = take y.pending l.pending } in logs) (take_all y.codes l.codes c) in
-    subst (λ k. Marks k (reverse rest)) same below
-
-pub taken_here : (l : Logs) (xs rest : List Choice) (x y : Choice) (code : Code) → xs ≡ rest ++ x ∷ [] → slice_get xs (length xs - 1) ≡ Some y → length l.codes ≤ y.codes → last_code l.codes ≡ code → backs l (reverse xs) ≡ record { kept = y.kept; thread = record { code = code; place = y.place; cursor = y.cursor; notes = chain (reverse (take y.log l.log)) y.head; pending = pending_of (take y.pending l.pending) } } ∷ backs (record { codes = l.codes; log = take y.log l.log; pending = take y.pending l.pending }) (reverse rest)
-taken_here l xs rest x y code e h c k =
-    let same : cut l y ≡ cut_here l y = ap (λ cs. let logs : Logs = record { codes = cs; log = take y.log l.log; pending = take y.pending l.pending } in logs) (take_all y.codes l.codes c) in
-    ap (backs l) (ap reverse e ∙ reverse-append rest (x ∷ []))
-    ∙ ap (λ z. back_of (cut l z) z ∷ backs (cut l z) (reverse rest)) (sym (newest_is xs rest x y e h))
-    ∙ ap (λ (m : Logs). back_of m y ∷ backs m (reverse rest)) same
-    ∙ ap (λ (code' : Code). let bs : List Back = record { kept = y.kept; thread = record { code = code'; place = y.place; cursor = y.cursor; notes = chain (reverse (take y.log l.log)) y.head; pending = pending_of (take y.pending l.pending) } } ∷ backs (cut_here l y) (reverse rest) in bs) k
 
 -- the choices that are left of the k oldest
 oldest_choices : (k : ℕ) (xs : List Choice) → reverse (take k xs) ≡ drop (length xs - k) (reverse xs)

@@ -9,9 +9,31 @@ use Rattle.backtrack.specs.declared.assignment.Assignment.{Assignment}
 use Rattle.backtrack.specs.declared.trail.Note.{Note}
 use Rattle.backtrack.specs.declared.trail.Note.TheVariants as note
 use Rattle.backtrack.specs.declared.trail.Entry.{Entry}
-use Rattle.backtrack.specs.Choices.{Choice}
+use Rattle.backtrack.specs.declared.way_back.Choice.{Choice}
+use Rattle.backtrack.specs.declared.way_back.Kind.{Kind}
+use Rattle.backtrack.specs.declared.way_back.Kind.TheVariants as kind
+use Rattle.backtrack.specs.declared.way_back.WayBack.{WayBack}
+use Rattle.backtrack.specs.declared.way_back.WayBack.TheVariants as kept
 use Rattle.backtrack.specs.declared.trail.Trail.TheInside.{Inside}
 use Rattle.backtrack.specs.Standing.{Standing, Back}
+
+-- what is gone back to, by its kind and its number
+abbrev pub kept_by : Kind → ℕ → WayBack
+kept_by kind.To n = kept.To n
+kept_by kind.Arb n = kept.Arb n
+kept_by kind.Bal n = kept.Bal n
+kept_by kind.Again n = kept.Again
+kept_by kind.Quit n = kept.Quit
+
+-- a choice of this, with the list of notes and the lengths of the logs
+pub record IsChoice (x : Choice) (k : WayBack) (q c h : ℕ) (lengths : ℕ × ℕ × ℕ) : Type 0 where
+  pub kept : kept_by x.kind x.target ≡ k
+  pub place : x.place ≡ q
+  pub cursor : x.cursor ≡ c
+  pub head : x.head ≡ h
+  pub log : x.log ≡ lengths.0
+  pub pending : x.pending ≡ lengths.1
+  pub codes : x.codes ≡ lengths.2
 
 abbrev pub assigned : Assignment → target.Name × List ℕ
 assigned x = (name_of x.name, x.value)
@@ -45,7 +67,7 @@ cut l x = record { codes = take x.codes l.codes; log = take x.log l.log; pending
 -- a choice with its copy of the attempt, of the logs cut to it
 abbrev pub back_of : Logs → Choice → Back
 back_of l x =
-    record { kept = x.kept; thread = record { code = last_code l.codes; place = x.place; cursor = x.cursor; notes = chain (reverse l.log) x.head; pending = pending_of l.pending } }
+    record { kept = kept_by x.kind x.target; thread = record { code = last_code l.codes; place = x.place; cursor = x.cursor; notes = chain (reverse l.log) x.head; pending = pending_of l.pending } }
 
 -- the choices, the newest first, each of the logs cut to it
 abbrev pub backs : Logs → List Choice → List Back

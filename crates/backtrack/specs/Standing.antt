@@ -1,5 +1,6 @@
 -- Where an attempt stands, and what is gone back to.
-use Rattle.std.specs.Prelude.{◌≡◌, ℕ, ◌-◌, List, [], ◌∷◌, length, drop, Option, Some, None, Bool, true, false}
+use Rattle.std.specs.Prelude.{◌≡◌, ℕ, ◌-◌, List, [], ◌∷◌, ◌++◌, length, drop, Option, Some, None, Bool, true, false}
+use Rattle.model.specs.Deck.Target as target
 use Rattle.model.specs.Pattern.Patterns.{Pending}
 use Rattle.model.specs.Pattern.Steps as s
 use Rattle.backtrack.specs.declared.way_back.WayBack.{WayBack}
@@ -16,6 +17,22 @@ pub record Standing : Type 0 where
   pub notes : List s.Note
   pub pending : Pending
   pub backs : List Back
+
+-- the code alone
+abbrev pub bare : s.Code → Standing
+bare code = record { code = code; notes = []; pending = []; backs = [] }
+
+-- with a note more
+abbrev pub noted : s.Note → Standing → Standing
+noted n x = record x { notes = n ∷ x.notes }
+
+-- in other code, behind which its own goes on at the place q
+abbrev pub entered : s.Code → ℕ → Standing → Standing
+entered code q x = record x { code = code; notes = s.Left x.code q ∷ x.notes }
+
+-- with a pending assignment more
+abbrev pub assigning : target.Name × List ℕ → Standing → Standing
+assigning a x = record x { pending = x.pending ++ a ∷ [] }
 
 -- with a choice more, of an attempt at the place q and the cursor c
 abbrev pub with_choice : Standing → WayBack → (q c : ℕ) → Standing

@@ -1,7 +1,8 @@
 //! The trail of a match: where the attempt under way stands, and the choices that are gone back to.
 //!
-//! `Trail` has the attempt's code, its notes and its pending assignments, and a stack of choices. `keep` keeps one more;
-//! `rewind` goes back to the newest.
+//! `Trail` has the attempt's code, its notes and its pending assignments, and a stack of choices. `keep` keeps one more.
+//! `retry` goes back to the newest if it is an alternative in the code under way. `recover` makes the code of the newest
+//! the one under way; then `rewind` goes back to it, whatever it is.
 //!
 //!     let mut trail = Trail::new(alloc);
 //!     trail.begin(&code)?;
@@ -14,7 +15,6 @@
 #![tactic(auto)]
 
 mod assignment;
-mod choice;
 mod trail;
 mod way_back;
 

@@ -1,17 +1,12 @@
 //! Where the attempt under way stands, and the choices that are gone back to.
 
-ghost use Rattle.std.specs.Prelude.{◌≡◌, ◌∷◌, ◌++◌, ℕ, List, [], true, false, Bool, IfOk, IfSome, OnOk, OnErr};
-ghost use Rattle.std.specs.Prelude.{MatchOption, length, reverse, take, Some, None, option_copied};
-ghost use Rattle.std.specs.Prelude.{if◌then◌else◌};
+ghost use Rattle.std.specs.Prelude.{◌≡◌, ◌∷◌, List, [], true, false, IfOk, IfSome, OnOk, length, reverse, take, Some, None};
 ghost use Rattle.model.specs.Pattern.Steps as s;
-ghost use Rattle.model.specs.Pattern.Steps.{Code};
-ghost use Rattle.model.specs.Pattern.Patterns.{Pending};
-ghost use Rattle.backtrack.specs.Standing.{Standing, inside, opened, unopened, fenced, with_choice, no_backs, IsUnfenced, IsAtArb, IsHere, IsKeptAt, IsOpen, IsRetried, from_kept};
+ghost use Rattle.backtrack.specs.Standing.{Standing, bare, noted, entered, assigning, inside, opened, unopened, fenced, with_choice, no_backs, IsUnfenced, IsAtArb, IsHere, IsKeptAt, IsOpen, IsRetried, from_kept};
 ghost use Rattle.backtrack.specs.Logs.{assigned, pending_of, note_of, chain, last_code};
 
 use crate::assignment::Assignment;
-use crate::choice::{Choice, Marks};
-use crate::way_back::WayBack;
+use crate::way_back::{Choice, Kind, WayBack, parts};
 use pattern_compiler::PatCode;
 use std::alloc::{AllocError, Global};
 use std::marker::Model;
@@ -65,7 +60,7 @@ impl Model for Trail {
 impl Trail {
     /// Nothing. Takes no memory.
     pub fn new(alloc: Global) -> Trail
-        ensures { result ≡ record { code = []; notes = []; pending = []; backs = [] } }
+        ensures { result ≡ bare [] }
     {
         Trail {
             code: PatCode::null(),
@@ -105,7 +100,7 @@ impl Trail {
     /// Without notes, pending assignments and choices.
     #[inline(always)]
     fn strip(&mut self)
-        ensures { self.new ≡ record { code = self.old.code; notes = []; pending = []; backs = [] } }
+        ensures { self.new ≡ bare self.old.code }
     {
         let is_bare = self.log.is_empty()
             && self.pending.is_empty()
@@ -120,7 +115,7 @@ impl Trail {
     /// short.
     #[inline(never)]
     fn empty_lists(&mut self)
-        ensures { self.new ≡ record { code = self.old.code; notes = []; pending = []; backs = [] } }
+        ensures { self.new ≡ bare self.old.code }
     {
         self.stored = false;
         self.head = 0;
@@ -133,8 +128,7 @@ impl Trail {
     /// The first attempt of a start.
     #[inline(always)]
     pub fn begin(&mut self, code: &PatCode) -> Result<(), AllocError>
-        ensures { OnOk result
-            (self.new ≡ record { code = code.now; notes = []; pending = []; backs = [] }) }
+        ensures { OnOk result (self.new ≡ bare code.now) }
     {
         self.strip();
         self.code = code.clone()?;
@@ -145,7 +139,7 @@ impl Trail {
     /// Nothing again. The memory of its lists stays for others, but for that of long ones.
     #[inline(always)]
     pub fn clear(&mut self, alloc: Global)
-        ensures { self.new ≡ record { code = []; notes = []; pending = []; backs = [] } }
+        ensures { self.new ≡ bare [] }
     {
         let shorter = self.choices.capacity() | self.codes.capacity();
         let longer = self.log.capacity() | self.pending.capacity();
@@ -159,8 +153,7 @@ impl Trail {
 
     /// Adds a note.
     fn add(&mut self, note: Note) -> Result<(), AllocError>
-        ensures { OnOk result
-            (self.new ≡ record self.old { notes = note_of note ∷ self.old.notes }) }
+        ensures { OnOk result (self.new ≡ noted (note_of note) self.old) }
     {
         let below = self.head;
         self.log.push(Entry { note, below })?;
@@ -170,8 +163,7 @@ impl Trail {
 
     /// Notes a cursor.
     pub fn open(&mut self, cursor: usize) -> Result<(), AllocError>
-        ensures { OnOk result
-            (self.new ≡ record self.old { notes = s.Opened cursor ∷ self.old.notes }) }
+        ensures { OnOk result (self.new ≡ noted (s.Opened cursor) self.old) }
     {
         self.add(Note::Opened(cursor))
     }
@@ -194,11 +186,7 @@ impl Trail {
     /// Notes how many choices there are. Apart, so that each instruction is short.
     #[inline(never)]
     pub fn open_fence(&mut self) -> Result<(), AllocError>
-        ensures { OnOk result
-            (self.new ≡ record self.old {
-              notes = s.Fenced
-                  (length self.old.backs) ∷ self.old.notes;
-            }) }
+        ensures { OnOk result (self.new ≡ noted (s.Fenced (length self.old.backs)) self.old) }
     {
         let count = self.choices.len();
         self.add(Note::Fenced(count))
@@ -222,11 +210,7 @@ impl Trail {
 
     /// Into a pattern, which goes on at the place.
     pub fn enter(&mut self, code: PatCode, after: usize) -> Result<(), AllocError>
-        ensures { OnOk result
-            (self.new ≡ record self.old {
-              code = code;
-              notes = s.Left self.old.code after ∷ self.old.notes;
-            }) }
+        ensures { OnOk result (self.new ≡ entered code after self.old) }
     {
         let left = mem::replace(&mut self.code, code);
         self.stored = false;
@@ -247,11 +231,7 @@ impl Trail {
 
     /// Out of the pattern that was entered last, if the newest note is that of one; the place where it goes on.
     pub fn leave(&mut self) -> Result<Option<usize>, AllocError>
-        ensures left { IfOk result (λ o. IfSome o (λ place.
-            self.old ≡ record self.new {
-              code = self.old.code;
-              notes = s.Left self.new.code place ∷ self.new.notes;
-            })) }
+        ensures left { IfOk result (λ o. IfSome o (λ place. self.old ≡ entered self.old.code place self.new)) }
         ensures none { IfOk result (λ o. o ≡ None → (inside self.old.notes ≡ false) × (self.new ≡ self.old)) }
     {
         match newest(self.log.as_slice(), self.head) {
@@ -269,11 +249,7 @@ impl Trail {
     /// A pending assignment more.
     #[inline(always)]
     pub fn assign(&mut self, assignment: Assignment) -> Result<(), AllocError>
-        ensures { OnOk result
-            (self.new ≡ record self.old {
-              pending = self.old.pending
-                  ++ assigned assignment ∷ [];
-            }) }
+        ensures { OnOk result (self.new ≡ assigning (assigned assignment) self.old) }
     {
         self.pending.push(assignment)?;
         Ok(())
@@ -295,13 +271,8 @@ impl Trail {
         if !self.stored || count >= room {
             return self.keep_growing(kept, place, cursor);
         }
-        let marks = Marks {
-            head: self.head,
-            log: self.log.len(),
-            pending: self.pending.len(),
-            codes: self.codes.len(),
-        };
-        let choice = Choice::new(kept, place, cursor, marks)?;
+        let lengths = (self.log.len(), self.pending.len(), self.codes.len());
+        let choice = Choice::new(kept, place, cursor, self.head, lengths)?;
         self.choices.push_reserved(choice);
         Ok(())
     }
@@ -313,15 +284,14 @@ impl Trail {
     fn keep_growing(&mut self, kept: WayBack, place: usize, cursor: usize) -> Result<(), AllocError>
         ensures { OnOk result (self.new ≡ with_choice self.old kept place cursor) }
     {
-        store(&self.code, self.stored, &mut self.codes)?;
-        self.stored = true;
-        let marks = Marks {
-            head: self.head,
-            log: self.log.len(),
-            pending: self.pending.len(),
-            codes: self.codes.len(),
-        };
-        self.choices.push(Choice::new(kept, place, cursor, marks)?)?;
+        if !self.stored {
+            let copy = self.code.clone()?;
+            self.codes.push(copy)?;
+            self.stored = true;
+        }
+        let lengths = (self.log.len(), self.pending.len(), self.codes.len());
+        let choice = Choice::new(kept, place, cursor, self.head, lengths)?;
+        self.choices.push(choice)?;
         Ok(())
     }
 
@@ -331,7 +301,7 @@ impl Trail {
         ensures { result ≡ true → IsHere self.now }
     {
         match self.choices.last() {
-            Some(choice) => self.stored && self.codes.len() <= choice.marks().codes,
+            Some(choice) => self.stored && self.codes.len() <= choice.codes as usize,
             None => false,
         }
     }
@@ -343,13 +313,7 @@ impl Trail {
     {
         let choice = self.choices.last()?;
         match choice.kept() {
-            WayBack::Arb(end) => {
-                if self.is_here() {
-                    Some((choice.place(), end))
-                } else {
-                    None
-                }
-            }
+            WayBack::Arb(end) if self.is_here() => Some((choice.place as usize, end)),
             _ => None,
         }
     }
@@ -361,10 +325,15 @@ impl Trail {
             (self.new ≡ record self.old { backs = from_kept kept self.old.backs }) }
         ensures code { self.new.code ≡ self.old.code }
     {
-        if let Some(choice) = self.choices.pop() {
+        if let Some(mut choice) = self.choices.pop() {
             if let Some(kept) = kept {
-                let next = Choice::new(kept, choice.place(), choice.cursor(), choice.marks())?;
-                self.choices.push_reserved(next);
+                let (kind, target) = parts(kept);
+                if target > u32::MAX as usize {
+                    return Err(AllocError);
+                }
+                choice.kind = kind;
+                choice.target = target as u32;
+                self.choices.push_reserved(choice);
             }
         }
         Ok(())
@@ -380,7 +349,7 @@ impl Trail {
             return Ok(());
         }
         if let Some(choice) = self.choices.last() {
-            let len = choice.marks().codes;
+            let len = choice.codes as usize;
             self.stored = false;
             self.code = cut_to_last(&mut self.codes, len)?;
             self.stored = true;
@@ -396,22 +365,15 @@ impl Trail {
         ensures code { self.new.code ≡ self.old.code }
         ensures none { result ≡ None → self.new ≡ self.old }
     {
-        let choice = self.choices.last()?;
-        let WayBack::To(place) = choice.kept() else {
+        let WayBack::To(place) = self.choices.last()?.kept() else {
             return None;
         };
-        let cursor = choice.cursor();
-        let marks = choice.marks();
-        if !self.stored || self.codes.len() > marks.codes {
+        if !self.is_here() {
             return None;
         }
-        self.head = marks.head;
-        cut(&mut self.log, marks.log);
-        cut(&mut self.pending, marks.pending);
-        match self.choices.pop() {
-            Some(_choice) => Some((place, cursor)),
-            None => unreachable!(),
-        }
+        let (_kept, _place, cursor) = self.rewind()?;
+        self.choices.pop();
+        Some((place, cursor))
     }
 
     /// Back to where the newest choice was kept, which is of the code under way, with the choice: what is gone back to,
@@ -425,19 +387,19 @@ impl Trail {
         ensures none { result ≡ None → self.old.backs ≡ [] }
     {
         let choice = self.choices.last()?;
-        let (kept, place, cursor) = (choice.kept(), choice.place(), choice.cursor());
-        let marks = choice.marks();
-        self.head = marks.head;
-        cut(&mut self.log, marks.log);
-        cut(&mut self.pending, marks.pending);
-        Some((kept, place, cursor))
+        let back = (choice.kept(), choice.place as usize, choice.cursor as usize);
+        let (log, pending) = (choice.log as usize, choice.pending as usize);
+        self.head = choice.head as usize;
+        cut(&mut self.log, log);
+        cut(&mut self.pending, pending);
+        Some(back)
     }
 
     /// Whether the newest choice goes on at a further end.
     #[inline(always)]
     pub fn goes_to_end(&self) -> bool {
         match self.choices.last() {
-            Some(choice) => matches!(choice.kept(), WayBack::Arb(_) | WayBack::Bal(_)),
+            Some(choice) => matches!(choice.kind, Kind::Arb | Kind::Bal),
             None => false,
         }
     }
@@ -447,10 +409,10 @@ impl Trail {
     pub fn is_open(&self) -> bool
         ensures { result ≡ true → IsOpen self.now }
     {
-        match newest(self.log.as_slice(), self.head) {
-            Some((Note::Opened(_cursor), _below)) => true,
-            _ => false,
-        }
+        matches!(
+            newest(self.log.as_slice(), self.head),
+            Some((Note::Opened(_), _))
+        )
     }
 }
 
@@ -467,21 +429,6 @@ fn newest(log: &[Entry], head: usize) -> Option<(&Note, usize)>
     let entry = log.get(head - 1)?;
     let below = if entry.below < head { entry.below } else { 0 };
     Some((&entry.note, below))
-}
-
-/// The code as the last of the codes, where it isn't yet.
-#[inline(always)]
-fn store(code: &PatCode, stored: bool, codes: &mut Vec<PatCode>) -> Result<(), AllocError>
-    requires { stored ≡ true → last_code codes.old.items ≡ code.now }
-    ensures last { OnOk result (last_code codes.new.items ≡ code.now) }
-    ensures more { OnOk result ((cs : List Code) × (codes.new.items ≡ codes.old.items ++ cs)) }
-    ensures same { OnErr result (codes.new.items ≡ codes.old.items) }
-{
-    if !stored {
-        let copy = code.clone()?;
-        codes.push(copy)?;
-    }
-    Ok(())
 }
 
 /// The last of the codes, cut to a length. Apart, so that the other way is short.

@@ -1,5 +1,7 @@
 -- Matches at a start.
-use Rattle.std.proofs.Common.{◌≡◌, ℕ, ◌+◌, ◌-◌, List, [], refl, sym, ◌∙◌, ap, subst, arith}
+use Rattle.std.proofs.Common.{◌≡◌, ℕ, ◌+◌, ◌-◌, ◌<◌, List, [], refl, sym, ◌∙◌, ap, subst, arith}
+use Rattle.model.specs.Pattern.Patterns.{Running}
+use Rattle.match_machine.specs.Moved.{Advances, Goes}
 use Rattle.model.specs.Pattern.Steps.{Code, MatchState, Starting, Over, Lost, event_of, pattern_step}
 use Rattle.prefilter.specs.Starts.{ArePassed, Leads}
 use Rattle.prefilter.specs.declared.prefilter.Passed.{Passed}
@@ -30,3 +32,9 @@ lost_last u code n k st r r' m z f way came =
     let over : state_of u r' ≡ Over Lost = ap (λ x. state_by x (thread_of r'.thread) (choices_of u r'.thread.trail.backs) r'.start r'.left r'.waiting r'.answer) f in
     then_comes u code n k (n + k) st (state_of u r) (state_of u r') refl came
     (subst (λ s. Came u code k s (state_of u r')) (sym at) (over ∙ sym way.steps, way.way))
+
+-- a step of a match that goes on
+pub one_step : (u : List ℕ) (code : Code) (most : ℕ) (r r' : Run) → event_of (state_of u r) ≡ Running → 0 < most → Advances u code r r' → Goes u code 1 most r r'
+one_step u code most r r' on some next =
+    let came = step_on u code (state_of u r) (state_of u r) (state_of u r') refl on (sym next) in
+    record { state = came.0; bound = (omega arith, omega (arith, some)); way = came.1 }

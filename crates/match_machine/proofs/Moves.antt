@@ -1,14 +1,14 @@
 -- How the kept state moves.
-use Rattle.std.proofs.Common.{◌≡◌, ℕ, zero, suc, ◌+◌, ◌-◌, ◌<◌, ◌≤◌, List, [], ◌∷◌, length, refl, sym, ◌∙◌, ap, arith, add-one, ◌⊎◌, inl, inr, Some, None, true, false}
+use Rattle.std.proofs.Common.{◌≡◌, ℕ, zero, suc, ◌+◌, ◌-◌, ◌<◌, ◌≤◌, List, [], ◌∷◌, length, refl, sym, ◌∙◌, ap, arith, add-one, ◌⊎◌, inl, inr, Some, None, false}
 use Rattle.std.specs.Prelude.{drop}
 use Rattle.std.proofs.lemmas.List.{drop-map, length-map}
 use Rattle.std.proofs.lemmas.Option.{none-some, same_Some, slice_get_past}
-use Rattle.model.specs.Pattern.Patterns.{Pending, Event, Running, Failed, Asks, Matched}
+use Rattle.model.specs.Pattern.Patterns.{Pending, Event, Running}
 use Rattle.model.specs.Pattern.BasicEnds.{from_up}
 use Rattle.model.specs.Pattern.Steps as s
 use Rattle.model.specs.Pattern.Steps.{Code, settled}
-use Rattle.backtrack.specs.Standing.{Back, inside, fenced, unfenced, oldest}
-use Rattle.match_machine.specs.View.{choice_of, choices_of, is_running}
+use Rattle.backtrack.specs.Standing.{Back, inside, fenced, opened, unfenced, unopened, oldest}
+use Rattle.match_machine.specs.View.{choice_of, choices_of}
 use Rattle.prefilter.proofs.Going.{go_at}
 
 -- ---- entered patterns
@@ -24,6 +24,13 @@ fenced_is (s.Fenced j ∷ ns) k e = ap (λ (n : ℕ). s.Fenced n ∷ ns) (same_S
 fenced_is [] k e = absurd (none-some k (sym e))
 fenced_is (s.Opened b ∷ ns) k e = absurd (none-some k (sym e))
 fenced_is (s.Left code p ∷ ns) k e = absurd (none-some k (sym e))
+
+-- ---- CLOSE
+pub opened_is : (ns : List s.Note) (k : ℕ) → Some k ≡ opened ns → ns ≡ s.Opened k ∷ unopened ns
+opened_is (s.Opened j ∷ ns) k e = ap (λ (n : ℕ). s.Opened n ∷ ns) (same_Some j k (sym e))
+opened_is [] k e = absurd (none-some k (sym e))
+opened_is (s.Fenced j ∷ ns) k e = absurd (none-some k (sym e))
+opened_is (s.Left code p ∷ ns) k e = absurd (none-some k (sym e))
 
 -- the choices that FCLOSE leaves
 pub kept_choices : (u : List ℕ) (k : ℕ) (bs : List Back) → choices_of u (oldest k bs) ≡ s.choices_kept k (choices_of u bs)
@@ -54,18 +61,6 @@ steps_suc u code (suc n) st = steps_suc u code n (s.pattern_step u code st)
 
 pub steps_after : (u : List ℕ) (code : Code) (n : ℕ) (st : s.MatchState) → s.pattern_steps u code (n + 1) st ≡ s.pattern_step u code (s.pattern_steps u code n st)
 steps_after u code n st = rw add-one (steps_suc u code n st)
-
-pub running_is : (e : Event ℕ) → is_running e ≡ true → e ≡ Running
-running_is Running h = refl
-running_is Failed h = cc
-running_is (Asks v) h = cc
-running_is (Matched b e a) h = cc
-
-pub running_not : (e : Event ℕ) → is_running e ≡ false → e ≡ Running → ⊥
-running_not e h w = go (ap is_running w)
-  where
-    go : is_running e ≡ true → ⊥
-    go g = cc
 
 pub one_more : (f : ℕ → Event ℕ) (n : ℕ) → ((k : ℕ) → k < n → f k ≡ Running) → f n ≡ Running → (k : ℕ) → k < n + 1 → f k ≡ Running
 one_more f n h e k l = go (before_or_at k n l)

@@ -1,5 +1,5 @@
 -- What a match is in the definitions.
-use Rattle.std.specs.Prelude.{◌≡◌, ℕ, ◌+◌, ◌-◌, List, [], ◌∷◌, map, length, drop, Option, Some, None, Bool, true, false}
+use Rattle.std.specs.Prelude.{ℕ, ◌+◌, ◌-◌, List, [], ◌∷◌, map, length, drop, Option, Some, None, Bool, true, false}
 use Rattle.model.specs.Pattern.Patterns as p
 use Rattle.model.specs.Pattern.BasicEnds.{from_up, balanced}
 use Rattle.model.specs.Pattern.Steps as s
@@ -102,10 +102,6 @@ held true u r = s.Over s.Lost
 held false u r = state_of u r
 
 -- ---- moves
--- what a move leaves alone
-abbrev pub SamePlaces : Run → Run → Type 0
-SamePlaces a b = (b.start ≡ a.start) × (b.left ≡ a.left)
-
 -- the match with its attempt gone on to a place and a cursor
 abbrev pub gone : List ℕ → Run → ℕ → ℕ → MatchState
 gone u r q c = go (onward (thread_of r.thread) q c) (choices_of u r.thread.trail.backs) r.start r.left []
@@ -117,7 +113,3 @@ failed u r = back (choices_of u r.thread.trail.backs) r.start r.left []
 -- the match after an instruction
 abbrev pub done : List ℕ → Run → s.Act → MatchState
 done u r x = after_act x (choices_of u r.thread.trail.backs) r.start r.left []
-
-abbrev pub is_running : p.Event ℕ → Bool
-is_running p.Running = true
-is_running _ = false

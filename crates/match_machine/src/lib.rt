@@ -11,7 +11,6 @@
 //! memory it refuses from then on. By a law of `model` these are the answers of the search that the language defines.
 #![tactic(auto)]
 
-mod act;
 mod again;
 mod event;
 mod falls;
@@ -19,10 +18,8 @@ mod glide;
 mod matcher;
 mod one_pass;
 mod run;
-mod starts;
 mod state;
 mod step;
-mod tell;
 mod turn;
 
 pub use backtrack::Assignment;

@@ -1,30 +1,16 @@
 //! The moves of a match.
 
-ghost use Rattle.std.specs.Prelude.{◌≡◌, ◌+◌, ◌<◌, ◌≤◌, ◌^◌, ℕ, List, ◌∷◌, length, map, IfOk, OnOk};
-ghost use Rattle.model.specs.Pattern.Steps.{settled, onward as onward_of};
+ghost use Rattle.std.specs.Prelude.{◌≡◌, ◌+◌, ◌<◌, ◌≤◌, ◌^◌, ℕ, List, length, IfOk, OnOk};
+ghost use Rattle.model.specs.Pattern.Steps.{onward as onward_of};
 ghost use Rattle.model.specs.Pattern.Ends.{between as between_of};
-ghost use Rattle.match_machine.specs.View.{thread_of, state_of, SamePlaces, gone, failed};
+ghost use Rattle.pattern_compiler.specs.View.{name_of};
+ghost use Rattle.match_machine.specs.Moved.{Becomes, stayed};
+ghost use Rattle.match_machine.specs.View.{thread_of, state_of, gone, failed};
 
 use crate::state::{Mode, Run, Thread};
+use pattern_compiler::Name;
 use std::alloc::AllocError;
 use strings::Text;
-
-/// At the end of an entered pattern's code, on where it was left.
-fn settle(thread: &mut Thread) -> Result<(), AllocError>
-    ensures thread { OnOk result
-        (thread_of thread.new
-        ≡ settled thread.old.trail.notes thread.old.trail.code thread.old.place thread.old.cursor
-        thread.old.trail.pending) }
-    ensures choices { OnOk result (thread.new.trail.backs ≡ thread.old.trail.backs) }
-{
-    while thread.place >= thread.trail.code().len() {
-        let Some(place) = thread.trail.leave()? else {
-            return Ok(());
-        };
-        thread.place = place;
-    }
-    Ok(())
-}
 
 /// The place after the attempt's instruction.
 #[inline(always)]
@@ -39,7 +25,7 @@ pub fn next_place(thread: &Thread) -> usize
     }
 }
 
-/// The attempt on at a place and a cursor.
+/// The attempt on at a place and a cursor: at the end of an entered pattern's code, on where it was left.
 #[inline(always)]
 pub fn move_on(thread: &mut Thread, place: usize, cursor: usize) -> Result<(), AllocError>
     ensures thread { OnOk result
@@ -48,7 +34,25 @@ pub fn move_on(thread: &mut Thread, place: usize, cursor: usize) -> Result<(), A
 {
     thread.place = place;
     thread.cursor = cursor;
-    settle(thread)
+    while thread.place >= thread.trail.code().len() {
+        let Some(place) = thread.trail.leave()? else {
+            return Ok(());
+        };
+        thread.place = place;
+    }
+    Ok(())
+}
+
+/// On where the attempt stands already.
+#[inline(always)]
+pub fn stay(run: &mut Run)
+    ensures { Becomes run.new (λ u. stayed u run.old) }
+{
+    run.mode = if run.thread.place < run.thread.trail.code().len() {
+        Mode::Going
+    } else {
+        Mode::Matched
+    };
 }
 
 /// On at a place and a cursor, where the match may end, and entered patterns may have to be left. Apart, so that the
@@ -56,14 +60,9 @@ pub fn move_on(thread: &mut Thread, place: usize, cursor: usize) -> Result<(), A
 #[inline(never)]
 fn onward_out(run: &mut Run, place: usize, cursor: usize) -> Result<(), AllocError>
     ensures state { OnOk result ((u : List ℕ) → state_of u run.new ≡ gone u run.old place cursor) }
-    ensures places { SamePlaces run.old run.new }
 {
     move_on(&mut run.thread, place, cursor)?;
-    run.mode = if run.thread.place < run.thread.trail.code().len() {
-        Mode::Going
-    } else {
-        Mode::Matched
-    };
+    stay(run);
     Ok(())
 }
 
@@ -71,7 +70,6 @@ fn onward_out(run: &mut Run, place: usize, cursor: usize) -> Result<(), AllocErr
 #[inline(always)]
 pub fn onward(run: &mut Run, place: usize, cursor: usize) -> Result<(), AllocError>
     ensures state { OnOk result ((u : List ℕ) → state_of u run.new ≡ gone u run.old place cursor) }
-    ensures places { SamePlaces run.old run.new }
 {
     if place < run.thread.trail.code().len() {
         run.thread.place = place;
@@ -115,5 +113,16 @@ pub fn between(subject: &Text, from: usize, to: usize) -> Result<Text, AllocErro
         }
     } else {
         Ok(Text::null())
+    }
+}
+
+/// A copy of a name. A variable is the most usual.
+#[inline(always)]
+pub fn copy_of(name: &Name) -> Result<Name, AllocError>
+    ensures { IfOk result (λ copy. name_of copy ≡ name_of name.now) }
+{
+    match name {
+        Name::Variable(text) => Ok(Name::Variable(text.clone()?)),
+        _ => name.clone(),
     }
 }

@@ -1,7 +1,6 @@
 //! The ends of parts without parts.
 
-ghost use Rattle.std.specs.Prelude.{◌≡◌, ◌≢◌, ◌+◌, ◌-◌, ◌<◌, ◌≤◌, ℕ, length};
-ghost use Rattle.std.specs.Prelude.{drop, true, false, Some, IfSome, option_to_list};
+ghost use Rattle.std.specs.Prelude.{◌≡◌, ◌+◌, ◌≤◌, length, drop, true, false, Some, IfSome, option_to_list};
 ghost use Rattle.model.specs.Pattern.Patterns as p;
 ghost use Rattle.model.specs.Pattern.BasicEnds.{ends_at, balanced};
 ghost use Rattle.prefilter.specs.Balance.{ends_from};
@@ -18,30 +17,14 @@ pub fn lit_end(subject: &[u8], cursor: usize, text: &[u8]) -> Option<usize>
     requires { cursor ≤ length subject.now }
     ensures { option_to_list result ≡ ends_at subject.now (p.Lit text.now) cursor }
 {
-    if let [byte] = text {
-        return if cursor < subject.len() && subject[cursor] == *byte {
-            Some(cursor + 1)
-        } else {
-            None
-        };
-    }
-    if let [first, second] = text {
-        return if subject.len() - cursor >= 2
-            && subject[cursor] == *first
-            && subject[cursor + 1] == *second
-        {
-            Some(cursor + 2)
-        } else {
-            None
-        };
-    }
-    if let [first, ..] = text {
-        if cursor >= subject.len() || subject[cursor] != *first {
-            return None;
-        }
-    }
-    let rest = &subject[cursor..];
-    if rest.starts_with(text) {
+    let stands = match text {
+        [] => true,
+        [first, ..] if cursor >= subject.len() || subject[cursor] != *first => false,
+        [_byte] => true,
+        [_first, second] => cursor + 1 < subject.len() && subject[cursor + 1] == *second,
+        _ => subject[cursor..].starts_with(text),
+    };
+    if stands {
         Some(cursor + text.len())
     } else {
         None
@@ -64,25 +47,8 @@ pub fn break_end(subject: &[u8], cursor: usize, set: &Set) -> Option<usize>
     requires { cursor ≤ length subject.now }
     ensures { option_to_list result ≡ ends_at subject.now (p.Break set.now) cursor }
 {
-    let n = set.break_len(&subject[cursor..]);
-    if cursor + n < subject.len() {
-        Some(cursor + n)
-    } else {
-        None
-    }
-}
-
-/// How many places from here on come before another; all where that lies behind, and at most so many.
-#[inline(always)]
-fn places_beside(from: usize, limit: usize, place: u64) -> usize
-    ensures others { (c : ℕ) → from ≤ c → c < from + result → c ≢ place }
-    ensures limit { result ≤ limit }
-{
-    let here = from as u64;
-    if place < here {
-        return limit;
-    }
-    (place - here).min(limit as u64) as usize
+    let end = cursor + set.break_len(&subject[cursor..]);
+    if end < subject.len() { Some(end) } else { None }
 }
 
 /// At how many places from here on a part has no end, as a look at the place or one search shows; at most so many.
@@ -99,9 +65,10 @@ pub fn fails_for(subject: &[u8], from: usize, limit: usize, part: &Basic) -> usi
         Basic::Span(set) => set.break_len(rest),
         Basic::Break(set) if from > 0 && from + set.break_len(&subject[from..]) == subject.len() =>
             limit,
-        Basic::Pos(n) => places_beside(from, limit, *n),
-        Basic::RPos(n) if *n > subject.len() as u64 => limit,
-        Basic::RPos(n) => places_beside(from, limit, subject.len() as u64 - *n),
+        Basic::Pos(n) => n.wrapping_sub(from as u64).min(limit as u64) as usize,
+        Basic::RPos(n) => ((subject.len() - from) as u64)
+            .wrapping_sub(*n)
+            .min(limit as u64) as usize,
         Basic::Len(n) | Basic::RTab(n) if *n > (subject.len() - from) as u64 => limit,
         Basic::Tab(n) if *n < from as u64 || *n > subject.len() as u64 => limit,
         Basic::Fail => limit,
@@ -120,27 +87,23 @@ pub fn has_one_end(part: &Basic) -> bool
 
 /// The end of such a part.
 #[inline(always)]
-pub fn one_end(subject: &[u8], cursor: usize, part: &Basic) -> Option<usize>
-    requires cursor { cursor ≤ length subject.now }
+pub fn one_end(bytes: &[u8], cursor: usize, part: &Basic) -> Option<usize>
+    requires cursor { cursor ≤ length bytes.now }
     requires one { HasOneEnd (basic_of part.now) }
-    ensures { option_to_list result ≡ ends_at subject.now (basic_of part.now) cursor }
+    ensures { option_to_list result ≡ ends_at bytes.now (basic_of part.now) cursor }
 {
     match part {
-        Basic::Lit(text) => lit_end(subject, cursor, text.as_slice()),
-        Basic::Len(n) if *n <= (subject.len() - cursor) as u64 => Some(cursor + *n as usize),
+        Basic::Lit(text) => lit_end(bytes, cursor, text.as_slice()),
+        Basic::Len(n) if *n <= (bytes.len() - cursor) as u64 => Some(cursor + *n as usize),
         Basic::Pos(n) if cursor as u64 == *n => Some(cursor),
-        Basic::RPos(n) if (subject.len() - cursor) as u64 == *n => Some(cursor),
-        Basic::Tab(n) if cursor as u64 <= *n && *n <= subject.len() as u64 => Some(*n as usize),
-        Basic::RTab(n) if *n <= (subject.len() - cursor) as u64 => Some(
-            subject.len() - *n as usize,
-        ),
-        Basic::Any(set) if cursor < subject.len() && set.has(subject[cursor]) => Some(cursor + 1),
-        Basic::NotAny(set) if cursor < subject.len() && !set.has(subject[cursor]) => Some(
-            cursor + 1,
-        ),
-        Basic::Span(set) => span_end(subject, cursor, set),
-        Basic::Break(set) => break_end(subject, cursor, set),
-        Basic::Rem => Some(subject.len()),
+        Basic::RPos(n) if (bytes.len() - cursor) as u64 == *n => Some(cursor),
+        Basic::Tab(n) if cursor as u64 <= *n && *n <= bytes.len() as u64 => Some(*n as usize),
+        Basic::RTab(n) if *n <= (bytes.len() - cursor) as u64 => Some(bytes.len() - *n as usize),
+        Basic::Any(set) if cursor < bytes.len() && set.has(bytes[cursor]) => Some(cursor + 1),
+        Basic::NotAny(set) if cursor < bytes.len() && !set.has(bytes[cursor]) => Some(cursor + 1),
+        Basic::Span(set) => span_end(bytes, cursor, set),
+        Basic::Break(set) => break_end(bytes, cursor, set),
+        Basic::Rem => Some(bytes.len()),
         _ => None,
     }
 }

@@ -84,10 +84,7 @@ pub fn opens_at(instrs: &[Instr], place: usize) -> bool
     ensures opens { result ≡ true → slice_get (code_of instrs.now) place ≡ Some Open }
     ensures within { result ≡ true → place < length instrs.now }
 {
-    match instrs.get(place) {
-        Some(Instr::Open) => true,
-        _ => false,
-    }
+    matches!(instrs.get(place), Some(Instr::Open))
 }
 
 /// The parts from which an attempt fails at a place, and in how many steps, if both have no end: the part there, or,
@@ -112,36 +109,28 @@ pub fn both_miss(bytes: &[u8], part: &Basic, other: Option<&Basic>, cursor: usiz
     ensures part { result ≡ true → ends_at bytes.now (basic_of part.now) cursor ≡ [] }
     ensures other { result ≡ true → IfSome other.entry (λ o. ends_at bytes.now (basic_of o.now) cursor ≡ []) }
 {
-    if !misses(bytes, cursor, part) {
-        return false;
-    }
-    match other {
-        Some(other) => misses(bytes, cursor, other),
-        None => true,
-    }
+    misses(bytes, cursor, part)
+        && match other {
+            Some(other) => misses(bytes, cursor, other),
+            None => true,
+        }
 }
 
-/// Whether the attempt fails at the part where the code goes on that was entered from other code, at the end of it.
-#[inline(never)]
-fn misses_outside(bytes: &[u8], trail: Option<&Trail>, cursor: usize) -> bool
-    requires cursor { cursor ≤ length bytes.now }
-    ensures { result ≡ true → (code : Code) (place : ℕ) → length code ≤ place
-        → (ns : List Note) → IfSome trail.entry (λ t. t.now.notes ≡ ns) → FailsAt bytes.now code ns place cursor 1 }
-{
-    let Some(trail) = trail else {
-        return false;
-    };
-    let Some((outer, after)) = trail.outer() else {
-        return false;
-    };
-    match part_of(outer.as_slice(), after) {
-        Some(part) => misses(bytes, cursor, part),
-        None => false,
-    }
-}
-
-/// Whether an attempt fails at a place where a part stands, or the code ends.
+/// The part at a place, or at the end of the code the part where the code goes on that was entered from other code.
 #[inline(always)]
+fn part_at<'a>(instrs: &'a [Instr], trail: Option<&'a Trail>, place: usize) -> Option<&'a Basic>
+    ensures { IfSome result (λ part. (u : List ℕ) (c : ℕ) (ns : List Note) → ends_at u (basic_of part.now) c ≡ []
+        → IfSome trail.entry (λ t. t.now.notes ≡ ns) → FailsAt u (code_of instrs.now) ns place c 1) }
+{
+    if place < instrs.len() {
+        return part_of(instrs, place);
+    }
+    let (outer, after) = trail?.outer()?;
+    part_of(outer.as_slice(), after)
+}
+
+/// Whether an attempt fails at such a part. Apart, so that each instruction is short.
+#[inline(never)]
 fn misses_at(
     bytes: &[u8],
     instrs: &[Instr],
@@ -149,13 +138,13 @@ fn misses_at(
     place: usize,
     cursor: usize,
 ) -> bool
-    requires cursor { cursor ≤ length bytes.now }
+    requires { cursor ≤ length bytes.now }
     ensures { result ≡ true → (ns : List Note) → IfSome trail.entry (λ t. t.now.notes ≡ ns)
         → FailsAt bytes.now (code_of instrs.now) ns place cursor 1 }
 {
-    match part_of(instrs, place) {
+    match part_at(instrs, trail, place) {
         Some(part) => misses(bytes, cursor, part),
-        None => place >= instrs.len() && misses_outside(bytes, trail, cursor),
+        None => false,
     }
 }
 
@@ -177,10 +166,10 @@ fn fails_split(
     let mut at = place;
     let mut steps = 0;
     while let Some(other) = other_of(instrs, at) {
-        if steps >= MANY || !misses_at(bytes, instrs, None, other, cursor) {
-            return 0;
+        match part_of(instrs, other) {
+            Some(part) if steps < MANY && misses(bytes, cursor, part) => steps += 3,
+            _ => return 0,
         }
-        steps += 3;
         at += 1;
     }
     let (last, outside, more) = if let Some(to) = jump_from(instrs, at) {
@@ -190,11 +179,8 @@ fn fails_split(
     } else {
         (at, trail, 1)
     };
-    if misses_at(bytes, instrs, outside, last, cursor) {
-        steps + more
-    } else {
-        0
-    }
+    let fails = misses_at(bytes, instrs, outside, last, cursor);
+    if fails { steps + more } else { 0 }
 }
 
 /// Whether a part has no end from a place. Apart, so that each instruction is short.
@@ -224,23 +210,15 @@ pub fn fails_at(
         → FailsAt bytes.now (code_of instrs.now) ns place cursor result }
     ensures most { result ≤ most }
 {
-    if place >= instrs.len() {
-        return if misses_outside(bytes, trail, cursor) {
-            1
-        } else {
-            0
-        };
-    }
-    let Some(part) = part_of(instrs, place) else {
-        if jump_from(instrs, place).is_some() {
-            return 0;
+    let fails = match part_of(instrs, place) {
+        Some(Basic::RPos(n)) => (bytes.len() - cursor) as u64 != *n,
+        Some(part) => misses_apart(bytes, cursor, part),
+        None if place >= instrs.len() => misses_at(bytes, instrs, trail, place, cursor),
+        None if jump_from(instrs, place).is_some() => false,
+        None => {
+            let steps = fails_split(bytes, instrs, trail, place, cursor);
+            return if steps <= most { steps } else { 0 };
         }
-        let steps = fails_split(bytes, instrs, trail, place, cursor);
-        return if steps <= most { steps } else { 0 };
-    };
-    let fails = match part {
-        Basic::RPos(n) => (bytes.len() - cursor) as u64 != *n,
-        _ => misses_apart(bytes, cursor, part),
     };
     if fails { 1 } else { 0 }
 }

@@ -1,12 +1,10 @@
 //! Starts from which a match must fail, which are passed many at a time.
 
-ghost use Rattle.std.specs.Prelude.{◌≡◌, ◌+◌, ◌<◌, ◌≤◌, ℕ, List, [], Some, false, length, get_or, take, IfSome};
-ghost use Rattle.model.specs.Pattern.BasicEnds.{is_in_set};
-ghost use Rattle.model.specs.Pattern.Steps.{Lost, Over, Starting};
-ghost use Rattle.model.specs.Language.Strings.{flags_of};
+ghost use Rattle.std.specs.Prelude.{◌≡◌, ◌+◌, ◌<◌, ◌≤◌, [], Some, length, IfSome};
+ghost use Rattle.model.specs.Pattern.Steps.{Code, Lost, Over, Starting};
 ghost use Rattle.pattern_compiler.specs.View.{code_of};
 ghost use Rattle.prefilter.specs.Filters.{AreFirsts};
-ghost use Rattle.prefilter.specs.Looks.{FailsUnless, HasKey, LeadsFromFront, StartFails, key_of};
+ghost use Rattle.prefilter.specs.Looks.{FailFrom, HasKey, LeadsFromFront, StartFails, key_of};
 ghost use Rattle.prefilter.specs.Starts.{AreIdle, ArePassed, Leads};
 
 use crate::ends::fails_for;
@@ -114,15 +112,14 @@ fn key_at(instrs: &[Instr], place: usize, factor: u8) -> Option<u8>
     }
 }
 
-/// The numbers for the first bytes of an alternation of literals at a place, and in how many steps an attempt there fails
-/// that begins with others; nothing where something else stands there, or more than so many.
+/// The numbers by a factor for what a match of code may begin with, if an alternation of literals in front shows it;
+/// nothing where something else stands there, or more than so many.
 #[inline(always)]
-fn gather(instrs: &[Instr], place: usize, factor: u8, found: &mut [u8; 32]) -> Option<(usize, u64)>
-    ensures few { IfSome result (λ (count, steps). count ≤ 32) }
-    ensures steps { IfSome result (λ (count, steps). steps ≤ 96) }
-    ensures fails { IfSome result (λ (count, steps).
-        FailsUnless (code_of instrs.now) place factor (take count found.new) steps) }
+fn gather(instrs: &[Instr], factor: u8) -> Option<Firsts>
+    ensures { IfSome result (λ firsts. AreFirsts (code_of instrs.now) firsts) }
 {
+    let (place, opening) = front(instrs);
+    let mut found = [0u8; 32];
     let mut at = place;
     let mut count = 0;
     while let Some(other) = other_of(instrs, at) {
@@ -134,7 +131,11 @@ fn gather(instrs: &[Instr], place: usize, factor: u8, found: &mut [u8; 32]) -> O
         at += 1;
     }
     found[count] = key_at(instrs, at, factor)?;
-    Some((count + 1, 3 * count as u64 + 1))
+    Some(Firsts {
+        set: ByteSet::of(&found[..count + 1]),
+        factor,
+        steps: 3 * count as u64 + 1 + opening,
+    })
 }
 
 /// What a match of code may begin with, if many starts are left and an alternation of literals shows it.
@@ -145,80 +146,38 @@ fn firsts_of(instrs: &[Instr], left: usize) -> Option<Firsts>
     if left < FEW {
         return None;
     }
-    let (place, opening) = front(instrs);
-    let mut found = [0u8; 32];
-    let mut factor = PAIRS;
-    loop {
-        if let Some((count, steps)) = gather(instrs, place, factor, &mut found) {
-            return Some(Firsts {
-                set: ByteSet::of(&found[..count]),
-                factor,
-                steps: steps + opening,
-            });
-        }
-        if factor == 0 {
-            return None;
-        }
-        factor = 0;
+    match gather(instrs, PAIRS) {
+        None => gather(instrs, 0),
+        found => found,
     }
 }
 
-impl Firsts {
-    /// At how many places from one on the next two bytes have another number; at most so many. The last byte is never
-    /// passed.
-    #[inline(never)]
-    fn missing_for(&self, bytes: &[u8], from: usize, limit: usize) -> usize
-        requires { from + limit ≤ length bytes.now }
-        ensures limit { result ≤ limit }
-        ensures within { 0 < result → from + result < length bytes.now }
-        ensures others { (ws : List ℕ) → self.now.set ≡ flags_of ws → (c : ℕ) → from ≤ c → c < from + result
-            → is_in_set ws (key_of (get_or bytes.now c 0) (get_or bytes.now (c + 1) 0) self.now.factor) ≡ false }
-    {
-        let to = (from + limit).min(bytes.len().saturating_sub(1));
-        if from >= to {
-            return 0;
-        }
-        let mut at = from;
-        while at < to && !self.set.has(key_of(bytes[at], bytes[at + 1], self.factor)) {
-            at += 1;
-        }
-        at - from
-    }
-}
-
-/// Past starts where none of the bytes stands that a match may begin with, if these are known.
-#[inline(always)]
-fn pass_others(
-    bytes: &[u8],
-    instrs: &[Instr],
-    filter: &Option<Firsts>,
-    start: usize,
-    left: usize,
-    bound: u64,
-) -> Passed
-    requires firsts { IfSome filter.now (λ firsts. AreFirsts (code_of instrs.now) firsts) }
-    requires starts { start + left ≤ length bytes.now }
-    ensures { ArePassed bytes.now (code_of instrs.now) start left bound result }
+/// At how many starts from one on the next two bytes have another number than those that a match may begin with; at
+/// most so many. The last byte is never passed.
+#[inline(never)]
+fn missing_for(keys: &Firsts, bytes: &[u8], from: usize, limit: usize) -> usize
+    requires { from + limit ≤ length bytes.now }
+    ensures fails { (code : Code) → AreFirsts code keys.now → FailFrom bytes.now code from result keys.now.steps }
+    ensures limit { result ≤ limit }
 {
-    let Some(firsts) = filter else {
-        return none_passed();
-    };
-    let each = firsts.steps + 1;
-    let limit = left.min((bound / each) as usize);
-    let starts = firsts.missing_for(bytes, start, limit);
-    Passed {
-        starts,
-        steps: starts as u64 * each,
+    let to = (from + limit).min(bytes.len().saturating_sub(1));
+    let mut at = from;
+    while at < to && !keys.set.has(key_of(bytes[at], bytes[at + 1], keys.factor)) {
+        at += 1;
     }
+    at - from
 }
 
-/// In how many steps a start fails, if a look shows that it does, and 0 else; at most so many.
+/// In how many steps a start fails, and with the last start the match, if a look shows that it does, and 0 else; at
+/// most so many.
 #[inline(always)]
-fn fails_from(bytes: &[u8], instrs: &[Instr], start: usize, bound: u64) -> u64
+pub fn lost_from(bytes: &[u8], code: &PatCode, start: usize, bound: u64) -> u64
     requires { start ≤ length bytes.now }
-    ensures fails { 0 < result → StartFails bytes.now (code_of instrs.now) start result }
+    ensures fails { 0 < result → StartFails bytes.now code.now start result }
+    ensures lost { 0 < result → Leads bytes.now code.now result (Starting start 0 []) (Over Lost) }
     ensures bound { result ≤ bound }
 {
+    let instrs = code.as_slice();
     let (place, opening) = front(instrs);
     if bound <= opening + 1 {
         return 0;
@@ -229,43 +188,29 @@ fn fails_from(bytes: &[u8], instrs: &[Instr], start: usize, bound: u64) -> u64
 
 /// Past starts of code with an alternation in front, as looks and the bytes show that it may begin with.
 #[inline(never)]
-fn pass_alternation(bytes: &[u8], instrs: &[Instr], start: usize, left: usize, bound: u64) -> Passed
+fn pass_alternation(bytes: &[u8], code: &PatCode, start: usize, left: usize, bound: u64) -> Passed
     requires starts { start + left ≤ length bytes.now }
-    ensures { ArePassed bytes.now (code_of instrs.now) start left bound result }
+    ensures { ArePassed bytes.now code.now start left bound result }
 {
-    let first = fails_from(bytes, instrs, start, bound);
-    if left == 0 || first == 0 {
-        return none_passed();
-    }
-    let filter = firsts_of(instrs, left);
-    let mut passed = Passed {
-        starts: 1,
-        steps: first,
-    };
+    let mut passed = none_passed();
+    let mut filter = None;
     while passed.starts < left {
-        let others = pass_others(
-            bytes,
-            instrs,
-            &filter,
-            start + passed.starts,
-            left - passed.starts,
-            bound - passed.steps,
-        );
-        passed = Passed {
-            starts: passed.starts + others.starts,
-            steps: passed.steps + others.steps,
-        };
-        if passed.starts == left {
+        let fails = lost_from(bytes, code, start + passed.starts, bound - passed.steps);
+        if fails == 0 {
             return passed;
         }
-        let next = fails_from(bytes, instrs, start + passed.starts, bound - passed.steps);
-        if next == 0 {
-            return passed;
+        if passed.starts == 0 {
+            filter = firsts_of(code.as_slice(), left);
         }
-        passed = Passed {
-            starts: passed.starts + 1,
-            steps: passed.steps + next,
-        };
+        passed.starts += 1;
+        passed.steps += fails;
+        if let Some(keys) = &filter {
+            let each = keys.steps + 1;
+            let limit = (left - passed.starts).min(((bound - passed.steps) / each) as usize);
+            let starts = missing_for(keys, bytes, start + passed.starts, limit);
+            passed.starts += starts;
+            passed.steps += starts as u64 * each;
+        }
     }
     passed
 }
@@ -279,17 +224,7 @@ pub fn pass(bytes: &[u8], code: &PatCode, start: usize, left: usize, bound: u64)
     let instrs = code.as_slice();
     let (place, _opening) = front(instrs);
     match instrs.get(place) {
-        Some(Instr::Split(_)) => pass_alternation(bytes, instrs, start, left, bound),
+        Some(Instr::Split(_)) => pass_alternation(bytes, code, start, left, bound),
         _ => pass_part(bytes, code, start, left, bound),
     }
-}
-
-/// In how many steps a match fails from its last start, if a look shows that it does, and 0 else; at most so many.
-#[inline(always)]
-pub fn lost_from(bytes: &[u8], code: &PatCode, start: usize, bound: u64) -> u64
-    requires { start ≤ length bytes.now }
-    ensures lost { 0 < result → Leads bytes.now code.now result (Starting start 0 []) (Over Lost) }
-    ensures bound { result ≤ bound }
-{
-    fails_from(bytes, code.as_slice(), start, bound)
 }

@@ -16,11 +16,11 @@ returns-in-Span-clause-fails c =
 
 pub returns-in-Pos-clause-fails : goal.returns-in-Pos-clause-fails
 returns-in-Pos-clause-fails c =
-    rw c.in-Pos.is (λ k l m. fails_pos c.args.subject.now c.in-Pos.n k (c.places_beside.ensures.others k l m))
+    rw c.in-Pos.is (λ k l m. fails_pos c.args.subject.now c.in-Pos.n k (λ is. absurd (omega (arith, l, m, is, c.requires, c.min.ensures))))
 
-pub returns-in-RPos-2-clause-fails : goal.returns-in-RPos-2-clause-fails
-returns-in-RPos-2-clause-fails c =
-    rw c.in-RPos-2.is (λ k l m. fails_rpos c.args.subject.now c.in-RPos-2.n k (omega (arith, c.places_beside-in-RPos-2.ensures.others k l m)))
+pub returns-in-RPos-clause-fails : goal.returns-in-RPos-clause-fails
+returns-in-RPos-clause-fails c =
+    rw c.in-RPos.is (λ k l m. fails_rpos c.args.subject.now c.in-RPos.n k (λ is. absurd (omega (arith, l, m, is, c.requires, c.min-in-RPos.ensures))))
 
 pub returns-in-Break-clause-fails : goal.returns-in-Break-clause-fails
 returns-in-Break-clause-fails c =

@@ -7,8 +7,8 @@ use Rattle.prefilter.proofs.prefilter.pass_alternation.Given as goal
 
 abbrev pub invariant-loop-passed : goal.invariant-loop-passed
 invariant-loop-passed l = record {
-  passed : ArePassed l.bytes (code_of l.instrs) l.start l.left l.bound l.passed;
-  filter : IfSome l.filter (λ f. AreFirsts (code_of l.instrs) f);
+  passed : ArePassed l.bytes l.code l.start l.left l.bound l.passed;
+  filter : IfSome l.filter (λ f. AreFirsts l.code f);
 }
 
 abbrev pub decreases-loop-passed : goal.decreases-loop-passed

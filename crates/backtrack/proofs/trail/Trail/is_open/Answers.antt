@@ -7,9 +7,9 @@ use Rattle.backtrack.proofs.trail.Trail.is_open.Goals as goal
 
 pub returns-in-Some-Opened-default : goal.returns-in-Some-Opened-default
 returns-in-Some-Opened-default c = λ _.
-    let ns = chain (reverse c.as_slice.result.now) c.in-Some-Opened-default._below in
-    let is : c.in-Some-Opened-default.field-0-0.now ≡ note.Opened c.in-Some-Opened-default._cursor = search rules in (
-      c.in-Some-Opened-default._cursor,
+    let ns = chain (reverse c.as_slice.result.now) c.in-Some-Opened-default.field-0-1 in
+    let is : c.in-Some-Opened-default.field-0-0.now ≡ note.Opened c.in-Some-Opened-default.field-0-0-0 = search rules in (
+      c.in-Some-Opened-default.field-0-0-0,
       ns,
       ap (λ (v : Standing). v.notes) (sym c.self.view_is)
           ∙ ap (λ (es : List Entry). chain (reverse es) c.self.inside.head) (sym c.as_slice.ensures.value)

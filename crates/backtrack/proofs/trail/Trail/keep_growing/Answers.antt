@@ -1,41 +1,81 @@
-use Rattle.std.proofs.Common.{◌∷◌, ◌++◌, [], List, ◌∙◌, ap, reverse}
-use Rattle.model.specs.Pattern.Steps.{Code}
-use Rattle.backtrack.specs.Choices.{Choice}
-use Rattle.backtrack.specs.Standing.{Back}
-use Rattle.backtrack.specs.Logs.{chain, pending_of, backs, logs_of}
-use Rattle.backtrack.proofs.Chains.{more_codes, keep_marks, keep_backs}
+use Rattle.std.proofs.Common.{◌∷◌, [], ◌∙◌, ap, sym, subst, refl}
+use Rattle.backtrack.specs.Logs.{last_code}
+use Rattle.backtrack.proofs.Chains.{IsReady, kept_marks, kept_standing, last_code_push, ready_marks, ready_now}
 use Rattle.backtrack.proofs.trail.Trail.keep_growing.Goals as goal
+use Rattle.backtrack.proofs.trail.Trail.keep_growing.Goals.{then-not-self+in_ok-copy+in_ok-push, else-not-self}
 
-pub invariant_of-self-in_err-push : goal.invariant_of-self-in_err-push
-invariant_of-self-in_err-push c =
-    record {
-      marks = rw (c.in_err-push.ensures.items, c.in_ok-store.ensures.more.1) (more_codes _ _ _ _ _ c.self.invariant.marks).marks;
-      stored = λ _. c.in_ok-store.ensures.last;
-    }
+pub invariant_of-self-in_err-choice : goal.invariant_of-self-in_err-choice
+invariant_of-self-in_err-choice c =
+    let a = c.self.inside in
+    let b = c.if-not-self.self-inside in
+    let ready : IsReady a b = elim c.if-not-self.branch [
+      | then-not-self+in_ok-copy+in_ok-push w ↦
+          subst (IsReady a) (sym w.self-inside-is) (record {
+            code = refl;
+            head = refl;
+            log = refl;
+            pending = refl;
+            choices = refl;
+            more = (w.in_ok-copy.copy ∷ [], w.in_ok-push.ensures.items);
+            last = ap last_code w.in_ok-push.ensures.items ∙ last_code_push a.codes.items w.in_ok-copy.copy ∙ w.in_ok-copy.ensures.cases;
+          })
+      | else-not-self w ↦ subst (IsReady a) (sym w.self-inside-is) (ready_now a (c.self.invariant.stored w.if-not-self.false))
+    ] in
+    record { marks = ready_marks a b ready c.self.invariant.marks; stored = λ _. ready.last ∙ sym ready.code }
 
-pub invariant_of-self-in_err-new : goal.invariant_of-self-in_err-new
-invariant_of-self-in_err-new c =
-    record {
-      marks = rw c.in_ok-store.ensures.more.1 (more_codes _ _ _ _ _ c.self.invariant.marks).marks;
-      stored = λ _. c.in_ok-store.ensures.last;
-    }
+pub invariant_of-self-in_err-push-2 : goal.invariant_of-self-in_err-push-2
+invariant_of-self-in_err-push-2 c =
+    let a = c.self.inside in
+    let b = c.if-not-self.self-inside in
+    let ready : IsReady a b = elim c.if-not-self.branch [
+      | then-not-self+in_ok-copy+in_ok-push w ↦
+          subst (IsReady a) (sym w.self-inside-is) (record {
+            code = refl;
+            head = refl;
+            log = refl;
+            pending = refl;
+            choices = refl;
+            more = (w.in_ok-copy.copy ∷ [], w.in_ok-push.ensures.items);
+            last = ap last_code w.in_ok-push.ensures.items ∙ last_code_push a.codes.items w.in_ok-copy.copy ∙ w.in_ok-copy.ensures.cases;
+          })
+      | else-not-self w ↦ subst (IsReady a) (sym w.self-inside-is) (ready_now a (c.self.invariant.stored w.if-not-self.false))
+    ] in
+    record { marks = rw c.in_err-push-2.ensures.items (ready_marks a b ready c.self.invariant.marks); stored = λ _. ready.last ∙ sym ready.code }
 
 pub invariant_of-self-2 : goal.invariant_of-self-2
 invariant_of-self-2 c =
     let a = c.self.inside in
-    record {
-      marks = keep_marks a.codes.items c.store.new.codes.items c.in_ok-store.ensures.more.0 a.log.items a.pending.items a.choices.items c.push.new.self.items _ c.in_ok-store.ensures.more.1 (c.in_ok-push.ensures.items ∙ ap (λ (x : Choice). a.choices.items ++ x ∷ []) c.in_ok-new.ensures) (c.len-3.ensures ∙ c.store.new.codes.ok.0) (c.len.ensures ∙ a.log.ok.0) (c.len-2.ensures ∙ a.pending.ok.0) c.self.invariant.marks;
-      stored = λ _. c.in_ok-store.ensures.last;
-    }
+    let b = c.if-not-self.self-inside in
+    let ready : IsReady a b = elim c.if-not-self.branch [
+      | then-not-self+in_ok-copy+in_ok-push w ↦
+          subst (IsReady a) (sym w.self-inside-is) (record {
+            code = refl;
+            head = refl;
+            log = refl;
+            pending = refl;
+            choices = refl;
+            more = (w.in_ok-copy.copy ∷ [], w.in_ok-push.ensures.items);
+            last = ap last_code w.in_ok-push.ensures.items ∙ last_code_push a.codes.items w.in_ok-copy.copy ∙ w.in_ok-copy.ensures.cases;
+          })
+      | else-not-self w ↦ subst (IsReady a) (sym w.self-inside-is) (ready_now a (c.self.invariant.stored w.if-not-self.false))
+    ] in
+    record { marks = kept_marks a b ready c.in_ok-choice.choice c.push-2.new.self.items c.args.kept c.args.place c.args.cursor _ _ _ c.in_ok-choice.ensures c.in_ok-push-2.ensures.items (c.len.ensures ∙ b.log.ok.0) (c.len-2.ensures ∙ b.pending.ok.0) (c.len-3.ensures ∙ b.codes.ok.0) c.self.invariant.marks; stored = λ _. ready.last ∙ sym ready.code }
 
 pub returns : goal.returns
 returns c =
     let a = c.self.inside in
-    let at = λ (code : Code). let bs : List Back = record { kept = c.args.kept; thread = record { code = code; place = c.args.place; cursor = c.args.cursor; notes = chain (reverse a.log.items) a.head; pending = pending_of a.pending.items } } ∷ backs (logs_of a) (reverse a.choices.items) in bs in
-    rw (← c.self.view_is)
-    (λ i. record {
-      code = a.code;
-      notes = chain (reverse a.log.items) a.head;
-      pending = pending_of a.pending.items;
-      backs = (keep_backs a.codes.items c.store.new.codes.items c.in_ok-store.ensures.more.0 a.log.items a.pending.items a.choices.items c.push.new.self.items _ c.in_ok-store.ensures.more.1 (c.in_ok-push.ensures.items ∙ ap (λ (x : Choice). a.choices.items ++ x ∷ []) c.in_ok-new.ensures) (c.len-3.ensures ∙ c.store.new.codes.ok.0) (c.len.ensures ∙ a.log.ok.0) (c.len-2.ensures ∙ a.pending.ok.0) c.self.invariant.marks ∙ ap at c.in_ok-store.ensures.last) i;
-    })
+    let b = c.if-not-self.self-inside in
+    let ready : IsReady a b = elim c.if-not-self.branch [
+      | then-not-self+in_ok-copy+in_ok-push w ↦
+          subst (IsReady a) (sym w.self-inside-is) (record {
+            code = refl;
+            head = refl;
+            log = refl;
+            pending = refl;
+            choices = refl;
+            more = (w.in_ok-copy.copy ∷ [], w.in_ok-push.ensures.items);
+            last = ap last_code w.in_ok-push.ensures.items ∙ last_code_push a.codes.items w.in_ok-copy.copy ∙ w.in_ok-copy.ensures.cases;
+          })
+      | else-not-self w ↦ subst (IsReady a) (sym w.self-inside-is) (ready_now a (c.self.invariant.stored w.if-not-self.false))
+    ] in
+    rw (← c.self.view_is) (kept_standing a b ready c.in_ok-choice.choice c.push-2.new.self.items c.args.kept c.args.place c.args.cursor _ _ _ c.in_ok-choice.ensures c.in_ok-push-2.ensures.items (c.len.ensures ∙ b.log.ok.0) (c.len-2.ensures ∙ b.pending.ok.0) (c.len-3.ensures ∙ b.codes.ok.0) c.self.invariant.marks)

@@ -1,7 +1,7 @@
 use Rattle.std.proofs.Common.{ℕ, ◌≤◌, arith}
 use Rattle.std.specs.Int.Bits.{bit_or}
 use Rattle.std.proofs.lemmas.Nat.{le_or_l, le_or_r}
-use Rattle.backtrack.proofs.choice.Choice.new.Goals as goal
+use Rattle.backtrack.proofs.way_back.Choice.new.Goals as goal
 
 record AreWithin (a b c d e f g m : ℕ) : Type 0 where
   pub a_in : a ≤ m
@@ -35,22 +35,22 @@ within a b c d e f g m h =
     }
 
 pub overflow_cast-result : goal.overflow_cast-result
-overflow_cast-result c = omega (arith, (within c.parts-kind.result.1 c.args.place c.args.cursor c.args.marks.head c.args.marks.log c.args.marks.pending c.args.marks.codes _ c.if-all.false).a_in)
+overflow_cast-result c = omega (arith, (within _ c.args.place c.args.cursor c.args.head c.args.lengths.0 c.args.lengths.1 c.args.lengths.2 _ c.if-all.false).a_in)
 
 pub overflow_cast-result-2 : goal.overflow_cast-result-2
-overflow_cast-result-2 c = omega (arith, (within c.parts-kind.result.1 c.args.place c.args.cursor c.args.marks.head c.args.marks.log c.args.marks.pending c.args.marks.codes _ c.if-all.false).b_in)
+overflow_cast-result-2 c = omega (arith, (within _ c.args.place c.args.cursor c.args.head c.args.lengths.0 c.args.lengths.1 c.args.lengths.2 _ c.if-all.false).b_in)
 
 pub overflow_cast-result-3 : goal.overflow_cast-result-3
-overflow_cast-result-3 c = omega (arith, (within c.parts-kind.result.1 c.args.place c.args.cursor c.args.marks.head c.args.marks.log c.args.marks.pending c.args.marks.codes _ c.if-all.false).c_in)
+overflow_cast-result-3 c = omega (arith, (within _ c.args.place c.args.cursor c.args.head c.args.lengths.0 c.args.lengths.1 c.args.lengths.2 _ c.if-all.false).c_in)
 
 pub overflow_cast-result-4 : goal.overflow_cast-result-4
-overflow_cast-result-4 c = omega (arith, (within c.parts-kind.result.1 c.args.place c.args.cursor c.args.marks.head c.args.marks.log c.args.marks.pending c.args.marks.codes _ c.if-all.false).d_in)
+overflow_cast-result-4 c = omega (arith, (within _ c.args.place c.args.cursor c.args.head c.args.lengths.0 c.args.lengths.1 c.args.lengths.2 _ c.if-all.false).d_in)
 
 pub overflow_cast-result-5 : goal.overflow_cast-result-5
-overflow_cast-result-5 c = omega (arith, (within c.parts-kind.result.1 c.args.place c.args.cursor c.args.marks.head c.args.marks.log c.args.marks.pending c.args.marks.codes _ c.if-all.false).e_in)
+overflow_cast-result-5 c = omega (arith, (within _ c.args.place c.args.cursor c.args.head c.args.lengths.0 c.args.lengths.1 c.args.lengths.2 _ c.if-all.false).e_in)
 
 pub overflow_cast-result-6 : goal.overflow_cast-result-6
-overflow_cast-result-6 c = omega (arith, (within c.parts-kind.result.1 c.args.place c.args.cursor c.args.marks.head c.args.marks.log c.args.marks.pending c.args.marks.codes _ c.if-all.false).f_in)
+overflow_cast-result-6 c = omega (arith, (within _ c.args.place c.args.cursor c.args.head c.args.lengths.0 c.args.lengths.1 c.args.lengths.2 _ c.if-all.false).f_in)
 
 pub overflow_cast-result-7 : goal.overflow_cast-result-7
-overflow_cast-result-7 c = omega (arith, (within c.parts-kind.result.1 c.args.place c.args.cursor c.args.marks.head c.args.marks.log c.args.marks.pending c.args.marks.codes _ c.if-all.false).g_in)
+overflow_cast-result-7 c = omega (arith, (within _ c.args.place c.args.cursor c.args.head c.args.lengths.0 c.args.lengths.1 c.args.lengths.2 _ c.if-all.false).g_in)

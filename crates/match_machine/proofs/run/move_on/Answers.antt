@@ -3,7 +3,7 @@ use Rattle.std.specs.Prelude.{IfSome}
 use Rattle.model.specs.Pattern.Steps.{Left, settled}
 use Rattle.backtrack.specs.Standing.{Standing}
 use Rattle.prefilter.proofs.Going.{settled_left, settled_within}
-use Rattle.match_machine.proofs.run.settle.Goals as goal
+use Rattle.match_machine.proofs.run.move_on.Goals as goal
 
 pub loop-thread-preserved : goal.loop-thread-preserved
 loop-thread-preserved c =
