@@ -32,7 +32,7 @@ SNOBOL_SOURCES := $(shell find crates.txt $(wildcard $(call PARTS,snobol)) 2>/de
 LISTER_SOURCES := $(shell find crates.txt $(wildcard $(call PARTS,sno_list)) 2>/dev/null)
 PAGE_SOURCES := $(shell find crates.txt $(wildcard $(call PARTS,page)) 2>/dev/null)
 
-.PHONY: help run try sno snobol list install deb uninstall release test decks coverage collecting pages bound ways batch load refuse failing damage deep wrong time check bench compare variants random fmt clean page site browse toolchain program deck input
+.PHONY: help run try sno snobol list install deb uninstall release test decks coverage collecting pages bound ways batch load refuse failing damage deep wrong time check bench compare variants random programs fmt clean page site browse toolchain program deck input
 .DEFAULT_GOAL := help
 
 help: ## list the targets
@@ -177,6 +177,9 @@ compare: build/sno ## the workloads of bench/ on the proved program and on the o
 
 variants: build/sno ## rewrites of six workloads on the proved program, and what the same rewrites cost in Lua
 	@bench/compare --variants build/sno
+
+programs: build/sno ## ordinary programs on the proved program, and the same in Lua, in instructions
+	@bench/programs
 
 random: build/sno ## [SEED=word]: 200 loops of statements drawn by the seed (the day's), and the same in Lua
 	@bench/random $(SEED) --program build/sno

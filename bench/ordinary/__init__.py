@@ -1,0 +1,1 @@
+"""Ordinary programs, each as a deck and in Lua, and their inputs."""
