@@ -17,6 +17,7 @@ ghost use Rattle.instruction_steps.specs.Calling.{GoesTo, WaitsAsBefore};
 ghost use Rattle.instruction_steps.specs.Held.{Left, after, waiting};
 ghost use Rattle.segments.specs.Leading.{IsRunnable};
 
+use crate::slots::{NO_STRING, note, slot_at};
 use crate::state::State;
 use crate::status::Exit;
 use frames::pop_value;
@@ -24,6 +25,9 @@ use loader::Module;
 use model::{ErrorCode, Instr, ReturnKind};
 use strings::Text;
 use values::Fault;
+
+/// How many labels are noted at most.
+const LABELS: u32 = 1024;
 
 /// The place of the statement that a label names, if it is no return. The label may be the string of this number, which
 /// saves the look-up.
@@ -49,6 +53,45 @@ fn find_entry(program: &Module, label: &Text) -> Option<usize>
     };
     let statement = program.label(bytes)?;
     program.statement(statement)
+}
+
+/// The place of the statement that a label names, if it is no return, where nothing is known of the label's string. The
+/// first call notes the strings that label statements, and a label that is noted isn't looked up.
+#[inline(always)]
+pub fn entry_noted(labels: &mut Vec<u32>, program: &Module, label: &Text) -> Option<usize>
+    ensures { IfSome result (λ place. IsLabelled program.now label.now place) }
+{
+    if labels.is_empty() {
+        note_labels(labels, program);
+    }
+    let number = slot_at(labels.as_slice(), label_number(label));
+    entry_of(program, label, number)
+}
+
+// Notes the strings that label statements, as far as there is memory.
+#[cold]
+#[inline(never)]
+fn note_labels(labels: &mut Vec<u32>, program: &Module) {
+    for number in 0..NO_STRING {
+        let Some(label) = program.text(number) else {
+            return;
+        };
+        if let Some(_) = program.place_labelled(label, number) {
+            let Ok(()) = note(labels, label_number(label), number) else {
+                return;
+            };
+        }
+    }
+}
+
+// By which number a label is noted.
+#[inline(always)]
+fn label_number(label: &Text) -> u32 {
+    let mut number = 0u32;
+    for byte in label.as_slice() {
+        number = number.wrapping_mul(31).wrapping_add(*byte as u32);
+    }
+    number % LABELS
 }
 
 impl State {

@@ -24,7 +24,7 @@ mod state;
 mod status;
 mod variables;
 
-pub use gotos::entry_of;
+pub use gotos::{entry_noted, entry_of};
 pub use matches::{number_of, value_told};
 pub use slots::{NO_STRING, note, slot_at};
 pub use state::{State, is_of_call};

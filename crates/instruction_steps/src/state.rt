@@ -49,6 +49,8 @@ pub struct State {
     pub(crate) slots: Vec<u32>,
     /// The slots of the variables that matches assigned to last, by a number made of the name. They are hints.
     pub assigned: Vec<u32>,
+    /// The numbers of the strings that label statements, by a number made of the label. They are hints.
+    pub labels: Vec<u32>,
 }
 
 impl Drop for State {
@@ -63,6 +65,7 @@ impl Drop for State {
             world: _,
             slots: _,
             assigned: _,
+            labels: _,
         } = self;
     }
 }
@@ -131,6 +134,7 @@ impl State {
             world: World::new(alloc, level)?,
             slots: Vec::new(alloc),
             assigned: Vec::new(alloc),
+            labels: Vec::new(alloc),
         })
     }
 
