@@ -14,3 +14,4 @@ pub mod Calling
 pub mod Flowing
 pub mod Stopping
 pub mod Tests
+pub mod Opening

@@ -68,7 +68,7 @@ impl<'m, 'a> Machine<'m, 'a> {
         run.state.enter_variables(program)?;
         run.state.world.keep_slots()?;
         let form = form_of(alloc, program, &run.state.world)?;
-        let parts = parts_of(alloc, program, &run.state.world)?;
+        let parts = parts_of(alloc, program, &run.state.world, &form)?;
         Ok(Machine {
             program,
             form,
