@@ -17,7 +17,7 @@ ghost use Rattle.instruction_steps.specs.Calling.{GoesTo, WaitsAsBefore};
 ghost use Rattle.instruction_steps.specs.Held.{Left, after, waiting};
 ghost use Rattle.segments.specs.Leading.{IsRunnable};
 
-use crate::slots::{NO_STRING, note, slot_at};
+use crate::slots::{note, slot_at};
 use crate::state::State;
 use crate::status::Exit;
 use frames::pop_value;
@@ -28,6 +28,9 @@ use values::Fault;
 
 /// How many labels are noted at most.
 const LABELS: u32 = 1024;
+
+/// How many strings of a module are looked at for that.
+const STRINGS: u32 = 4096;
 
 /// The place of the statement that a label names, if it is no return. The label may be the string of this number, which
 /// saves the look-up.
@@ -56,7 +59,7 @@ fn find_entry(program: &Module, label: &Text) -> Option<usize>
 }
 
 /// The place of the statement that a label names, if it is no return, where nothing is known of the label's string. The
-/// first call notes the strings that label statements, and a label that is noted isn't looked up.
+/// first call notes which of the first strings label statements, and a label that is noted isn't looked up.
 #[inline(always)]
 pub fn entry_noted(labels: &mut Vec<u32>, program: &Module, label: &Text) -> Option<usize>
     ensures { IfSome result (λ place. IsLabelled program.now label.now place) }
@@ -68,11 +71,11 @@ pub fn entry_noted(labels: &mut Vec<u32>, program: &Module, label: &Text) -> Opt
     entry_of(program, label, number)
 }
 
-// Notes the strings that label statements, as far as there is memory.
+// Notes those of the first strings that label statements, as far as there is memory.
 #[cold]
 #[inline(never)]
 fn note_labels(labels: &mut Vec<u32>, program: &Module) {
-    for number in 0..NO_STRING {
+    for number in 0..STRINGS {
         let Some(label) = program.text(number) else {
             return;
         };
