@@ -17,7 +17,7 @@ ghost use Rattle.instruction_steps.specs.Calling.{GoesTo, WaitsAsBefore};
 ghost use Rattle.instruction_steps.specs.Held.{Left, after, waiting};
 ghost use Rattle.segments.specs.Leading.{IsRunnable};
 
-use crate::slots::{note, slot_at};
+use crate::slots::{NO_STRING, note, slot_at};
 use crate::state::State;
 use crate::status::Exit;
 use frames::pop_value;
@@ -71,10 +71,13 @@ pub fn entry_noted(labels: &mut Vec<u32>, program: &Module, label: &Text) -> Opt
     entry_of(program, label, number)
 }
 
-// Notes those of the first strings that label statements, as far as there is memory.
+// Notes which of the first strings label statements, in a table with room for all, as far as there is memory.
 #[cold]
 #[inline(never)]
 fn note_labels(labels: &mut Vec<u32>, program: &Module) {
+    let Ok(()) = note(labels, LABELS - 1, NO_STRING) else {
+        return;
+    };
     for number in 0..STRINGS {
         let Some(label) = program.text(number) else {
             return;
