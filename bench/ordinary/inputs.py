@@ -156,14 +156,20 @@ def date(rng):
 def sales(rng, count):
     """A head, and lines of fields with commas between them."""
     drawn = (
-        (date(rng), rng.choice(REGIONS), rng.choice(PRODUCTS), rng.randint(1, 99), rng.randint(1, 120)) for _ in range(count)
+        (date(rng), rng.choice(REGIONS), rng.choice(PRODUCTS), rng.randint(1, 99), rng.randint(1, 120))
+        for _ in range(count)
     )
     return ["date,region,product,units,price", *(",".join(map(str, it)) for it in drawn)]
 
 
+def run(rng):
+    """A letter, twenty times at most."""
+    return rng.choice("abWB .#") * int(min(rng.paretovariate(0.8), 20))
+
+
 def runs(rng, count):
     """Lines with runs of a letter."""
-    return ["".join(rng.choice("abWB .#") * int(min(rng.paretovariate(0.8), 20)) for _ in range(20))[:60] for _ in range(count)]
+    return ["".join(run(rng) for _ in range(20))[:60] for _ in range(count)]
 
 
 def entry(rng, words):
