@@ -14,6 +14,7 @@ use Rattle.model.specs.Language.Prototypes.{TypePrototype}
 use Rattle.model.specs.Machine.Steps.{MW}
 use Rattle.values.specs.Functions.{Functions, function_of, function_at, function_of_type, IfNamed}
 use Rattle.world.specs.Held.{WorldView, world_of}
+use Rattle.world.specs.Slots.{FunctionsStand, IfStands}
 use Rattle.values.specs.declared.functions.Function.{Function}
 use Rattle.values.specs.declared.functions.Function.TheVariants as function
 
@@ -91,3 +92,14 @@ named_so x false false fields = tt
 
 pub type_named : (name : Bytes) (fields some : List Bytes) (made : Functions) → ((x : Bytes) → function_at x made ≡ function_of_type name fields some x) → (x : Bytes) → IfNamed x (function_at x made)
 type_named name fields some made is x = subst (IfNamed x) (sym (is x)) (named_so x (list_any (λ f. bytes_eq f x) some) (bytes_eq name x) fields)
+
+-- ---- slots
+
+-- nor has it slots
+stands_so : (ns : List Bytes) (a b : Bool) (fields : List Bytes) → IfStands ns (if a then Some function.Field else if b then Some (function.Constructor fields) else None)
+stands_so ns true b fields = tt
+stands_so ns false true fields = tt
+stands_so ns false false fields = tt
+
+pub type_stands : (ns : List Bytes) (name : Bytes) (fields some : List Bytes) (made : Functions) → ((x : Bytes) → function_at x made ≡ function_of_type name fields some x) → FunctionsStand ns made
+type_stands ns name fields some made is x = subst (IfStands ns) (sym (is x)) (stands_so ns (list_any (λ f. bytes_eq f x) some) (bytes_eq name x) fields)

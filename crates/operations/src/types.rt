@@ -45,7 +45,7 @@ pub fn data(world: &mut World, alloc: Global, prototype: &TypePrototype) -> Resu
     ensures names { world.new.names ≡ world.old.names }
 {
     let made = functions_of(alloc, prototype)?;
-    world.functions_mut().append(made)?;
+    world.append_functions(made)?;
     world.note_type(prototype);
     Ok(())
 }

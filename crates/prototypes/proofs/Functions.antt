@@ -6,7 +6,7 @@ use Rattle.model.specs.declared.image.Level.{Level}
 use Rattle.std.proofs.lemmas.List.{take-append-drop}
 use Rattle.model.specs.Deck.Trees.{Bytes}
 use Rattle.model.specs.Language.Prototypes.{are_distinct, cut_at, function_cut, function_rest, is_function, is_name, is_primitive, listed}
-use Rattle.prototypes.specs.Views.{function_of, names_of}
+use Rattle.prototypes.specs.Views.{function_of, names_of, slotted}
 
 take_front : {A : Type 0} (xs ys : List A) → take (length xs) (xs ++ ys) ≡ xs
 take_front [] ys = refl
@@ -47,9 +47,9 @@ pub cut_once : (text name inner : Bytes) → cut_at 40 text ≡ Some (record { b
 cut_once text name inner first second = ap (function_rest name) (sym second) ∙ ap function_cut (sym first)
 
 -- a function's names are at least its own
-pub whole_names : (names : List Bytes) (arity : ℕ) → arity < length names → names ≡ names_of (function_of names arity)
-whole_names [] arity h = absurd (omega arith)
-whole_names (x ∷ xs) arity h =
+pub whole_names : (slots : List ℕ) (names : List Bytes) (arity : ℕ) → arity < length names → names ≡ names_of (slotted slots (function_of names arity))
+whole_names slots [] arity h = absurd (omega arith)
+whole_names slots (x ∷ xs) arity h =
     ap (λ ys. x ∷ ys) (sym (take-append-drop arity xs)) ∙ ap (λ n. x ∷ (take arity xs ++ drop n (x ∷ xs))) (sym (next arity))
 
 both_of : (a b c : Bool) → (a && b && c) ≡ true → b ≡ true
@@ -60,6 +60,6 @@ both_of false b c h = absurd (true≢false (sym h))
 -- the names of a function are all different
 pub function_names_differ : (l : Level) (names : List Bytes) (arity : ℕ) → arity < length names → is_function l (function_of names arity) ≡ true → are_distinct names ≡ true
 function_names_differ l names arity whole h =
-    let ns = names_of (function_of names arity) in
-    ap are_distinct (whole_names names arity whole)
+    let ns = names_of (slotted [] (function_of names arity)) in
+    ap are_distinct (whole_names [] names arity whole)
     ∙ both_of (list_all is_name ns) (are_distinct ns) (not (is_primitive l (function_of names arity).name)) h

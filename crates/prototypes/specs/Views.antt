@@ -10,6 +10,25 @@ abbrev pub IsCut : ℕ → Bytes → Option (Bor Bytes × Bor Bytes) → Type 0
 IsCut mark text None = cut_at mark text ≡ None
 IsCut mark text (Some p) = (cut_at mark text ≡ Some (record { before = p.0.now; after = p.1.now })) × (length p.1.now < length text)
 
+-- a function's prototype, and the slots of its variables, in the order of its names
+pub record FunctionView : Type 0 where
+  pub name : Bytes
+  pub arguments : List Bytes
+  pub locals : List Bytes
+  pub slots : List ℕ
+
+-- the prototype alone
+abbrev pub prototype_of : FunctionView → FunctionPrototype
+prototype_of f = record { name = f.name; arguments = f.arguments; locals = f.locals }
+
+-- a prototype with these slots
+abbrev pub slotted : (slots : List ℕ) → FunctionPrototype → FunctionView
+slotted slots f = record { name = f.name; arguments = f.arguments; locals = f.locals; slots = slots }
+
+-- a prototype without slots
+abbrev pub without_slots : FunctionPrototype → FunctionView
+without_slots f = slotted [] f
+
 -- a function's name, its arguments and its locals
 abbrev pub function_of : List Bytes → (arity : ℕ) → FunctionPrototype
 function_of names arity = record { name = get_or names 0 []; arguments = take arity (drop 1 names); locals = drop (arity + 1) names }
@@ -17,7 +36,7 @@ function_of names arity = record { name = get_or names 0 []; arguments = take ar
 abbrev pub of_parts : Parts → FunctionPrototype
 of_parts p = function_of p.names.items p.arity
 
-abbrev pub names_of : FunctionPrototype → List Bytes
+abbrev pub names_of : FunctionView → List Bytes
 names_of f = f.name ∷ (f.arguments ++ f.locals)
 
 -- a type's name and its fields

@@ -1,9 +1,9 @@
 //! Prototypes of functions.
 
-ghost use Rattle.std.specs.Prelude.{◌≡◌, ◌<◌, true, length, option_map, IfOk, IfSome};
+ghost use Rattle.std.specs.Prelude.{◌≡◌, ◌⊎◌, ◌<◌, [], true, length, option_map, IfOk, IfSome};
 ghost use Rattle.model.specs.Language.Prototypes.{are_distinct, cut_at, function_cut, function_prototype};
 ghost use Rattle.model.specs.Language.Prototypes.{is_function, listed};
-ghost use Rattle.prototypes.specs.Views.{names_of, of_parts};
+ghost use Rattle.prototypes.specs.Views.{names_of, of_parts, without_slots};
 
 use crate::names::{are_distinct_names, is_primitive};
 use crate::parts::{cut, push_listed, push_name};
@@ -20,7 +20,7 @@ struct Parts {
     names: Vec<Text>,
     // How many arguments there are.
     arity: usize,
-    // Where the variables of the names may stand, in the same order. They are hints.
+    // The slots of the variables of the names, in the same order, where they are known.
     slots: Vec<u32>,
 }
 
@@ -38,11 +38,12 @@ impl Drop for FunctionPrototype {
 impl Model for FunctionPrototype {
     ghost use Rattle.std.specs.Prelude.{◌≡◌, ◌<◌, true, length};
     ghost use Rattle.model.specs.Language.Prototypes as model;
-    ghost use Rattle.prototypes.specs.Views.{function_of};
+    ghost use Rattle.prototypes.specs.Views.{FunctionView, function_of, slotted};
 
-    ghost Value = { model.FunctionPrototype };
+    ghost Value = { FunctionView };
 
-    ghost view = { λ f. function_of f.parts.value.names.items f.parts.value.arity };
+    ghost view = { λ f.
+        slotted f.parts.value.slots.items (function_of f.parts.value.names.items f.parts.value.arity) };
 
     ghost invariant = { λ f.
         (f.parts.value.arity < length f.parts.value.names.items)
@@ -99,14 +100,17 @@ impl FunctionPrototype {
         &parts.names.as_slice()[parts.arity + 1..]
     }
 
-    /// Where the variables of the names may stand, in the order of `names`. They are hints, of which some may be missing.
-    pub fn slots(&self) -> &[u32] {
+    /// The slots of the variables of the names, in the order of `names`. At the end some may be missing.
+    pub fn slots(&self) -> &[u32]
+        ensures { result.now ≡ self.now.slots }
+    {
         self.parts.as_ref().slots.as_slice()
     }
 
     /// The prototype with these slots in place of its own. One that is shared keeps those that it has.
     pub fn with_slots(self, alloc: Global, slots: Vec<u32>) -> Result<FunctionPrototype, AllocError>
-        ensures { IfOk result (λ prototype. prototype ≡ self) }
+        ensures { IfOk result (λ prototype.
+            (prototype ≡ record self { slots = slots.items }) ⊎ (prototype ≡ self)) }
     {
         let FunctionPrototype { parts } = self;
         let parts = match Rc::try_unwrap(parts) {
@@ -148,6 +152,7 @@ fn prototype_of(
           locals = listed locals.now;
         }) }
     ensures arity { IfOk result (λ parts. parts.arity < length parts.names.items) }
+    ensures slots { IfOk result (λ parts. parts.slots.items ≡ []) }
 {
     let mut names = Vec::new(alloc);
     push_name(alloc, name, &mut names)?;
@@ -165,6 +170,7 @@ fn prototype_of(
 fn parts_of(alloc: Global, text: &[u8]) -> Result<Option<Parts>, AllocError>
     ensures parts { IfOk result (λ parts. option_map of_parts parts ≡ function_cut (cut_at 40 text.now)) }
     ensures arity { IfOk result (λ parts. IfSome parts (λ p. p.arity < length p.names.items)) }
+    ensures slots { IfOk result (λ parts. IfSome parts (λ p. p.slots.items ≡ [])) }
 {
     let Some((name, inner)) = cut(b'(', text) else {
         return Ok(None);
@@ -175,13 +181,14 @@ fn parts_of(alloc: Global, text: &[u8]) -> Result<Option<Parts>, AllocError>
     Ok(Some(prototype_of(alloc, name, arguments, locals)?))
 }
 
-/// The prototype that a text is, if it is one of a function at a level.
+/// The prototype that a text is, if it is one of a function at a level. It has no slots.
 pub fn function_prototype(
     alloc: Global,
     level: Level,
     text: &[u8],
 ) -> Result<Option<FunctionPrototype>, AllocError>
-    ensures { IfOk result (λ prototype. prototype ≡ function_prototype level text.now) }
+    ensures { IfOk result (λ prototype.
+        prototype ≡ option_map without_slots (function_prototype level text.now)) }
 {
     let Some(parts) = parts_of(alloc, text)? else {
         return Ok(None);

@@ -14,6 +14,7 @@ use Rattle.model.specs.Module.Images.{module_of}
 use Rattle.model.proofs.Machine.Collecting.{operands_on, steps_collected, value_on}
 use Rattle.model.proofs.Machine.StepsLiving.{seen_alike}
 use Rattle.segments.proofs.Leading.{steps_rest}
+use Rattle.statement_machine.proofs.Matching.{still_asking}
 use Rattle.statement_machine.proofs.Running.{some_made}
 use Rattle.unit_io.proofs.Serving.{told_then}
 use Rattle.instruction_steps.specs.Held.{handlers_in, state_of, waiting}
@@ -117,7 +118,7 @@ stands_in im (task.Match g) fs s w h = h
 
 pub lacks_nothing : (im : Image) (old new : Run) → IsSameRun old new → LacksNothing im old → LacksNothing im new
 lacks_nothing im old new h k =
-    subst (λ r. LacksNothing im r) (sym h.same) (k.0, stands_in im old.task old.frames.top old.state new.state.world k.1)
+    subst (λ r. LacksNothing im r) (sym h.same) (still_asking old.frames.top k.0 h.names, stands_in im old.task old.frames.top old.state new.state.world k.1)
 
 -- ---- each expression that a run holds
 

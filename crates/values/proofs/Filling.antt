@@ -2,8 +2,7 @@
 use Rattle.std.proofs.Common.{◌≡◌, ℕ, ◌+◌, List, [], ◌∷◌, ◌++◌, length, map, take, refl, sym, ap, ◌∙◌, arith, append_assoc, append-nil}
 use Rattle.std.proofs.lemmas.List.{length-append, map-append, take-map}
 use Rattle.model.specs.Language.Values.{Str}
-use Rattle.model.specs.Language.Prototypes.{FunctionPrototype}
-use Rattle.prototypes.specs.Views.{names_of}
+use Rattle.prototypes.specs.Views.{FunctionView, names_of}
 use Rattle.values.specs.Values.{value_of}
 use Rattle.values.specs.Arguments.{AreFilled, ArePut, nulls}
 use Rattle.values.specs.declared.value.Value.{Value}
@@ -28,7 +27,7 @@ fill_turn before now new n v null more (vs, all, same, size) = (
   omega (arith, ap length more, length-append now (v ∷ []), size),
 )
 
-pub put_all : (f : FunctionPrototype) (given before mid after : List Value) (null : Value) (n count : ℕ) → value_of null ≡ Str [] → n ≡ length f.arguments → mid ≡ (before ++ null ∷ []) ++ take n given → count ≡ length before + length (names_of f)
+pub put_all : (f : FunctionView) (given before mid after : List Value) (null : Value) (n count : ℕ) → value_of null ≡ Str [] → n ≡ length f.arguments → mid ≡ (before ++ null ∷ []) ++ take n given → count ≡ length before + length (names_of f)
     → AreFilled count mid after → ArePut f given before after
 put_all f given before mid after null n count is arity put all (ns, filled, same, size) =
     let vs : List Value = null ∷ (take n given ++ ns) in

@@ -3,7 +3,7 @@
 ghost use Rattle.std.specs.Prelude.{◌≡◌, ◌≤◌, ◌++◌, ◌∷◌, [], map, length, OnOk};
 ghost use Rattle.model.specs.Language.Values.{Str};
 ghost use Rattle.model.specs.Language.Calls.{arg_at};
-ghost use Rattle.values.specs.Arguments.{AreFilled, ArePut};
+ghost use Rattle.values.specs.Arguments.{AreFilled, ArePut, slot_in};
 ghost use Rattle.values.specs.Values.{value_of};
 
 use crate::value::Value;
@@ -24,7 +24,9 @@ pub fn argument<'a>(arguments: &'a [Value], number: usize, null: &'a Value) -> &
 
 /// The slot of a name among the slots of names, if it is known.
 #[inline]
-pub fn slot_at(slots: &[u32], number: usize) -> u32 {
+pub fn slot_at(slots: &[u32], number: usize) -> u32
+    ensures { result ≡ slot_in slots.now number }
+{
     match slots.get(number) {
         Some(slot) => *slot,
         None => NO_SLOT,

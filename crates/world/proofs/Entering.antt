@@ -6,9 +6,9 @@ use Rattle.model.specs.Deck.Trees.{Bytes}
 use Rattle.model.specs.Language.Io.{Io}
 use Rattle.model.specs.Language.Values.{Str, set_var}
 use Rattle.model.specs.Language.Calls.{arg_at, bind_arguments, enter_call}
-use Rattle.model.specs.Language.Prototypes.{FunctionPrototype, are_distinct}
+use Rattle.model.specs.Language.Prototypes.{are_distinct}
 use Rattle.model.specs.Machine.Steps.{MVal, MW}
-use Rattle.prototypes.specs.Views.{names_of}
+use Rattle.prototypes.specs.Views.{FunctionView, names_of}
 use Rattle.values.specs.Values.{value_of}
 use Rattle.world.specs.Calling.{AreSaved}
 use Rattle.world.specs.Counts.{deeper}
@@ -64,7 +64,7 @@ past_two u v z (suc zero) h = absurd (omega (arith, h))
 past_two u v z (suc (suc zero)) h = absurd (omega (arith, h))
 past_two u v z (suc (suc (suc k))) h = refl
 
-bound_as : (f : FunctionPrototype) (names : List Bytes) (gs taken : List MVal) (w w1 w2 : MW) → names ≡ names_of f → taken ≡ take (length f.arguments) gs → w1 ≡ bind_arguments names (Str [] ∷ taken) w → w2 ≡ deeper w1 → w2 ≡ enter_call f.name f.arguments f.locals gs w
+bound_as : (f : FunctionView) (names : List Bytes) (gs taken : List MVal) (w w1 w2 : MW) → names ≡ names_of f → taken ≡ take (length f.arguments) gs → w1 ≡ bind_arguments names (Str [] ∷ taken) w → w2 ≡ deeper w1 → w2 ≡ enter_call f.name f.arguments f.locals gs w
 bound_as f names gs taken w w1 w2 is all set last =
     last
     ∙ ap deeper (set
@@ -72,8 +72,8 @@ bound_as f names gs taken w w1 w2 is all set last =
     ∙ ap (λ vs. bind_arguments (names_of f) (Str [] ∷ vs) w) (sym (append-nil (take (length f.arguments) gs)))
     ∙ bind_all f.arguments f.locals gs 0 (set_var f.name (Str []) w))
 
-pub entered_with : (f : FunctionPrototype) (names : List Bytes) (v : MVal) (w w1 w2 : MW) → 0 < length f.arguments → names ≡ names_of f → w1 ≡ bind_arguments names (Str [] ∷ v ∷ []) w → w2 ≡ deeper w1 → w2 ≡ enter_call f.name f.arguments f.locals (v ∷ []) w
+pub entered_with : (f : FunctionView) (names : List Bytes) (v : MVal) (w w1 w2 : MW) → 0 < length f.arguments → names ≡ names_of f → w1 ≡ bind_arguments names (Str [] ∷ v ∷ []) w → w2 ≡ deeper w1 → w2 ≡ enter_call f.name f.arguments f.locals (v ∷ []) w
 entered_with f names v w w1 w2 some is set last = bound_as f names (v ∷ []) (v ∷ []) w w1 w2 is (take_one (length f.arguments) v some) set last
 
-pub entered_with_two : (f : FunctionPrototype) (names : List Bytes) (u v : MVal) (w w1 w2 : MW) → 1 < length f.arguments → names ≡ names_of f → w1 ≡ bind_arguments names (Str [] ∷ u ∷ v ∷ []) w → w2 ≡ deeper w1 → w2 ≡ enter_call f.name f.arguments f.locals (u ∷ v ∷ []) w
+pub entered_with_two : (f : FunctionView) (names : List Bytes) (u v : MVal) (w w1 w2 : MW) → 1 < length f.arguments → names ≡ names_of f → w1 ≡ bind_arguments names (Str [] ∷ u ∷ v ∷ []) w → w2 ≡ deeper w1 → w2 ≡ enter_call f.name f.arguments f.locals (u ∷ v ∷ []) w
 entered_with_two f names u v w w1 w2 some is set last = bound_as f names (u ∷ v ∷ []) (u ∷ v ∷ []) w w1 w2 is (take_two (length f.arguments) u v some) set last

@@ -5,9 +5,8 @@ use Rattle.std.proofs.Math.Seq.{drop-append_seam, take-append_seam}
 use Rattle.model.specs.Deck.Trees.{Bytes}
 use Rattle.model.specs.Language.Values.{Str, set_var}
 use Rattle.model.specs.Language.Calls.{bind_arguments, enter_call}
-use Rattle.model.specs.Language.Prototypes.{FunctionPrototype}
 use Rattle.model.specs.Machine.Steps.{MVal, MW}
-use Rattle.prototypes.specs.Views.{names_of}
+use Rattle.prototypes.specs.Views.{FunctionView, names_of}
 use Rattle.values.specs.Values.{value_of}
 use Rattle.values.specs.Arguments.{ArePut, nulls}
 use Rattle.world.specs.Calling.{AreSaved}
@@ -51,7 +50,7 @@ bind_all (x ∷ xs) ys (v ∷ vs) k w = bind_all xs ys vs k (set_var x v w)
 
 -- ---- entering
 
-module _ (f : FunctionPrototype) (given before mid : List Value) (base : ℕ) (at : base ≡ length before) (put : ArePut f given before mid) where
+module _ (f : FunctionView) (given before mid : List Value) (base : ℕ) (at : base ≡ length before) (put : ArePut f given before mid) where
   pub put_count : (names : List Bytes) → names ≡ names_of f → base + length names ≡ length mid
   put_count names is = omega (arith, at, ap length is, ap length put.1, length-append before put.0, put.2)
 

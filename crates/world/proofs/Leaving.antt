@@ -6,13 +6,12 @@ use Rattle.model.specs.declared.instr.ReturnKind.TheVariants as kind
 use Rattle.model.specs.declared.run.ErrorCode.{ErrorCode}
 use Rattle.model.specs.declared.run.ErrorCode.TheVariants as error
 use Rattle.model.specs.Deck.Trees.{Bytes}
-use Rattle.model.specs.Language.Prototypes.{FunctionPrototype}
 use Rattle.model.specs.Deck.Target.{Name}
 use Rattle.model.specs.Language.Conversions.{Conv, Got, Bad, Op, Gives, Refuses, Faults, conv, to_name}
 use Rattle.model.specs.Language.Calls.{AValue, AName, back_to_caller, leave_op, or_no_name}
 use Rattle.model.specs.Language.Calls as calls
 use Rattle.model.specs.Machine.Steps.{PCode, MVal, MW, MBack}
-use Rattle.prototypes.specs.Views.{names_of}
+use Rattle.prototypes.specs.Views.{FunctionView, names_of}
 use Rattle.world.specs.Counts.{with_caller}
 use Rattle.values.specs.declared.value.Value.{Value}
 use Rattle.values.specs.Answers.{AnswersOrFails}
@@ -58,7 +57,7 @@ gone_back r k xs saved statement level w w1 w2 names here depth restored last =
 -- ---- giving back
 
 -- where nothing was saved
-pub none_saved : (f : FunctionPrototype) (saved : List Value) → min (length (names_of f)) (length saved) ≡ 0 → (w : MW) → (saved ≡ saved_below (names_of f) saved) × (w ≡ calls.restore (saved_as (names_of f) (saved_by (names_of f) saved)) w)
+pub none_saved : (f : FunctionView) (saved : List Value) → min (length (names_of f)) (length saved) ≡ 0 → (w : MW) → (saved ≡ saved_below (names_of f) saved) × (w ≡ calls.restore (saved_as (names_of f) (saved_by (names_of f) saved)) w)
 none_saved f [] none w =
     let at : older (names_of f) [] ≡ 0 = omega arith in (
       sym (ap (λ k. take k []) at),

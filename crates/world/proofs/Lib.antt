@@ -9,3 +9,4 @@ pub mod Exchanging
 pub mod Giving
 pub mod Entering
 pub mod Restoring
+pub mod Slots

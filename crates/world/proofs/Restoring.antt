@@ -8,9 +8,9 @@ use Rattle.model.specs.Deck.Trees.{Bytes}
 use Rattle.model.specs.Language.Io.{Io}
 use Rattle.model.specs.Language.Values.{set_var}
 use Rattle.model.specs.Language.Calls as calls
-use Rattle.model.specs.Language.Prototypes.{FunctionPrototype, are_distinct}
+use Rattle.model.specs.Language.Prototypes.{are_distinct}
 use Rattle.model.specs.Machine.Steps.{MW}
-use Rattle.prototypes.specs.Views.{names_of}
+use Rattle.prototypes.specs.Views.{FunctionView, names_of}
 use Rattle.values.specs.Values.{value_of}
 use Rattle.world.specs.Calling.{older, saved_as, saved_below, saved_by}
 use Rattle.world.specs.Held.{WorldView, world_of}
@@ -90,6 +90,6 @@ module _ (names : List Bytes) (saved : List Value) (count : ℕ) (many : count �
       ∙ ap (λ n. calls.restore (saved_as (take n names) vs) w) (sym size)
       ∙ ap (λ ss. calls.restore ss w) (saved_short names vs)
 
-pub first_is : (f : FunctionPrototype) (count : ℕ) → 0 < count → get_or (take count (names_of f)) 0 [] ≡ f.name
+pub first_is : (f : FunctionView) (count : ℕ) → 0 < count → get_or (take count (names_of f)) 0 [] ≡ f.name
 first_is f zero some = absurd (omega (arith, some))
 first_is f (suc n) some = refl

@@ -6,8 +6,7 @@ use Rattle.model.specs.Language.Calls.{saved_of}
 use Rattle.model.specs.Machine.Steps.{MVal, MW}
 use Rattle.values.specs.Values.{value_of}
 use Rattle.world.specs.Held.{WorldView, value_in, variable_at, world_of}
-use Rattle.model.specs.Language.Prototypes.{FunctionPrototype}
-use Rattle.prototypes.specs.Views.{names_of}
+use Rattle.prototypes.specs.Views.{FunctionView, names_of}
 use Rattle.world.specs.Calling.{AreSaved, IsKept, saved_as}
 use Rattle.world.specs.declared.calls.Kept.{Kept}
 use Rattle.values.specs.declared.value.Value.{Value}
@@ -50,7 +49,7 @@ saved_short (x ∷ xs) (v ∷ vs) = ap (λ ss. record { var = x; value = value_o
 
 -- ---- what a call keeps
 
-pub kept_is : (f : FunctionPrototype) (k : Kept) (xs : List Bytes) (h : WorldView) (before after : List Value) → k.prototype ≡ f → xs ≡ names_of f → h.keys.stno ≡ k.statement → h.keys.fnclevel ≡ k.level → AreSaved xs before after h → IsKept k f before after h
+pub kept_is : (f : FunctionView) (k : Kept) (xs : List Bytes) (h : WorldView) (before after : List Value) → k.prototype ≡ f → xs ≡ names_of f → h.keys.stno ≡ k.statement → h.keys.fnclevel ≡ k.level → AreSaved xs before after h → IsKept k f before after h
 kept_is f k xs h before after same names statement level (vs, all, saved) =
     let here : map value_of vs ≡ map (values_in h) (names_of f) = saved ∙ ap (map (values_in h)) names in (
       same,

@@ -10,7 +10,7 @@ use Rattle.model.specs.Language.Values as values
 use Rattle.model.specs.Language.Values.{Str, set_plain}
 use Rattle.model.specs.Language.Conversions.{Gives}
 use Rattle.model.specs.Machine.Steps.{MW}
-use Rattle.model.specs.Language.Prototypes.{FunctionPrototype}
+use Rattle.prototypes.specs.Views.{FunctionView, prototype_of}
 use Rattle.model.specs.Language.Primitives.{define_op, entry_or, set_function}
 use Rattle.values.specs.Functions.{Functions, function_of, function_at, functions_in, IsNamed, IfNamed}
 use Rattle.world.specs.Held.{WorldView, world_of}
@@ -37,7 +37,7 @@ function_put h new x f puts io = λ i. set_plain (record (world_of h io).plain {
 pub found_there : (x : Bytes) (o : Option (Bor Function)) (f : Bor Function) (copy : Function) (fs : Functions) → option_copied o ≡ function_at x fs → o ≡ Some f → copy ≡ f.now → Some (function_of copy) ≡ functions_in fs x
 found_there x o f copy fs at is same = ap (λ z. Some (function_of z)) same ∙ ap (λ z. option_map function_of (option_copied z)) (sym is) ∙ ap (option_map function_of) at
 
-pub defined_is : (f : FunctionPrototype) (entry : Option Bytes) (name label : Bytes) (w new : MW) → name ≡ f.name → label ≡ entry_or name entry → new ≡ set_function name (values.Defined label f.arguments f.locals) w → define_op entry (Some f) w ≡ Gives (Str []) new
+pub defined_is : (f : FunctionView) (entry : Option Bytes) (name label : Bytes) (w new : MW) → name ≡ f.name → label ≡ entry_or name entry → new ≡ set_function name (values.Defined label f.arguments f.locals) w → define_op entry (Some (prototype_of f)) w ≡ Gives (Str []) new
 defined_is f entry name label w new same at put =
     ap (λ x. Gives (Str []) (set_function x (values.Defined (entry_or x entry) f.arguments f.locals) w)) (sym same)
     ∙ ap (λ l. Gives (Str []) (set_function name (values.Defined l f.arguments f.locals) w)) (sym at)

@@ -6,8 +6,7 @@ use Rattle.model.specs.Language.Conversions.{Op, Gives, Refuses, Faults}
 use Rattle.model.specs.Language.Calls.{AValue, AName, Saved, kept_of}
 use Rattle.model.specs.Language.Calls as calls
 use Rattle.model.specs.Machine.Steps.{PCode, MW, MBack}
-use Rattle.model.specs.Language.Prototypes.{FunctionPrototype}
-use Rattle.prototypes.specs.Views.{names_of}
+use Rattle.prototypes.specs.Views.{FunctionView, names_of}
 use Rattle.pattern_compiler.specs.View.{name_of}
 use Rattle.world.specs.Held.{WorldView, value_in, variable_at, world_of}
 use Rattle.values.specs.Values.{value_of}
@@ -52,7 +51,7 @@ abbrev pub AreSaved : List Bytes → (before after : List Value) → WorldView �
 AreSaved xs before after h = (vs : List Value) × (after ≡ before ++ vs) × (map value_of vs ≡ map (λ x. value_in (variable_at x h.variables)) xs)
 
 -- a call keeps what it has to, and put what it saved at the end
-abbrev pub IsKept : Kept → FunctionPrototype → (before after : List Value) → WorldView → Type 0
+abbrev pub IsKept : Kept → FunctionView → (before after : List Value) → WorldView → Type 0
 IsKept k f before after h =
     (k.prototype ≡ f)
     × ((vs : List Value) × (after ≡ before ++ vs) × (length vs ≡ length (names_of f)) × ((io : Io) → kept_as k vs ≡ kept_of f.name f.arguments f.locals (world_of h io)))

@@ -17,6 +17,7 @@ ghost use Rattle.values.specs.Arguments.{AreFilled, ArePut};
 ghost use Rattle.world.specs.Calling.{AreSaved, IsKept, LeavesTo, given_of, kept_with, saved_as, saved_below};
 ghost use Rattle.world.specs.declared.calls.Given.TheVariants as given;
 ghost use Rattle.world.specs.Held.{value_in, variable_at, world_of};
+ghost use Rattle.world.specs.Slots.{AreSlotsOf, HasSlots, KeptStands};
 ghost use Rattle.values.specs.Values.{value_of};
 
 use crate::world::World;
@@ -86,6 +87,7 @@ impl World {
         values: &mut Vec<Value>,
     ) -> Result<(), AllocError>
         requires distinct { are_distinct names.now ≡ true }
+        requires slots { AreSlotsOf names.now slots.now self.old.names }
         requires count { base + length names.now ≡ length values.old.items }
         ensures set { OnOk result ((io : Io) → world_of self.new io
             ≡ bind_arguments names.now (map value_of (drop base values.old.items)) (world_of self.old io)) }
@@ -109,6 +111,7 @@ impl World {
         saved: &mut Vec<Value>,
     ) -> Result<Value, AllocError>
         requires distinct { are_distinct names.now ≡ true }
+        requires slots { AreSlotsOf names.now slots.now self.old.names }
         requires some { 0 < length names.now }
         requires count { length names.now ≤ length saved.old.items }
         ensures values { OnOk result
@@ -140,6 +143,7 @@ impl World {
         arguments: &mut Vec<Value>,
         saved: &mut Vec<Value>,
     ) -> Result<Kept, AllocError>
+        requires { HasSlots self.old.names prototype }
         ensures entered { OnOk result ((io : Io)
             → world_of self.new io
             ≡ enter_call prototype.name prototype.arguments prototype.locals
@@ -168,7 +172,8 @@ impl World {
         argument: Value,
         saved: &mut Vec<Value>,
     ) -> Result<Kept, AllocError>
-        requires { 0 < length prototype.arguments }
+        requires slots { HasSlots self.old.names prototype }
+        requires some { 0 < length prototype.arguments }
         ensures entered { OnOk result ((io : Io)
             → world_of self.new io
             ≡ enter_call prototype.name prototype.arguments prototype.locals
@@ -202,7 +207,8 @@ impl World {
         second: Value,
         saved: &mut Vec<Value>,
     ) -> Result<Kept, AllocError>
-        requires { 1 < length prototype.arguments }
+        requires slots { HasSlots self.old.names prototype }
+        requires some { 1 < length prototype.arguments }
         ensures entered { OnOk result ((io : Io)
             → world_of self.new io
             ≡ enter_call prototype.name prototype.arguments prototype.locals
@@ -251,6 +257,7 @@ impl World {
         kept: &Kept,
         saved: &mut Vec<Value>,
     ) -> Result<Value, AllocError>
+        requires { KeptStands self.old.names kept.now }
         ensures values { OnOk result
             (saved.new.items ≡ saved_below (names_of kept.now.prototype) saved.old.items) }
         ensures back { OnOk result ((io : Io)
@@ -280,6 +287,7 @@ impl World {
         kept: &Kept,
         saved: &mut Vec<Value>,
     ) -> Result<Option<Given>, Fault>
+        requires { KeptStands self.old.names kept.now }
         ensures values { OnOk result
             (saved.new.items ≡ saved_below (names_of kept.now.prototype) saved.old.items) }
         ensures left { (io : Io) → AnswersOrFails (answer_map (option_map given_of) result) (world_of self.new io)
@@ -302,6 +310,7 @@ impl World {
         kept: &Kept,
         saved: &mut Vec<Value>,
     ) -> Result<Option<Given>, Fault>
+        requires { KeptStands self.old.names kept.now }
         ensures values { OnOk result
             (saved.new.items ≡ saved_below (names_of kept.now.prototype) saved.old.items) }
         ensures left { (io : Io) → AnswersOrFails (answer_map (option_map given_of) result) (world_of self.new io)
@@ -327,6 +336,7 @@ impl World {
         kept: &Kept,
         saved: &mut Vec<Value>,
     ) -> Result<Value, AllocError>
+        requires { KeptStands self.old.names kept.now }
         ensures values { OnOk result
             (saved.new.items ≡ saved_below (names_of kept.now.prototype) saved.old.items) }
         ensures left { IfOk result (λ value. (io : Io)

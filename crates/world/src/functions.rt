@@ -3,14 +3,18 @@
 ghost use Rattle.std.specs.Prelude.{◌≡◌, [], cond, bytes_eq, option_map, Some, IfOk, IfSome, OnOk, OnErr};
 ghost use Rattle.std.specs.Option.{option_copied, option_or};
 ghost use Rattle.model.specs.Language.Io.{Io};
+ghost use Rattle.indexmap.specs.IndexMap.{IsUnique};
 ghost use Rattle.model.specs.Deck.Trees.{Bytes};
 ghost use Rattle.model.specs.Language.Values.{Str};
 ghost use Rattle.model.specs.Language.Conversions.{Gives};
 ghost use Rattle.model.specs.Language.Primitives.{define_op, entry_or, set_function};
+ghost use Rattle.prototypes.specs.Views.{prototype_of};
 ghost use Rattle.values.specs.Functions.{function_of, function_at, IsNamed, IfNamed};
 ghost use Rattle.world.specs.Held.{world_of};
+ghost use Rattle.world.specs.Slots.{AreSlotsOf, FunctionStands, FunctionsStand, HasSlots, IfStands};
 
 use crate::world::World;
+use indexmap::IndexMap;
 use prototypes::{FunctionPrototype, TypePrototype};
 use std::alloc::{AllocError, Global};
 use strings::Text;
@@ -32,6 +36,7 @@ impl World {
         ensures function { IfOk result (λ found. (io : Io)
             → option_map function_of found ≡ (world_of self.now io).plain.functions name.now) }
         ensures named { IfOk result (λ found. IfNamed name.now found) }
+        ensures stands { IfOk result (λ found. IfStands self.now.names found) }
     {
         match self.functions.get(name, slot) {
             Some(function) => Ok(Some(function.clone()?)),
@@ -46,13 +51,15 @@ impl World {
         ensures function { (io : Io)
             → option_map function_of (option_copied result) ≡ (world_of self.now io).plain.functions name.now }
         ensures named { IfSome result (λ f. IsNamed name.now f.now) }
+        ensures stands { IfSome result (λ f. FunctionStands self.now.names f.now) }
     {
         self.functions.get(name, slot)
     }
 
     /// Gives a name another function.
     pub(crate) fn put_function(&mut self, name: Text, function: Function) -> Result<(), AllocError>
-        requires { IsNamed name function }
+        requires named { IsNamed name function }
+        requires stands { FunctionStands self.old.names function }
         ensures ok { OnOk result ((io : Io)
             → world_of self.new io ≡ set_function name (function_of function) (world_of self.old io)) }
         ensures err { OnErr result (self.new ≡ self.old) }
@@ -61,11 +68,29 @@ impl World {
         self.functions.put(name, function)
     }
 
-    // The slots of the variables that are there.
-    fn slots_of(&self, names: &[Text]) -> Result<Vec<u32>, AllocError> {
+    /// Puts the functions of a type in the places of those that have their names.
+    pub fn append_functions(
+        &mut self,
+        functions: IndexMap<Text, Function>,
+    ) -> Result<(), AllocError>
+        requires unique { IsUnique bytes_eq functions }
+        requires named { (x : Bytes) → IfNamed x (function_at x functions.entries) }
+        requires stands { FunctionsStand self.old.names functions.entries }
+        ensures ok { OnOk result ((x : Bytes) → function_at x self.new.functions
+            ≡ option_or (function_at x functions.entries) (function_at x self.old.functions)) }
+        ensures others { self.new ≡ record self.old { functions = self.new.functions } }
+        ensures err { OnErr result (self.new ≡ self.old) }
+    {
+        self.functions.append(functions)
+    }
+
+    // The slots that names keep.
+    fn slots_of(&self, names: &[Text]) -> Result<Vec<u32>, AllocError>
+        ensures { IfOk result (λ slots. AreSlotsOf names.now slots.items self.now.names) }
+    {
         let mut slots = Vec::new(self.alloc());
         for name in names {
-            slots.push(self.slot_of(name))?;
+            slots.push(self.kept_slot(name))?;
         }
         Ok(slots)
     }
@@ -111,8 +136,10 @@ impl World {
         entry: Option<Text>,
         prototype: FunctionPrototype,
     ) -> Result<(), AllocError>
+        requires { HasSlots self.old.names prototype }
         ensures ok { OnOk result ((io : Io)
-            → define_op entry (Some prototype) (world_of self.old io) ≡ Gives (Str []) (world_of self.new io)) }
+            → define_op entry (Some (prototype_of prototype)) (world_of self.old io)
+            ≡ Gives (Str []) (world_of self.new io)) }
         ensures err { OnErr result (self.new ≡ self.old) }
         ensures names { self.new.names ≡ self.old.names }
     {
@@ -121,14 +148,16 @@ impl World {
         self.put_function(name, Function::Defined(label, prototype))
     }
 
-    /// Makes a function, which begins at a label, or else at the label of its own name.
+    /// Makes a function, which begins at a label, or else at the label of its own name. Its prototype has no slots yet.
     pub fn define(
         &mut self,
         entry: Option<Text>,
         prototype: FunctionPrototype,
     ) -> Result<(), AllocError>
+        requires { prototype.slots ≡ [] }
         ensures ok { OnOk result ((io : Io)
-            → define_op entry (Some prototype) (world_of self.old io) ≡ Gives (Str []) (world_of self.new io)) }
+            → define_op entry (Some (prototype_of prototype)) (world_of self.old io)
+            ≡ Gives (Str []) (world_of self.new io)) }
         ensures err { OnErr result (self.new ≡ self.old) }
         ensures names { self.new.names ≡ self.old.names }
     {

@@ -13,6 +13,7 @@ ghost use Rattle.pattern_compiler.specs.View.{name_of};
 ghost use Rattle.values.specs.Values.{value_of};
 ghost use Rattle.world.specs.Held.{world_of, IsPlain, StandsAs, StandsIn, variable_at, value_in};
 ghost use Rattle.world.specs.Held.{Holds, IsSilent};
+ghost use Rattle.world.specs.Slots.{IsSlotOf};
 ghost use Rattle.values.specs.declared.value.Value.{Value};
 ghost use Rattle.values.specs.declared.variable.Variable.{Variable};
 
@@ -53,6 +54,32 @@ impl World {
             }
         }
         self.find_slot(name)
+    }
+
+    /// Where a variable stands, whose slot is known to be right if it is known at all.
+    #[inline(always)]
+    pub(crate) fn known_slot(&self, name: &Text, slot: u32) -> Option<usize>
+        requires { IsSlotOf name.now slot self.now.names }
+        ensures there { is_some result ≡ is_some (variable_at name.now self.now.variables) }
+        ensures entry { IfSome result (λ at. StandsIn name.now at self.now.variables) }
+    {
+        if slot == NO_SLOT {
+            return self.find_slot(name);
+        }
+        let _count = self.variables.len();
+        Some(slot as usize)
+    }
+
+    /// The slot that a name keeps, if it keeps one.
+    pub(crate) fn kept_slot(&self, name: &Text) -> u32
+        ensures { IsSlotOf name.now result self.now.names }
+    {
+        let slot = self.slot_of(name);
+        if self.is_named(slot, name) {
+            slot
+        } else {
+            NO_SLOT
+        }
     }
 
     // A variable, by a look-up.

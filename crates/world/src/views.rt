@@ -3,13 +3,13 @@
 ghost use Rattle.std.specs.Borrow.{sem};
 ghost use Rattle.std.specs.Prelude.{◌≡◌, ◌≤◌, IfSome, length, None};
 ghost use Rattle.world.specs.Held.{IsIn};
-ghost use Rattle.world.specs.Lending.{LendsFunctions, LendsKeywords, LendsObjects};
+ghost use Rattle.world.specs.Lending.{LendsKeywords, LendsObjects};
 
 use crate::world::World;
 use heap::Heap;
 use keywords::Keywords;
 use strings::Text;
-use values::{FunctionTable, Value};
+use values::Value;
 
 impl World {
     /// The name and the value of the variable in a slot. The slots are in the order of first assignment.
@@ -36,15 +36,6 @@ impl World {
         ensures held { result.now ≡ self.old.objects }
     {
         &mut self.heap
-    }
-
-    /// The functions that aren't primitive, to be changed.
-    #[inline(always)]
-    pub fn functions_mut(&mut self) -> &mut FunctionTable
-        ensures* lends { sem 𝓛 (LendsFunctions self.entry result) }
-        ensures held { result.now ≡ self.old.functions }
-    {
-        &mut self.functions
     }
 
     /// The keywords.

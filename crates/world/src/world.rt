@@ -18,6 +18,7 @@ ghost use Rattle.world.specs.Held.{world_of, IsPlain, name_at, zero_in, variable
 ghost use Rattle.world.specs.Held.{Holds, IsLeftOf, StaySilent};
 ghost use Rattle.world.specs.Held.{input_in, output_in};
 ghost use Rattle.world.specs.Calling.{AreSaved};
+ghost use Rattle.world.specs.Slots.{IsSlotOf};
 ghost use Rattle.world.specs.Held.{with_variable, pattern_variable, first_patterns, first_variables};
 ghost use Rattle.values.specs.declared.value.Value.TheVariants.{String};
 ghost use Rattle.values.specs.declared.value.Value.{Value};
@@ -61,6 +62,7 @@ impl Drop for World {
 
 impl Model for World {
     ghost use Rattle.world.specs.Held.{AreNamed, WorldView};
+    ghost use Rattle.world.specs.Slots.{FunctionsStand};
 
     ghost Value = { WorldView };
 
@@ -73,7 +75,8 @@ impl Model for World {
       names = w.names.items;
     } };
 
-    ghost invariant = { λ w. AreNamed w.names.items w.variables.entries };
+    ghost invariant = { λ w.
+        AreNamed w.names.items w.variables.entries × FunctionsStand w.names.items w.functions };
 }
 
 impl World {
@@ -410,6 +413,7 @@ impl World {
         slot: u32,
         value: &mut Value,
     ) -> Result<(), AllocError>
+        requires { IsSlotOf name.now slot self.old.names }
         ensures set { OnOk result
             ((io : Io) → world_of self.new io
             ≡ set_var name.now (value_of value.old) (world_of self.old io)) }
@@ -417,7 +421,7 @@ impl World {
             (value_of value.new ≡ value_in (variable_at name.now self.old.variables)) }
         ensures names { self.new.names ≡ self.old.names }
     {
-        let Some(at) = self.slot(name, slot) else {
+        let Some(at) = self.known_slot(name, slot) else {
             return self.exchange_new(name, value);
         };
         match self.variables.get_index_mut(at) {
@@ -436,6 +440,7 @@ impl World {
         value: Value,
         saved: &mut Vec<Value>,
     ) -> Result<(), AllocError>
+        requires { IsSlotOf name.now slot self.old.names }
         ensures set { OnOk result
             ((io : Io) → world_of self.new io
             ≡ set_var name.now (value_of value) (world_of self.old io)) }
@@ -445,7 +450,7 @@ impl World {
         if saved.len() >= saved.capacity() {
             saved.reserve(1)?;
         }
-        let Some(at) = self.slot(name, slot) else {
+        let Some(at) = self.known_slot(name, slot) else {
             saved.push_reserved(Value::null());
             return self.set_new(name, value);
         };
@@ -464,6 +469,7 @@ impl World {
         slot: u32,
         value: Value,
     ) -> Result<Value, AllocError>
+        requires { IsSlotOf name.now slot self.old.names }
         ensures set { OnOk result
             ((io : Io) → world_of self.new io
             ≡ set_var name.now (value_of value) (world_of self.old io)) }
@@ -471,7 +477,7 @@ impl World {
             value_of had ≡ value_in (variable_at name.now self.old.variables)) }
         ensures names { self.new.names ≡ self.old.names }
     {
-        let Some(at) = self.slot(name, slot) else {
+        let Some(at) = self.known_slot(name, slot) else {
             self.set_new(name, value)?;
             return Ok(Value::null());
         };
@@ -489,13 +495,14 @@ impl World {
         slot: u32,
         saved: &mut Vec<Value>,
     ) -> Result<(), AllocError>
-        requires { 0 < length saved.old.items }
+        requires slot { IsSlotOf name.now slot self.old.names }
+        requires some { 0 < length saved.old.items }
         ensures set { OnOk result ((value : Value) × (saved.old.items ≡ saved.new.items ++ value ∷ [])
             × ((io : Io) → world_of self.new io
             ≡ set_var name.now (value_of value) (world_of self.old io))) }
         ensures names { self.new.names ≡ self.old.names }
     {
-        let Some(at) = self.slot(name, slot) else {
+        let Some(at) = self.known_slot(name, slot) else {
             let Some(value) = saved.pop() else {
                 unreachable!()
             };

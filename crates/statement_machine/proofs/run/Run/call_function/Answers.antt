@@ -5,6 +5,7 @@ use Rattle.values.specs.declared.functions.Function.TheVariants as function
 use Rattle.values.specs.declared.fault.Fault.TheVariants.{Error}
 use Rattle.model.specs.declared.run.ErrorCode.TheVariants.{UndefinedFunction}
 use Rattle.statement_machine.specs.Runs.{Leaves}
+use Rattle.world.specs.Slots.{IfStands}
 use Rattle.instruction_steps.specs.declared.status.Exit.TheVariants as exit
 use Rattle.statement_machine.proofs.Calling.{defined_as, found_as}
 use Rattle.statement_machine.proofs.Matching.{left_leaves}
@@ -13,6 +14,12 @@ use Rattle.operations.proofs.Asked.{takes_on}
 use Rattle.instruction_steps.specs.Stopped.{halted_by}
 use Rattle.instruction_steps.specs.Asking.{io_at}
 use Rattle.statement_machine.proofs.run.Run.call_function.Goals as goal
+
+pub enter-requires-clause-slots : goal.enter-requires-clause-slots
+enter-requires-clause-slots g c =
+    let f = c.in-Some-Defined in
+    let ns = c.args.self.now.state.world.names in
+    subst (IfStands ns) (f.is ∙ ap (λ x. Some x) f.field-0-is) c.in_ok-entry.ensures.stands
 
 pub returns-in-Some-Defined-clause-served : goal.returns-in-Some-Defined-clause-served
 returns-in-Some-Defined-clause-served g c =

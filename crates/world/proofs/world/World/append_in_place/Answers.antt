@@ -53,4 +53,4 @@ returns-clause-kept c failed =
     ∙ c.self.view_is
 
 pub invariant_of-self-2 : goal.invariant_of-self-2
-invariant_of-self-2 c = named_still c.self.inside.variables c.self.inside.names.items c.args.slot c.append_in_place.new.self c.self.invariant
+invariant_of-self-2 c = (named_still c.self.inside.variables c.self.inside.names.items c.args.slot c.append_in_place.new.self c.self.invariant.0, c.self.invariant.1)

@@ -4,6 +4,7 @@ use Rattle.world.specs.Calling.{saved_below}
 use Rattle.world.specs.Held.{value_in, variable_at, world_of}
 use Rattle.world.proofs.Exchanging.{distinct_take}
 use Rattle.world.proofs.Leaving.{gone_back, none_saved}
+use Rattle.world.proofs.Slots.{first_slots, prototype_slots}
 use Rattle.world.proofs.Restoring.{below, first_is, restored}
 use Rattle.world.proofs.world.World.back.Goals as goal
 
@@ -22,6 +23,12 @@ returns-then-count-eq0-clause-back c io =
 
 pub give_back-requires-clause-distinct : goal.give_back-requires-clause-distinct
 give_back-requires-clause-distinct c = distinct_take c.names-names.result.now c.min-count.result c.names-names.ensures.distinct
+
+pub give_back-requires-clause-slots : goal.give_back-requires-clause-slots
+give_back-requires-clause-slots c =
+    let slots = c.slots-slots.result.now in
+    let names = c.names-names.result.now in
+    first_slots names slots c.args.self.now.names c.min-count.result (prototype_slots c.args.kept.now.prototype names slots c.args.self.now.names c.names-names.ensures.names c.slots-slots.ensures c.requires)
 
 pub returns-clause-values : goal.returns-clause-values
 returns-clause-values c =

@@ -19,4 +19,4 @@ returns-clause-set c = λ u name holds within plain io.
     io
 
 pub invariant_of-self-2 : goal.invariant_of-self-2
-invariant_of-self-2 c = named_still c.self.inside.variables c.self.inside.names.items c.args.slot c.cut_front.new.self c.self.invariant
+invariant_of-self-2 c = (named_still c.self.inside.variables c.self.inside.names.items c.args.slot c.cut_front.new.self c.self.invariant.0, c.self.invariant.1)

@@ -9,4 +9,4 @@ returns-clause-slot c =
     (ap {A = WorldView} (λ h. h.variables) c.self.view_is) (sym c.in_default.ensures.there) c.in_ok-clone.ensures.cases c.in_ok-_none.ensures.entries (search rules)
 
 pub invariant_of-self-2 : goal.invariant_of-self-2
-invariant_of-self-2 c = named_inserted c.self.inside.variables.entries c.insert.new.self.entries c.self.inside.names.items c.in_ok-clone.field-0 _ c.in_ok-_none.ensures.entries c.self.invariant
+invariant_of-self-2 c = (named_inserted c.self.inside.variables.entries c.insert.new.self.entries c.self.inside.names.items c.in_ok-clone.field-0 _ c.in_ok-_none.ensures.entries c.self.invariant.0, c.self.invariant.1)

@@ -2,7 +2,11 @@ use Rattle.std.proofs.Common.{◌≡◌, refl, ◌∙◌, w64, to_z, of_z, rules
 use Rattle.world.specs.Held.{world_of}
 use Rattle.world.proofs.Giving.{entered, put_count, saved_before}
 use Rattle.world.proofs.Saving.{kept_is}
+use Rattle.world.proofs.Slots.{prototype_slots}
 use Rattle.world.proofs.world.World.enter_call.Goals as goal
+
+pub exchange_all-requires-clause-slots : goal.exchange_all-requires-clause-slots
+exchange_all-requires-clause-slots c = prototype_slots c.args.prototype c.names.result.now c.slots.result.now c.args.self.now.names c.names.ensures.names c.slots.ensures c.requires
 
 pub exchange_all-requires-clause-count : goal.exchange_all-requires-clause-count
 exchange_all-requires-clause-count c =

@@ -6,7 +6,31 @@ use Rattle.world.specs.Held.{world_of}
 use Rattle.values.specs.Values.{value_of}
 use Rattle.world.proofs.Entering.{all_saved, entered_with, none_saved, past_one, save_turn}
 use Rattle.world.proofs.Saving.{kept_is}
+use Rattle.world.proofs.Slots.{prototype_slots, slot_there}
 use Rattle.world.proofs.world.World.enter_call_with.Goals as goal
+
+pub save-requires : goal.save-requires
+save-requires c =
+    let names = c.names-names.result.now in
+    let slots = c.slots-slots.result.now in
+    let f = c.args.prototype in
+    slot_there names slots c.args.self.now.names c.args.self.now.names 0 c.slot_at.result c.index-names-0.result (prototype_slots f names slots c.args.self.now.names c.names-names.ensures.names c.slots-slots.ensures c.requires.slots) refl
+    (omega (arith, c.requires.some, ap length c.names-names.ensures.names, length-append f.arguments f.locals)) c.index-names-0.is c.slot_at.ensures
+
+pub save-requires-2 : goal.save-requires-2
+save-requires-2 c =
+    let names = c.names-names.result.now in
+    let slots = c.slots-slots.result.now in
+    let f = c.args.prototype in
+    slot_there names slots c.args.self.now.names c.save.new.self.names 1 c.slot_at-2.result c.index-names-1.result (prototype_slots f names slots c.args.self.now.names c.names-names.ensures.names c.slots-slots.ensures c.requires.slots) c.save.ensures.names
+    (omega (arith, c.requires.some, ap length c.names-names.ensures.names, length-append f.arguments f.locals)) c.index-names-1.is c.slot_at-2.ensures
+
+pub save-requires-in-loop-number : goal.save-requires-in-loop-number
+save-requires-in-loop-number c =
+    let names = c.names-names.result.now in
+    let slots = c.slots-slots.result.now in
+    slot_there names slots c.args.self.now.names c.loop-number.self.names c.loop-number.number c.slot_at-in-loop-number.result c.index-names-number.result (prototype_slots c.args.prototype names slots c.args.self.now.names c.names-names.ensures.names c.slots-slots.ensures c.requires.slots) c.loop-number.invariant.names
+    c.loop-number-test.true c.index-names-number.is c.slot_at-in-loop-number.ensures
 
 pub loop-number-init : goal.loop-number-init
 loop-number-init c =
@@ -15,7 +39,7 @@ loop-number-init c =
     let saved = c.args.saved.now.items in
     let self = c.args.self.now in
     let f = c.args.prototype in
-    let many : 1 < length names = omega (arith, c.requires, ap length c.names-names.ensures.names, length-append f.arguments f.locals) in
+    let many : 1 < length names = omega (arith, c.requires.some, ap length c.names-names.ensures.names, length-append f.arguments f.locals) in
     let turn0 = save_turn names gs saved saved c.save.new.saved.items 0 c.index-names-0.result (value_of c.null.result) self c.args.self.now c.save.new.self c.names-names.ensures.distinct (omega (arith, many)) c.index-names-0.is c.null.ensures c.in_ok-save.ensures.set c.in_ok-save.ensures.had (none_saved names gs saved self) in
     let turn1 = save_turn names gs saved c.save.new.saved.items c.save-2.new.saved.items 1 c.index-names-1.result (value_of c.args.argument) self c.save.new.self c.save-2.new.self c.names-names.ensures.distinct (omega (arith, many)) c.index-names-1.is refl c.in_ok-save-2.ensures.set c.in_ok-save-2.ensures.had turn0 in
     record { names = c.save-2.ensures.names ∙ c.save.ensures.names; past = omega arith; given = turn1 }
@@ -39,7 +63,7 @@ returns-clause-entered c io =
     let names = c.names-names.result.now in
     let gs : List MVal = Str [] ∷ value_of c.args.argument ∷ [] in
     let all = all_saved names gs c.args.saved.now.items c.loop-number.saved.items c.loop-number.number c.args.self.now c.loop-number.self c.loop-number-test.false c.loop-number.invariant.given in
-    entered_with c.args.prototype names (value_of c.args.argument) (world_of c.args.self.now io) (world_of c.loop-number.self io) (world_of c.deepen.new.self io) c.requires c.names-names.ensures.names (all.1 io) (c.deepen.ensures.set io)
+    entered_with c.args.prototype names (value_of c.args.argument) (world_of c.args.self.now io) (world_of c.loop-number.self io) (world_of c.deepen.new.self io) c.requires.some c.names-names.ensures.names (all.1 io) (c.deepen.ensures.set io)
 
 pub returns-clause-kept : goal.returns-clause-kept
 returns-clause-kept c =

@@ -1,6 +1,7 @@
 use Rattle.std.proofs.Common.{◌≡◌, ◌+◌, length, take, drop, refl, ◌∙◌, arith}
 use Rattle.std.proofs.lemmas.List.{length-drop, length-set, length-take-le}
 use Rattle.world.proofs.Exchanging.{none_exchanged, exchange_turn, all_exchanged}
+use Rattle.world.proofs.Slots.{slot_there}
 use Rattle.world.proofs.world.World.exchange_all.Goals as goal
 
 pub loop-number-init : goal.loop-number-init
@@ -9,6 +10,10 @@ loop-number-init c = record {
   count = refl;
   exchanged = none_exchanged c.args.names.now c.args.base c.args.values.now.items c.args.self.now;
 }
+
+pub exchange-requires : goal.exchange-requires
+exchange-requires c =
+    slot_there c.args.names.now c.args.slots.now c.args.self.now.names c.loop-number.self.names c.loop-number.number c.slot_at.result c.index-names-number.result c.requires.slots c.loop-number.invariant.names c.loop-number-test.true c.index-names-number.is c.slot_at.ensures
 
 pub loop-number-preserved : goal.loop-number-preserved
 loop-number-preserved c =

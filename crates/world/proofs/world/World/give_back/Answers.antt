@@ -3,6 +3,7 @@ use Rattle.std.proofs.lemmas.List.{length-drop}
 use Rattle.std.proofs.lemmas.Result.{IfOk-weaker, on_ok_weaker}
 use Rattle.values.specs.Values.{value_of}
 use Rattle.world.proofs.Saving.{values_in}
+use Rattle.world.proofs.Slots.{slot_there}
 use Rattle.world.proofs.Restoring.{IsGivenBack, all_given, first_had, give_turn, none_given}
 use Rattle.world.proofs.world.World.give_back.Goals as goal
 
@@ -17,6 +18,14 @@ loop-left-init c =
       within = omega (arith, c.requires.some);
       given = none_given names base (length names - 1 + 1) all c.args.self.now (omega arith) (omega (arith, size));
     }
+
+pub give_last-requires-clause-slot : goal.give_last-requires-clause-slot
+give_last-requires-clause-slot c =
+    slot_there c.args.names.now c.args.slots.now c.args.self.now.names c.loop-left.self.names c.loop-left.left c.slot_at.result c.index-names-left.result c.requires.slots c.loop-left.invariant.names c.loop-left.invariant.within c.index-names-left.is c.slot_at.ensures
+
+pub replace_value-requires : goal.replace_value-requires
+replace_value-requires c =
+    slot_there c.args.names.now c.args.slots.now c.args.self.now.names c.loop-left.self.names 0 c.slot_at-2.result c.index-names-0.result c.requires.slots c.loop-left.invariant.names c.requires.some c.index-names-0.is c.slot_at-2.ensures
 
 pub loop-left-preserved : goal.loop-left-preserved
 loop-left-preserved c =

@@ -14,4 +14,4 @@ returns-clause-set c =
     )
 
 pub invariant_of-self : goal.invariant_of-self
-invariant_of-self c = named_still c.self.inside.variables c.self.inside.names.items c.in-Some.at c.set.new.self c.self.invariant
+invariant_of-self c = (named_still c.self.inside.variables c.self.inside.names.items c.in-Some.at c.set.new.self c.self.invariant.0, c.self.invariant.1)

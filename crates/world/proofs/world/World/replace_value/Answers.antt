@@ -19,4 +19,4 @@ returns-clause-had c =
     ∙ sym (ap value_in (held_there c.args.self.now.variables c.args.name.now c.in-Some.at c.in-Some-get_index_mut.variable.now c.in-Some.ensures.entry there))
 
 pub invariant_of-self : goal.invariant_of-self
-invariant_of-self c = named_still c.self.inside.variables c.self.inside.names.items c.in-Some.at c.replace.new.self c.self.invariant
+invariant_of-self c = (named_still c.self.inside.variables c.self.inside.names.items c.in-Some.at c.replace.new.self c.self.invariant.0, c.self.invariant.1)

@@ -10,4 +10,4 @@ returns-clause-set c io =
     put_in_slot c.self.inside.variables c.self.inside.heap c.self.inside.functions c.self.inside.keywords c.self.inside.level c.self.inside.names.items c.args.self.now c.args.name.now c.in-Some.at found.variable.now c.replace.new.self c.args.value c.self.view_is c.get_index_mut.ensures.unique stands found.ensures.value c.replace.ensures.set io
 
 pub invariant_of-self : goal.invariant_of-self
-invariant_of-self c = named_still c.self.inside.variables c.self.inside.names.items c.in-Some.at c.replace.new.self c.self.invariant
+invariant_of-self c = (named_still c.self.inside.variables c.self.inside.names.items c.in-Some.at c.replace.new.self c.self.invariant.0, c.self.invariant.1)

@@ -33,4 +33,4 @@ returns-clause-apart c at u apart (v, there, is) =
     (v, others_at es c.args.slot at c.set.new.self apart ∙ ap (λ l. slice_get (values_of l) at) before ∙ there, is)
 
 pub invariant_of-self-2 : goal.invariant_of-self-2
-invariant_of-self-2 c = named_still c.self.inside.variables c.self.inside.names.items c.args.slot c.set.new.self c.self.invariant
+invariant_of-self-2 c = (named_still c.self.inside.variables c.self.inside.names.items c.args.slot c.set.new.self c.self.invariant.0, c.self.invariant.1)

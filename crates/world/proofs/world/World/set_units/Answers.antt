@@ -14,6 +14,8 @@ returns-in-Some-clause-set c io =
 pub invariant_of-self-2 : goal.invariant_of-self-2
 invariant_of-self-2 c =
     let key = c.in_ok-clone.field-0 in
-    let it : Variable = c.on_units-variable.result in
-    named_inserted c.self.inside.variables.entries c.insert.new.self.entries c.self.inside.names.items key it
-    (c.in_ok-_none.ensures.entries ∙ ap (λ m. insert_entry bytes_eq m.entries key it) c.get_mut.follows.holds-at-none) c.self.invariant
+    let it : Variable = c.on_units-variable.result in (
+      named_inserted c.self.inside.variables.entries c.insert.new.self.entries c.self.inside.names.items key it
+          (c.in_ok-_none.ensures.entries ∙ ap (λ m. insert_entry bytes_eq m.entries key it) c.get_mut.follows.holds-at-none) c.self.invariant.0,
+      c.self.invariant.1,
+    )
