@@ -243,20 +243,18 @@ pub fn put_integer(world: &mut World, object: usize, index: usize, n: i64) -> bo
     stored
 }
 
-/// An integer in an element of an array that is written; else nothing changed.
+/// A value in an element of an array that is written; else nothing changed.
 #[inline(always)]
-pub fn put_written(world: &mut World, object: usize, index: usize, n: i64) -> bool
+pub fn put_written(world: &mut World, object: usize, index: usize, value: Value) -> bool
     ensures set { result ≡ true → (io : Io)
-        → assign_op (Element object index) (Int n) (world_of world.old io)
+        → assign_op (Element object index) (value_of value) (world_of world.old io)
         ≡ Gives (record {}) (world_of world.new io) }
     ensures silent { StaySilent world.old world.new }
     ensures keys { world.new.keys ≡ world.old.keys }
     ensures kept { result ≡ false → world.new ≡ world.old }
     ensures names { world.new.names ≡ world.old.names }
 {
-    world
-        .objects_mut()
-        .put_written(object, index, Value::Integer(n))
+    world.objects_mut().put_written(object, index, value)
 }
 
 /// `replace` with a value that isn't needed any more.
