@@ -1,5 +1,5 @@
 -- What calls answer, as the definitions see it.
-use Rattle.std.specs.Prelude.{◌≡◌, ℕ, Option, Some, None, Result, Ok, Err}
+use Rattle.std.specs.Prelude.{◌≡◌, ℕ, ℤ, Option, Some, None, Result, Ok, Err}
 use Rattle.model.specs.declared.run.ErrorCode.{ErrorCode}
 use Rattle.model.specs.declared.run.ErrorCode.TheVariants as error
 use Rattle.model.specs.declared.run.Stop.{Stop}
@@ -32,6 +32,11 @@ done (Err e) = Err e
 abbrev pub conv_of : {A : Type 0} → Result A ErrorCode → Conv A
 conv_of (Ok a) = Got a
 conv_of (Err e) = Bad e
+
+-- an integer, or nothing in place of the error of arithmetic
+abbrev pub found_or_error : Option ℤ → Conv ℤ
+found_or_error (Some n) = Got n
+found_or_error None = Bad error.Arithmetic
 
 -- unless it stopped, a call answers as the conversion does
 abbrev pub Converts : {A : Type 0} → Result A Fault → Conv A → Type 0

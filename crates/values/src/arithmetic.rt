@@ -2,10 +2,10 @@
 
 ghost use Rattle.std.specs.Prelude.{◌≡◌, ◌≤ℤ◌, pos};
 ghost use Rattle.model.specs.Machine.Steps.{MW};
-ghost use Rattle.model.specs.Language.Operators.{arith_op, arith_of, sign_op, sign_of, quotient, raised, power};
+ghost use Rattle.model.specs.Language.Operators.{arith_op, arith_of, sign_op, sign_of, raised, power};
 ghost use Rattle.model.specs.Language.Values.{Int};
 ghost use Rattle.values.specs.Values.{value_of};
-ghost use Rattle.values.specs.Answers.{answer_map, conv_of, op_of};
+ghost use Rattle.values.specs.Answers.{answer_map, conv_of, found_or_error, op_of};
 
 use crate::value::Value;
 use model::{ArithOp, ErrorCode, SignOp};
@@ -41,11 +41,37 @@ pub fn sign(op: SignOp, value: &Value) -> Result<Value, ErrorCode>
 fn arith_of(op: ArithOp, a: i64, b: i64) -> Result<i64, ErrorCode>
     ensures { conv_of result ≡ arith_of op a b }
 {
+    found(op, a, b).ok_or(ErrorCode::Arithmetic)
+}
+
+// What an operator gives, or nothing where that is an error. Sums and differences are made in line, unless they overflow:
+// that they are then made once more leaves LLVM nothing to join with them.
+#[inline(always)]
+fn found(op: ArithOp, a: i64, b: i64) -> Option<i64>
+    ensures { found_or_error result ≡ arith_of op a b }
+{
+    if let ArithOp::Subtract = op {
+        if let Some(difference) = a.checked_sub(b) {
+            return Some(difference);
+        }
+    } else if let ArithOp::Add = op {
+        if let Some(sum) = a.checked_add(b) {
+            return Some(sum);
+        }
+    }
+    let n = found_apart(op, a, b)?;
+    Some(n)
+}
+
+#[inline(never)]
+fn found_apart(op: ArithOp, a: i64, b: i64) -> Option<i64>
+    ensures { found_or_error result ≡ arith_of op a b }
+{
     match op {
-        ArithOp::Add => a.checked_add(b).ok_or(ErrorCode::Arithmetic),
-        ArithOp::Subtract => a.checked_sub(b).ok_or(ErrorCode::Arithmetic),
-        ArithOp::Multiply => a.checked_mul(b).ok_or(ErrorCode::Arithmetic),
-        ArithOp::Divide => quotient(a, b),
+        ArithOp::Add => a.checked_add(b),
+        ArithOp::Subtract => a.checked_sub(b),
+        ArithOp::Multiply => a.checked_mul(b),
+        ArithOp::Divide => a.checked_div(b),
         ArithOp::Power => raised(a, b),
     }
 }
@@ -59,29 +85,22 @@ fn sign_of(op: SignOp, a: i64) -> Result<i64, ErrorCode>
     }
 }
 
-// Cuts toward zero.
-fn quotient(a: i64, b: i64) -> Result<i64, ErrorCode>
-    ensures { conv_of result ≡ quotient a b }
-{
-    a.checked_div(b).ok_or(ErrorCode::Arithmetic)
-}
-
 // A power whose exponent isn't negative.
 #[inline(never)]
-fn raised(base: i64, exponent: i64) -> Result<i64, ErrorCode>
-    ensures { conv_of result ≡ raised base exponent }
+fn raised(base: i64, exponent: i64) -> Option<i64>
+    ensures { found_or_error result ≡ raised base exponent }
 {
     if exponent < 0 {
-        return Err(ErrorCode::Arithmetic);
+        return None;
     }
     let mut product = 1i64;
     for _turn in 0..short_exponent(base, exponent as u64) {
         match base.checked_mul(product) {
             Some(next) => product = next,
-            None => return Err(ErrorCode::Arithmetic),
+            None => return None,
         }
     }
-    Ok(product)
+    Some(product)
 }
 
 // An exponent with which the power is the same. It is at most 2 for the bases whose powers never overflow.
