@@ -34,9 +34,9 @@ conv_of (Ok a) = Got a
 conv_of (Err e) = Bad e
 
 -- an integer, or nothing in place of the error of arithmetic
-abbrev pub found_or_error : Option ℤ → Conv ℤ
-found_or_error (Some n) = Got n
-found_or_error None = Bad error.Arithmetic
+abbrev pub integer_or_error : Option ℤ → Conv ℤ
+integer_or_error (Some n) = Got n
+integer_or_error None = Bad error.Arithmetic
 
 -- unless it stopped, a call answers as the conversion does
 abbrev pub Converts : {A : Type 0} → Result A Fault → Conv A → Type 0

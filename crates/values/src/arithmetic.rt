@@ -5,7 +5,7 @@ ghost use Rattle.model.specs.Machine.Steps.{MW};
 ghost use Rattle.model.specs.Language.Operators.{arith_op, arith_of, sign_op, sign_of, raised, power};
 ghost use Rattle.model.specs.Language.Values.{Int};
 ghost use Rattle.values.specs.Values.{value_of};
-ghost use Rattle.values.specs.Answers.{answer_map, conv_of, found_or_error, op_of};
+ghost use Rattle.values.specs.Answers.{answer_map, conv_of, integer_or_error, op_of};
 
 use crate::value::Value;
 use model::{ArithOp, ErrorCode, SignOp};
@@ -41,14 +41,14 @@ pub fn sign(op: SignOp, value: &Value) -> Result<Value, ErrorCode>
 fn arith_of(op: ArithOp, a: i64, b: i64) -> Result<i64, ErrorCode>
     ensures { conv_of result ≡ arith_of op a b }
 {
-    found(op, a, b).ok_or(ErrorCode::Arithmetic)
+    operated(op, a, b).ok_or(ErrorCode::Arithmetic)
 }
 
 // What an operator gives, or nothing where that is an error. Sums and differences are made in line, unless they overflow:
 // that they are then made once more leaves LLVM nothing to join with them.
 #[inline(always)]
-fn found(op: ArithOp, a: i64, b: i64) -> Option<i64>
-    ensures { found_or_error result ≡ arith_of op a b }
+fn operated(op: ArithOp, a: i64, b: i64) -> Option<i64>
+    ensures { integer_or_error result ≡ arith_of op a b }
 {
     if let ArithOp::Subtract = op {
         if let Some(difference) = a.checked_sub(b) {
@@ -59,13 +59,14 @@ fn found(op: ArithOp, a: i64, b: i64) -> Option<i64>
             return Some(sum);
         }
     }
-    let n = found_apart(op, a, b)?;
+    let n = operated_apart(op, a, b)?;
     Some(n)
 }
 
+// The same by a call.
 #[inline(never)]
-fn found_apart(op: ArithOp, a: i64, b: i64) -> Option<i64>
-    ensures { found_or_error result ≡ arith_of op a b }
+fn operated_apart(op: ArithOp, a: i64, b: i64) -> Option<i64>
+    ensures { integer_or_error result ≡ arith_of op a b }
 {
     match op {
         ArithOp::Add => a.checked_add(b),
@@ -88,7 +89,7 @@ fn sign_of(op: SignOp, a: i64) -> Result<i64, ErrorCode>
 // A power whose exponent isn't negative.
 #[inline(never)]
 fn raised(base: i64, exponent: i64) -> Option<i64>
-    ensures { found_or_error result ≡ raised base exponent }
+    ensures { integer_or_error result ≡ raised base exponent }
 {
     if exponent < 0 {
         return None;
