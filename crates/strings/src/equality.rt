@@ -43,8 +43,9 @@ fn first_word(len: u8, array: &[u8; FEW]) -> u64
     word_of([len, *a, *b, *c, *d, *e, *f, *g])
 }
 
-// Whether the bytes of two arrays behind the first seven are the same.
-#[inline(never)]
+// Whether the bytes of two arrays behind the first seven are the same. That is asked for short texts, too: behind those that
+// few bytes were copied into, there are zeros, and a look at the length would have LLVM load the first word byte by byte.
+#[inline(always)]
 fn same_rest(left: &[u8; FEW], right: &[u8; FEW]) -> bool
     requires left { length left.now ≡ 22 }
     requires right { length right.now ≡ 22 }
@@ -68,12 +69,8 @@ fn are_same_few(left: &Text, right: &Text) -> bool
     else {
         return false;
     };
-    let word = first_word(*len, array);
-    if word != first_word(*other_len, others) {
+    if first_word(*len, array) != first_word(*other_len, others) {
         return false;
-    }
-    if word % 256 <= 7 {
-        return true;
     }
     same_rest(array, others)
 }

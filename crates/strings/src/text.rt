@@ -1,6 +1,6 @@
 //! A text: a few bytes of its own, or many that are shared by its clones and by the parts cut from it.
 
-ghost use Rattle.std.specs.Prelude.{◌≡◌, ◌+◌, ◌*◌, ◌^◌, ◌<◌, ◌≤◌, ℕ, [], ◌∷◌, ◌++◌, length, take, drop, map, IfOk, IfErr};
+ghost use Rattle.std.specs.Prelude.{◌≡◌, ◌+◌, ◌-◌, ◌*◌, ◌%◌, ◌^◌, ◌<◌, ◌≤◌, ℕ, [], ◌∷◌, ◌++◌, length, take, drop, map, IfOk, IfErr};
 ghost use Rattle.std.specs.Prelude.{true, false, IsTrue, Err, ◌↔◌, slice_range, slice_index, MatchResult};
 ghost use Rattle.std.specs.Fmt.{signed_decimal};
 ghost use Rattle.std.specs.List.{repeat};
@@ -316,6 +316,13 @@ impl Text {
         requires within { count ≤ length self.old }
         ensures { self.new ≡ drop count self.old }
     {
+        if let Bytes::Own { array, .. } = &mut self.bytes {
+            shift_down(array, count);
+            if let Bytes::Own { len, .. } = &mut self.bytes {
+                *len -= count as u8;
+            }
+            return;
+        }
         if self.len() - count > FEW {
             if let Bytes::Shared { start, .. } = &mut self.bytes {
                 *start += count as u32;
@@ -475,7 +482,11 @@ impl InlineBytes {
     {
         let len = bytes.len();
         let mut array = [0; FEW];
-        array[..len].copy_from_slice(bytes);
+        if len == 1 {
+            array[0] = bytes[0];
+        } else {
+            array[..len].copy_from_slice(bytes);
+        }
         InlineBytes {
             len: len as u8,
             array,
@@ -559,6 +570,20 @@ impl Clone for Text {
             }
         }
     }
+}
+
+// Takes so many bytes off the front of an array, and puts zeros behind the others. All is moved, however many bytes a text has:
+// that is two moves of the processor.
+#[inline(always)]
+fn shift_down(array: &mut [u8; FEW], count: usize)
+    requires len { length array.old ≡ 22 }
+    requires few { count ≤ 22 }
+    ensures len { length array.new ≡ 22 }
+    ensures bytes { (n : ℕ) → n ≤ 22 → take (n - count) array.new ≡ drop count (take n array.old) }
+{
+    let mut wide = [0u8; 2 * FEW];
+    wide[..FEW].copy_from_slice(&array[..]);
+    array.copy_from_slice(&wide[count..count + FEW]);
 }
 
 // Takes one of so many bytes and one more out, in front of an array.
@@ -671,18 +696,16 @@ fn shared_from(start: u32, all: Vec<u8>) -> Result<Text, StrFault>
     })
 }
 
-// What each byte becomes.
+// What is added to each byte, modulo 256.
 fn replacements(from: &[u8], to: &[u8]) -> [u8; 256]
     requires { length from.now ≡ length to.now }
     ensures len { length result ≡ 256 }
-    ensures each { (b : ℕ) → b < 256 → slice_index result b ≡ replaced from.now to.now b }
+    ensures each { (b : ℕ) → b < 256 → (b + slice_index result b) % 256 ≡ replaced from.now to.now b }
 {
     let mut table = [0u8; 256];
-    for b in 0..256 {
-        table[b] = b as u8;
-    }
     for k in 0..from.len() {
-        table[from[k] as usize] = to[k];
+        let byte = from[k];
+        table[byte as usize] = to[k].wrapping_sub(byte);
     }
     table
 }
@@ -696,7 +719,8 @@ fn replaced_few(old: &[u8], from: &[u8], to: &[u8]) -> Text
     let table = replacements(from, to);
     let mut array = [0; FEW];
     for k in 0..old.len() {
-        array[k] = table[old[k] as usize];
+        let byte = old[k];
+        array[k] = byte.wrapping_add(table[byte as usize]);
     }
     let len = old.len() as u8;
     Text {
@@ -712,8 +736,9 @@ fn replaced_many(alloc: Global, old: &[u8], from: &[u8], to: &[u8]) -> Result<Te
 {
     let table = replacements(from, to);
     let mut bytes = Vec::with_capacity(alloc, old.len())?;
-    for b in old {
-        bytes.push(table[*b as usize])?;
+    for byte in old {
+        let byte = *byte;
+        bytes.push(byte.wrapping_add(table[byte as usize]))?;
     }
     Text::from_vec(bytes)
 }

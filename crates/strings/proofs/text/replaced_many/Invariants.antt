@@ -2,5 +2,5 @@ use Rattle.std.proofs.Common.{◌≡◌, take, map}
 use Rattle.model.specs.Language.Strings.{replaced}
 use Rattle.strings.proofs.text.replaced_many.Given as goal
 
-abbrev pub invariant-loop-b : goal.invariant-loop-b
-invariant-loop-b l = l.bytes.items ≡ map (replaced l.from l.to) (take l.b-index l.old)
+abbrev pub invariant-loop-byte : goal.invariant-loop-byte
+invariant-loop-byte l = l.bytes.items ≡ map (replaced l.from l.to) (take l.byte-index l.old)
