@@ -34,16 +34,21 @@ impl<V: Element> Elements<V> {
         }
     }
 
-    /// This value, so many times. None is written, and room for them is asked for where the first one is.
+    /// This value, so many times. Few are written at once; of many none is, and room for them is asked for where the
+    /// first one is.
     pub(crate) fn filled(alloc: Global, value: &V, count: usize) -> Result<Elements<V>, AllocError>
         ensures { IfOk result (λ it. all_of it ≡ replicate count value.now) }
     {
         let rest = Some(value.clone()?);
-        Ok(Elements {
+        let mut elements = Elements {
             written: Vec::new(alloc),
             rest,
             unwritten: count,
-        })
+        };
+        if count <= AHEAD {
+            elements.write_to(0)?;
+        }
+        Ok(elements)
     }
 
     /// A copy of the elements, with a clone of each value.

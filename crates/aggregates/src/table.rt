@@ -129,7 +129,7 @@ impl<V: Element> Table<V> {
         let Some(old) = self.values.get_index_mut(index) else {
             return false;
         };
-        *old = value;
+        old.put(value);
         true
     }
 
