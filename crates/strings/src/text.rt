@@ -573,7 +573,7 @@ impl Clone for Text {
 }
 
 // Takes so many bytes off the front of an array, and puts zeros behind the others. All is moved, however many bytes a text has:
-// that is two moves of the processor.
+// that is two moves of the processor into a wider array, and two back.
 #[inline(always)]
 fn shift_down(array: &mut [u8; FEW], count: usize)
     requires len { length array.old ≡ 22 }
